@@ -1,0 +1,4 @@
+pub mod Parts
+pub mod NameBytes
+pub mod Says
+pub mod Texts
