@@ -1,0 +1,7 @@
+// What replies look like.
+#![tactic(auto)]
+
+mod replies;
+mod words;
+
+pub use replies::reply_text;
