@@ -1,0 +1,164 @@
+-- What is put for the lines of a script.
+use Rattle.std.proofs.Common.{◌≡◌, inl, inr, ℕ, ◌≤◌, List, ◌++◌, length, Bool, true, false, ◌||◌, refl, Option, Result, Ok, Err, sym, ◌∙◌, ap, subst, arith, ◌+◌}
+use Rattle.std.specs.Io.KnownBytes.{Appends}
+use Rattle.swarm_objects.specs.Outside.{Rose, AppendsPrefix}
+use Rattle.swarm_objects.specs.declared.calls.Entry.{Entry}
+use Rattle.swarm_script.specs.Script.{meaning_of}
+use Rattle.swarm_script.specs.declared.Line.{Line}
+use Rattle.swarm_script.specs.declared.LineFault.{LineFault}
+use Rattle.swarm_top.specs.Serial.{output, has_refusal}
+use Rattle.swarm_top.specs.Ends.{end_of}
+use Rattle.swarm_top.specs.Held.{Held, GivesLine}
+use Rattle.swarm_top.specs.Theorem.{IsOfSource}
+use Rattle.swarm_top.specs.Parts.{IsRead, ReachedBy, DoesLine, TakesLine, AnswersLines, line_out, line_refused, with_halt, IsOfSomeSource, SaysLine, whole_ending, ending_of}
+use Rattle.swarm_top.specs.declared.faults.Fault.TheVariants.{Size, Text}
+use Rattle.swarm_top.specs.declared.input.ScriptLine.{ScriptLine}
+use Rattle.swarm_top.specs.declared.input.ReadFault.{ReadFault}
+use Rattle.swarm_top.specs.declared.input.ReadFault.TheVariants.{Failed, Bad, NoMemory}
+use Rattle.swarm_top.specs.declared.endings.Ending.{Ending}
+use Rattle.swarm_top.specs.declared.endings.Ending.TheVariants.{Done, Refused, ReadFault as SourceFault, OutFault, JournalFault, NoMemory as NoRoom, NoMemoryAt, BadLine, Full}
+use Rattle.swarm_top.proofs.Prefixes.{appends_more, prefix_all, prefix_of, prefix_more}
+use Rattle.swarm_top.proofs.Readings.{output-line, refused-line}
+use Rattle.swarm_top.proofs.Reaching.{some}
+use Rattle.swarm_top.proofs.Ways.{TakesWithin, next, some_before, some_after, full}
+
+pub rose_later : (a b c : ℕ) → a ≤ b → Rose b c → Rose a c
+rose_later a b c h r = omega (arith, h, r)
+
+-- after the whole script
+pub whole_answers : (refused : Bool) (a b : Option (List ℕ)) (m n : ℕ) (H : List Entry) → refused ≡ has_refusal H → Appends a b (output H) → AnswersLines (whole_ending refused) (end_of a b m n) H
+whole_answers true a b m n H e puts = (puts, sym e)
+whole_answers false a b m n H e puts = (puts, sym e)
+
+-- at a fault of the reader
+pub reader_answers : (number : ℕ) (fault : ReadFault) (a b : Option (List ℕ)) (m n : ℕ) (H : List Entry) → Appends a b (output H) → AnswersLines (ending_of number fault) (end_of a b m n) H
+reader_answers number Failed a b m n H puts = puts
+reader_answers number (Bad fault) a b m n H puts = puts
+reader_answers number NoMemory a b m n H puts = prefix_all a b (output H) puts
+
+-- at a line whose text can't be read
+pub text_answers : (number : ℕ) (meaning : Result Line LineFault) (ending : Ending) (a b : Option (List ℕ)) (m n : ℕ) (H : List Entry) → SaysLine number meaning (Err ending) → Appends a b (output H) →
+    AnswersLines ending (end_of a b m n) H
+text_answers number meaning (BadLine k (Text fault)) a b m n H says puts = puts
+text_answers number meaning NoRoom a b m n H says puts = prefix_all a b (output H) puts
+text_answers number meaning (BadLine k Size) a b m n H says puts = absurd says
+text_answers number meaning Done a b m n H says puts = absurd says
+text_answers number meaning Refused a b m n H says puts = absurd says
+text_answers number meaning SourceFault a b m n H says puts = absurd says
+text_answers number meaning OutFault a b m n H says puts = absurd says
+text_answers number meaning JournalFault a b m n H says puts = absurd says
+text_answers number meaning Full a b m n H says puts = absurd says
+text_answers number meaning (NoMemoryAt k fault) a b m n H says puts = absurd says
+
+out_more : (a c : Option (List ℕ)) (H G : List Entry) (line : Line) → TakesLine line H G → AppendsPrefix a c (output H ++ line_out H line) → AppendsPrefix a c (output G)
+out_more a c H G line takes h = subst (AppendsPrefix a c) (sym (ap output takes ∙ output-line H line)) h
+
+-- at a line that ends the run
+pub line_answers : (ending : Ending) (line : Line) (H G : List Entry) (a b c : Option (List ℕ)) (k m n : ℕ) → DoesLine (Err ending) line H G b c → Appends a b (output H) → k ≤ m → (ending ≡ OutFault → Rose m n) →
+    AnswersLines ending (end_of a c k n) G
+line_answers OutFault line H G a b c k m n does puts later cause = (out_more a c H G line does.0 (prefix_more a b c (output H) (line_out H line) puts does.1), rose_later k m n later (cause refl))
+line_answers NoRoom line H G a b c k m n does puts later cause =
+    let same : Appends a c (output H) = subst (λ (o : Option (List ℕ)). Appends a o (output H)) (sym does.1) puts in
+    elim (does.0) [
+      | inl e ↦ prefix_all a c (output G) (subst (λ (F : List Entry). Appends a c (output F)) (sym e) same)
+      | inr takes ↦ out_more a c H G line takes (prefix_of a c (output H) (line_out H line) (prefix_all a c (output H) same))
+    ]
+line_answers Full line H G a b c k m n does puts later cause =
+    subst (λ (F : List Entry). Appends a c (output F)) (sym does.0) (subst (λ (o : Option (List ℕ)). Appends a o (output H)) (sym does.3) puts)
+line_answers Done line H G a b c k m n does puts later cause = absurd does
+line_answers Refused line H G a b c k m n does puts later cause = absurd does
+line_answers SourceFault line H G a b c k m n does puts later cause = absurd does
+line_answers JournalFault line H G a b c k m n does puts later cause = absurd does
+line_answers (NoMemoryAt number fault) line H G a b c k m n does puts later cause = absurd does
+line_answers (BadLine number fault) line H G a b c k m n does puts later cause = absurd does
+
+-- the history where a line ends the run
+pub line_source : (ending : Ending) (says : Line) (input : Option (List ℕ)) (H G : List Entry) (n : ℕ) (old new : Held) (now after : Option (List ℕ)) (line : ScriptLine) (b c : Option (List ℕ)) →
+    DoesLine (Err ending) says H G b c → ReachedBy input H n old now → GivesLine old new now after line → meaning_of line.text ≡ Ok says → new.read + length new.bytes ≤ 16777217 →
+    IsOfSource ending input after (with_halt G)
+line_source OutFault says input H G n old new now after line b c does r gives means few = some_after input G (n + 1) new after (next input H G n old new now after line says r gives means few does.0)
+line_source NoRoom says input H G n old new now after line b c does r gives means few = elim (does.0) [
+  | inl e ↦ subst (λ (F : List Entry). IsOfSource NoRoom input after (with_halt F)) (sym e) (some_before input H n old new now after line r gives)
+  | inr takes ↦ some_after input G (n + 1) new after (next input H G n old new now after line says r gives means few takes)
+]
+line_source Full says input H G n old new now after line b c does r gives means few =
+    subst (λ (F : List Entry). IsOfSource Full input after (with_halt F)) (sym does.0)
+    (full input H n old new now after line does.2.0 r gives (means ∙ ap (λ (s : Line). Ok s) does.2.1) few does.1)
+line_source Done says input H G n old new now after line b c does r gives means few = absurd does
+line_source Refused says input H G n old new now after line b c does r gives means few = absurd does
+line_source SourceFault says input H G n old new now after line b c does r gives means few = absurd does
+line_source JournalFault says input H G n old new now after line b c does r gives means few = absurd does
+line_source (NoMemoryAt number fault) says input H G n old new now after line b c does r gives means few = absurd does
+line_source (BadLine number fault) says input H G n old new now after line b c does r gives means few = absurd does
+
+-- and it is that of some first lines
+pub line_some : (ending : Ending) (says : Line) (input : Option (List ℕ)) (H G : List Entry) (n : ℕ) (old new : Held) (now after : Option (List ℕ)) (line : ScriptLine) (b c : Option (List ℕ)) →
+    DoesLine (Err ending) says H G b c → ReachedBy input H n old now → GivesLine old new now after line → meaning_of line.text ≡ Ok says → new.read + length new.bytes ≤ 16777217 →
+    IsOfSomeSource input (with_halt G)
+line_some OutFault says input H G n old new now after line b c does r gives means few = some input G (n + 1) new after (next input H G n old new now after line says r gives means few does.0)
+line_some NoRoom says input H G n old new now after line b c does r gives means few = elim (does.0) [
+  | inl e ↦ subst (λ (F : List Entry). IsOfSomeSource input (with_halt F)) (sym e) (some input H n old now r)
+  | inr takes ↦ some input G (n + 1) new after (next input H G n old new now after line says r gives means few takes)
+]
+line_some Full says input H G n old new now after line b c does r gives means few =
+    subst (λ (F : List Entry). IsOfSomeSource input (with_halt F)) (sym does.0) (some input H n old now r)
+line_some Done says input H G n old new now after line b c does r gives means few = absurd does
+line_some Refused says input H G n old new now after line b c does r gives means few = absurd does
+line_some SourceFault says input H G n old new now after line b c does r gives means few = absurd does
+line_some JournalFault says input H G n old new now after line b c does r gives means few = absurd does
+line_some (NoMemoryAt number fault) says input H G n old new now after line b c does r gives means few = absurd does
+line_some (BadLine number fault) says input H G n old new now after line b c does r gives means few = absurd does
+
+-- a line doesn't fail the source
+pub line_cause : (ending : Ending) (says : Line) (H G : List Entry) (b c : Option (List ℕ)) → DoesLine (Err ending) says H G b c → ending ≡ SourceFault → ⊥
+line_cause OutFault says H G b c does e = cc
+line_cause NoRoom says H G b c does e = cc
+line_cause Full says H G b c does e = cc
+line_cause Done says H G b c does e = absurd does
+line_cause Refused says H G b c does e = absurd does
+line_cause SourceFault says H G b c does e = absurd does
+line_cause JournalFault says H G b c does e = absurd does
+line_cause (NoMemoryAt number fault) says H G b c does e = absurd does
+line_cause (BadLine number fault) says H G b c does e = absurd does
+
+-- only a failure of the source ends the run so
+pub ending_failed : (number : ℕ) (fault : ReadFault) → ending_of number fault ≡ SourceFault → fault ≡ Failed
+ending_failed number Failed e = refl
+ending_failed number (Bad fault) e = cc
+ending_failed number NoMemory e = cc
+
+pub text_cause : (number : ℕ) (meaning : Result Line LineFault) (ending : Ending) → SaysLine number meaning (Err ending) → ending ≡ SourceFault → ⊥
+text_cause number meaning (BadLine k (Text fault)) says e = cc
+text_cause number meaning NoRoom says e = cc
+text_cause number meaning (BadLine k Size) says e = absurd says
+text_cause number meaning Done says e = absurd says
+text_cause number meaning Refused says e = absurd says
+text_cause number meaning SourceFault says e = absurd says
+text_cause number meaning OutFault says e = absurd says
+text_cause number meaning JournalFault says e = absurd says
+text_cause number meaning Full says e = absurd says
+text_cause number meaning (NoMemoryAt k fault) says e = absurd says
+
+pub whole_cause : (refused : Bool) → whole_ending refused ≡ SourceFault → ⊥
+whole_cause true e = cc
+whole_cause false e = cc
+
+-- the parts of a reading, joined
+pub is_read : (e ending : Ending) (a b : Option (List ℕ)) (m n : ℕ) (x y : Option (List ℕ)) (k l : ℕ) (H : List Entry) → e ≡ ending → IsOfSource ending a b (with_halt H) → IsOfSomeSource a (with_halt H) →
+    AnswersLines ending (end_of x y k l) H → TakesWithin a b → (ending ≡ SourceFault → Rose m n) → k ≤ l → IsRead e (end_of a b m n) (end_of x y k l) H
+is_read e ending a b m n x y k l H is lines some answers takes cause later = subst (λ (d : Ending). IsRead d (end_of a b m n) (end_of x y k l) H) (sym is) (record {
+  lines = lines;
+  some = some;
+  answers = answers;
+  takes = takes;
+  cause = cause;
+  later = later;
+})
+
+-- a line more was answered
+pub out_line : (a b c : Option (List ℕ)) (H G : List Entry) (line : Line) → TakesLine line H G → Appends a b (output H) → Appends b c (line_out H line) → Appends a c (output G)
+out_line a b c H G line takes puts more = subst (Appends a c) (sym (ap output takes ∙ output-line H line)) (appends_more a b c (output H) (line_out H line) puts more)
+
+pub refused_line : (refused answer : Bool) (H G : List Entry) (line : Line) → TakesLine line H G → refused ≡ has_refusal H → answer ≡ line_refused H line → (refused || answer) ≡ has_refusal G
+refused_line refused answer H G line takes e f =
+    ap (λ (b : Bool). b || answer) e ∙ ap (λ (b : Bool). has_refusal H || b) f ∙ sym (ap has_refusal takes ∙ refused-line H line)

@@ -1,0 +1,12 @@
+pub mod LinesOf
+pub mod Sights
+pub mod Cutting
+pub mod Runs
+pub mod Prefixes
+pub mod JournalLines
+pub mod Readings
+pub mod Reaching
+pub mod Ways
+pub mod Answering
+pub mod Two
+pub mod Whole

@@ -1,0 +1,72 @@
+-- A call of a run.
+use Rattle.std.proofs.Common.{◌≡◌, ◌≤◌, ◌<◌, List, [], ◌∷◌, ◌++◌, length, Bool, true, false, ◌&&◌, refl, arith, sym, ◌∙◌, ap, inl, inr, subst}
+use Rattle.std.specs.List.{list_all}
+use Rattle.std.proofs.lemmas.List.Folds.{list_all-append}
+use Rattle.swarm_objects.specs.World.{World, IsSmall, empty_world}
+use Rattle.swarm_objects.specs.Calls.{Outcome, outcome, call_outcome, is_admitted, is_halt, most_entries}
+use Rattle.swarm_objects.specs.History.{replay, step_reply, IsLegal}
+use Rattle.swarm_objects.specs.declared.calls.Call.{Call}
+use Rattle.swarm_objects.specs.declared.calls.Call.TheVariants.{Halt}
+use Rattle.swarm_objects.specs.declared.calls.Entry.{Entry}
+use Rattle.swarm_objects.specs.declared.calls.Reply.{Reply}
+use Rattle.swarm_objects.proofs.Histories.{IsSmall-replay, entries-replay, entries-running, entries-call, halted-call, admitted, admitted-Halt, outcome-admitted, replay-snoc, IsLegalFrom-snoc}
+use Rattle.swarm_plain.specs.Plain.{Meets}
+use Rattle.swarm_script.specs.Journal.{has_text, call_has_text}
+use Rattle.swarm_top.specs.Serial.{entry_of}
+
+pub small : (w : World) (H : List Entry) → IsLegal H → w ≡ replay H → IsSmall w
+small w H legal is = subst IsSmall (sym is) (IsSmall-replay H legal)
+
+pub count : (w : World) (H : List Entry) → w ≡ replay H → w.entries ≡ length H
+count w H is = ap (λ (v : World). v.entries) is ∙ entries-replay H
+
+-- there are no more entries than the limit allows, and where it is reached exactly so many
+pub full : (w : World) (H : List Entry) → IsLegal H → w ≡ replay H → w.halted ≡ false → 300000 ≤ w.entries → length H ≡ most_entries
+full w H legal is running reached =
+    let most = entries-running H legal (ap (λ (v : World). v.halted) (sym is) ∙ running) in
+    omega (arith, most, count w H is)
+
+-- where the count stands still, nothing changed
+pub stays : (w v : World) (call : Call) (reply : Reply) → is_admitted w call ≡ true → Meets (outcome w call) w reply v → v.entries ≡ w.entries → v ≡ w
+stays w v call reply may meets same = elim meets [
+  | inl h ↦ absurd (omega (arith, entries-call w call, ap (λ (u : World). u.entries) (h.1 ∙ ap (λ (o : Outcome). o.after) (outcome-admitted w call may))))
+  | inr h ↦ h.1
+]
+
+-- where the count moved, the call is an entry
+pub goes : (w v : World) (call : Call) (reply : Reply) → is_admitted w call ≡ true → Meets (outcome w call) w reply v → (v.entries ≡ w.entries → ⊥) →
+    (reply ≡ (call_outcome w call).reply) × (v ≡ (call_outcome w call).after)
+goes w v call reply may meets moved = elim meets [
+  | inl h ↦ (h.0 ∙ ap (λ (o : Outcome). o.reply) (outcome-admitted w call may), h.1 ∙ ap (λ (o : Outcome). o.after) (outcome-admitted w call may))
+  | inr h ↦ absurd (moved (ap (λ (u : World). u.entries) h.1))
+]
+
+-- the run after a call that is an entry
+pub record Goes (H : List Entry) (call : Call) (reply : Reply) (v : World) : Type 0 where
+  pub legal : IsLegal (H ++ entry_of call ∷ [])
+  pub world : v ≡ replay (H ++ entry_of call ∷ [])
+  pub reply_is : reply ≡ step_reply (replay H) (entry_of call)
+  pub running : v.halted ≡ false
+
+pub going : (w v : World) (H : List Entry) (call : Call) (reply : Reply) → IsLegal H → w ≡ replay H → w.halted ≡ false → is_halt call ≡ false → w.entries < 300000 → Meets (outcome w call) w reply v →
+    (v.entries ≡ w.entries → ⊥) → Goes H call reply v
+going w v H call reply legal is running other few meets moved =
+    let may = admitted w call running few in
+    let went = goes w v call reply may meets moved in
+    record {
+      legal = IsLegalFrom-snoc empty_world H (entry_of call) legal (subst (λ (u : World). is_admitted u call ≡ true) is may);
+      world = went.1 ∙ ap (λ (u : World). (call_outcome u call).after) is ∙ sym (replay-snoc empty_world H (entry_of call));
+      reply_is = went.0 ∙ ap (λ (u : World). (call_outcome u call).reply) is;
+      running = ap (λ (u : World). u.halted) went.1 ∙ halted-call w call other ∙ running;
+    }
+
+pub halting : (w : World) (H : List Entry) → IsLegal H → w ≡ replay H → w.halted ≡ false → IsLegal (H ++ entry_of Halt ∷ [])
+halting w H legal is running = IsLegalFrom-snoc empty_world H (entry_of Halt) legal (subst (λ (u : World). is_admitted u Halt ≡ true) is (admitted-Halt w running))
+
+and_true : (a b : Bool) → a ≡ true → b ≡ true → (a && (b && true)) ≡ true
+and_true true true e h = refl
+and_true true false e h = cc
+and_true false b e h = cc
+
+pub texts-snoc : (H : List Entry) (call : Call) → list_all has_text H ≡ true → call_has_text call ≡ true → list_all has_text (H ++ entry_of call ∷ []) ≡ true
+texts-snoc H call all one = list_all-append has_text H (entry_of call ∷ []) ∙ and_true (list_all has_text H) (call_has_text call) all one

@@ -1,0 +1,236 @@
+-- The ways of a reading: one line more, a fault, the end.
+use Rattle.std.proofs.Common.{◌≡◌, ℕ, ◌+◌, ◌≤◌, ◌<◌, List, [], ◌∷◌, ◌++◌, length, Bool, true, false, not, cond, refl, Option, Some, None, Ok, Err, sym, ◌∙◌, ap, subst, append_assoc, arith, filter}
+use Rattle.std.specs.Io.KnownBytes.{Consumes}
+use Rattle.std.proofs.lemmas.List.{append-nil, length-append}
+use Rattle.swarm_objects.specs.History.{replay}
+use Rattle.swarm_objects.specs.World.{empty_world}
+use Rattle.swarm_objects.specs.Calls.{most_entries}
+use Rattle.swarm_objects.specs.declared.calls.Call.{Call}
+use Rattle.swarm_objects.specs.declared.calls.Entry.{Entry}
+use Rattle.swarm_script.specs.Script.{meaning_of}
+use Rattle.swarm_script.specs.declared.Line.{Line}
+use Rattle.swarm_script.specs.declared.Line.TheVariants.{Call as CallLine}
+use Rattle.swarm_top.specs.Lines.{lines_of, bytes_of, has_newline, whole_lines}
+use Rattle.swarm_top.specs.Reading.{Reading, reading, reading_of, meaning_at, in_text, most_bytes}
+use Rattle.swarm_top.specs.Serial.{entries, line_entries}
+use Rattle.swarm_top.specs.Held.{Held, has_newline_in, to_read, TakesOn, IsNextLine, Gives, GivesLine, MeansFault}
+use Rattle.swarm_top.specs.Theorem.{IsOfAll, IsOfGood, IsOfSource}
+use Rattle.swarm_top.specs.Parts.{IsWhole, Reached, ReachedBy, with_halt, ending_of, SaysLine}
+use Rattle.swarm_top.specs.declared.faults.Fault.{Fault}
+use Rattle.swarm_top.specs.declared.faults.Fault.TheVariants.{Size, Text}
+use Rattle.swarm_top.specs.declared.input.ScriptLine.{ScriptLine}
+use Rattle.swarm_top.specs.declared.input.ReadFault.{ReadFault}
+use Rattle.swarm_top.specs.declared.input.ReadFault.TheVariants.{Failed, Bad, NoMemory}
+use Rattle.swarm_top.specs.declared.endings.Ending.{Ending}
+use Rattle.swarm_top.specs.declared.endings.Ending.TheVariants.{Done, Refused, ReadFault as SourceFault, OutFault, JournalFault, NoMemory as NoRoom, NoMemoryAt, BadLine, Full}
+use Rattle.swarm_top.proofs.LinesOf.{lines_open, meaning_within}
+use Rattle.swarm_top.proofs.Readings.{good, entries-snoc}
+use Rattle.swarm_top.proofs.Reaching.{says_more, read_line, read_bad, all_read, step_whole, alone, closed}
+
+-- What was taken.
+
+abbrev pub TakesWithin : Option (List ℕ) → Option (List ℕ) → Type 0
+TakesWithin before after = (taken : List ℕ) × Consumes before after taken × (length taken ≤ most_bytes + 1)
+
+three : (a b c d : List ℕ) → a ++ (b ++ (c ++ d)) ≡ (a ++ (b ++ c)) ++ d
+three a b c d = ap (λ (l : List ℕ). a ++ l) (sym (append_assoc b c d)) ∙ sym (append_assoc a (b ++ c) d)
+
+-- bytes were taken, and no line was given
+pub takes_on : (input : Option (List ℕ)) (H : List Entry) (n : ℕ) (old new : Held) (now after : Option (List ℕ)) → ReachedBy input H n old now → TakesOn old new now after → new.read + length new.bytes ≤ 16777217 →
+    TakesWithin input after
+takes_on None H n old new now after r takes few = ([], tt, omega arith)
+takes_on (Some input) H n old new None after r takes few = absurd r
+takes_on (Some input) H n old new (Some left) None r takes few = absurd takes.source
+takes_on (Some input) H n old new (Some left) (Some rest) r takes few =
+    let at = r.1 in (
+      at.read ++ (old.bytes ++ takes.taken),
+      at.bytes ∙ ap (λ (l : List ℕ). at.read ++ (old.bytes ++ l)) takes.source ∙ three at.read old.bytes takes.taken rest,
+      omega (arith, length-append at.read (old.bytes ++ takes.taken), ap (λ (l : List ℕ). length l) takes.bytes, at.size, takes.read, few),
+    )
+
+-- a line was given
+pub takes_line : (input : Option (List ℕ)) (H : List Entry) (n : ℕ) (old new : Held) (now after : Option (List ℕ)) (line : ScriptLine) → ReachedBy input H n old now → GivesLine old new now after line →
+    new.read + length new.bytes ≤ 16777217 → TakesWithin input after
+takes_line None H n old new now after line r gives few = ([], tt, omega arith)
+takes_line (Some input) H n old new None after line r gives few = absurd r
+takes_line (Some input) H n old new (Some left) None line r gives few = absurd gives.reads
+takes_line (Some input) H n old new (Some left) (Some rest) line r gives few =
+    let at = r.1 in (
+      at.read ++ (bytes_of line ++ new.bytes),
+      at.bytes ∙ ap (λ (l : List ℕ). at.read ++ l) gives.reads.bytes ∙ three at.read (bytes_of line) new.bytes rest,
+      omega (arith, length-append at.read (bytes_of line ++ new.bytes), length-append (bytes_of line) new.bytes, at.size, gives.read, few),
+    )
+
+-- The end.
+
+finished_or : (t : Bool) (P : Type 0) → (t ≡ false → P) → (t ≡ true → P) → P
+finished_or true P f g = g refl
+finished_or false P f g = f refl
+
+of_all : (refused : Bool) (input rest : List ℕ) (history : List Entry) → IsOfAll (reading input) history → IsOfSource (cond refused Refused Done) (Some input) (Some rest) history
+of_all true input rest history h = h
+of_all false input rest history h = h
+
+-- there is no further line
+pub end : (input : Option (List ℕ)) (H : List Entry) (n : ℕ) (old new : Held) (now after : Option (List ℕ)) (refused : Bool) → ReachedBy input H n old now → Gives old new now after None →
+    IsOfSource (cond refused Refused Done) input after (with_halt H)
+end None H n old new now after refused r gives = tt
+end (Some input) H n old new None after refused r gives = absurd r
+end (Some input) H n old new (Some left) None refused r gives = absurd gives.0.source
+end (Some input) H n old new (Some left) (Some rest) refused r gives =
+    let at = r.1 in
+    let none : old.bytes ++ left ≡ [] = finished_or old.finished (old.bytes ++ left ≡ []) gives.1 at.finished in
+    let whole : reading input ≡ good r.0 = ap reading at.bytes ∙ all_read at.read (old.bytes ++ left) r.0 at.reading_is none in
+    let all : IsOfAll (reading input) (with_halt H) = (ap (λ (s : Reading). s.bad) whole, ap with_halt (r.2 ∙ ap (λ (s : Reading). entries s.said) (sym whole))) in
+    of_all refused input rest (with_halt H) all
+
+-- A line outside the grammar.
+
+nothing : (line : ScriptLine) (more : List ScriptLine) → [] ≡ line ∷ more → ⊥
+nothing line more e = cc
+
+no_lines : (bytes : List ℕ) (line : ScriptLine) (more : List ScriptLine) → bytes ≡ [] → lines_of bytes ≡ line ∷ more → ⊥
+no_lines bytes line more e lines = nothing line more (sym (ap lines_of e) ∙ lines)
+
+bad : (input : List ℕ) (said : List Line) (n : ℕ) (held : Held) (left : List ℕ) (H : List Entry) (line : ScriptLine) (more : List ScriptLine) (fault : Fault) → Reached input said n held left → H ≡ entries said →
+    lines_of (held.bytes ++ left) ≡ line ∷ more → meaning_at held.read line ≡ Err fault → IsOfGood (n + 1) fault (reading input) (with_halt H)
+bad input said n held left H line more fault at made lines meaning =
+    let whole : IsWhole at.read = finished_or held.finished (IsWhole at.read) at.unfinished (λ e. absurd (no_lines (held.bytes ++ left) line more (at.finished e) lines)) in
+    let is : reading input ≡ record { said = said; bad = Some (n + 1, fault) } =
+    ap reading at.bytes ∙ read_bad at.read (held.bytes ++ left) line more said fault whole at.reading_is lines (ap (λ k. meaning_at k line) at.size ∙ meaning) ∙
+    ap (λ k. record { said = said; bad = Some (k + 1, fault) }) at.count in
+    (ap (λ (s : Reading). s.bad) is, ap with_halt (made ∙ ap (λ (s : Reading). entries s.said) (sym is)))
+
+none_whole : (bytes : List ℕ) → has_newline_in bytes ≡ false → whole_lines bytes ≡ []
+none_whole [] e = refl
+none_whole (b ∷ bytes) e = ap (filter has_newline) (lines_open b bytes e)
+
+-- a fault of the reader
+pub reader_fault : (input : Option (List ℕ)) (H : List Entry) (n : ℕ) (old new : Held) (now after : Option (List ℕ)) (fault : ReadFault) → ReachedBy input H n old now → TakesOn old new now after →
+    MeansFault fault old.read (to_read old now) new → IsOfSource (ending_of (n + 1) fault) input after (with_halt H)
+reader_fault None H n old new now after fault r takes means = tt
+reader_fault (Some input) H n old new None after fault r takes means = absurd r
+reader_fault (Some input) H n old new (Some left) None fault r takes means = absurd takes.source
+reader_fault (Some input) H n old new (Some left) (Some rest) (Bad fault) r takes means = bad input r.0 n old left H means.line means.more fault r.1 r.2 means.lines means.meaning
+reader_fault (Some input) H n old new (Some left) (Some rest) NoMemory r takes means =
+    let more = says_more input r.0 n old left r.1 in
+    record { done = r.0; left = more.more; lines = more.lines; serial_is = ap with_halt r.2 }
+reader_fault (Some input) H n old new (Some left) (Some rest) Failed r takes means =
+    let at = r.1 in
+    let whole = at.unfinished (sym takes.finished ∙ means.1) in
+    let lines : whole_lines (at.read ++ new.bytes) ≡ lines_of at.read = whole.whole new.bytes ∙ ap (λ (ls : List ScriptLine). lines_of at.read ++ ls) (none_whole new.bytes means.0) ∙ append-nil (lines_of at.read) in
+    let is : reading_of (whole_lines (at.read ++ new.bytes)) ≡ good r.0 = ap reading_of lines ∙ at.reading_is in
+    record {
+      taken = at.read ++ new.bytes;
+      bytes = at.bytes ∙ ap (λ (l : List ℕ). at.read ++ (old.bytes ++ l)) takes.source ∙ three at.read old.bytes takes.taken rest ∙ ap (λ (l : List ℕ). (at.read ++ l) ++ rest) (sym takes.bytes);
+      lines = (ap (λ (s : Reading). s.bad) is, ap with_halt (r.2 ∙ ap (λ (s : Reading). entries s.said) (sym is)));
+    }
+
+-- The next line.
+
+next_with : (t : Bool) (line : ScriptLine) (rest : List ℕ) → line.newline ≡ t → has_newline_in line.text ≡ false → 0 < length (bytes_of line) → (line.newline ≡ false → rest ≡ []) →
+    lines_of (bytes_of line ++ rest) ≡ line ∷ lines_of rest
+next_with true line rest e none some last = closed line rest e none
+next_with false line rest e none some last =
+    ap (λ (l : List ℕ). lines_of (bytes_of line ++ l)) (last e) ∙ ap lines_of (append-nil (bytes_of line)) ∙ alone line none some ∙ ap (λ (l : List ℕ). line ∷ lines_of l) (sym (last e))
+
+next_lines : (old new : List ℕ) (line : ScriptLine) → IsNextLine old new line → 0 < length (bytes_of line) → lines_of old ≡ line ∷ lines_of new
+next_lines old new line next some = ap lines_of next.bytes ∙ next_with line.newline line new refl next.one some next.last
+
+meaning_of_line : (old new : Held) (left rest : Option (List ℕ)) (line : ScriptLine) → GivesLine old new left rest line → meaning_at old.read line ≡ in_text (meaning_of line.text)
+meaning_of_line old new left rest line gives = meaning_within old.read line gives.short (omega (arith, gives.read, gives.within))
+
+-- the text of the next line is outside the grammar, or memory is wanting
+pub text_fault : (input : Option (List ℕ)) (H : List Entry) (n : ℕ) (old new : Held) (now after : Option (List ℕ)) (line : ScriptLine) (ending : Ending) → ReachedBy input H n old now →
+    GivesLine old new now after line → SaysLine (n + 1) (meaning_of line.text) (Err ending) → IsOfSource ending input after (with_halt H)
+text_fault None H n old new now after line ending r gives says = tt
+text_fault (Some input) H n old new None after line ending r gives says = absurd r
+text_fault (Some input) H n old new (Some left) None line ending r gives says = absurd gives.reads
+text_fault (Some input) H n old new (Some left) (Some rest) line (BadLine m (Text fault)) r gives says =
+    let meaning = meaning_of_line old new (Some left) (Some rest) line gives ∙ ap in_text says.1 in
+    subst (λ k. IsOfGood k (Text fault) (reading input) (with_halt H)) (sym says.0)
+    (bad input r.0 n old left H line (lines_of (new.bytes ++ rest)) (Text fault) r.1 r.2 (next_lines (old.bytes ++ left) (new.bytes ++ rest) line gives.reads gives.some) meaning)
+text_fault (Some input) H n old new (Some left) (Some rest) line NoRoom r gives says =
+    let more = says_more input r.0 n old left r.1 in
+    record { done = r.0; left = more.more; lines = more.lines; serial_is = ap with_halt r.2 }
+text_fault (Some input) H n old new (Some left) (Some rest) line (BadLine m Size) r gives says = absurd says
+text_fault (Some input) H n old new (Some left) (Some rest) line Done r gives says = absurd says
+text_fault (Some input) H n old new (Some left) (Some rest) line Refused r gives says = absurd says
+text_fault (Some input) H n old new (Some left) (Some rest) line SourceFault r gives says = absurd says
+text_fault (Some input) H n old new (Some left) (Some rest) line OutFault r gives says = absurd says
+text_fault (Some input) H n old new (Some left) (Some rest) line JournalFault r gives says = absurd says
+text_fault (Some input) H n old new (Some left) (Some rest) line Full r gives says = absurd says
+text_fault (Some input) H n old new (Some left) (Some rest) line (NoMemoryAt m fault) r gives says = absurd says
+
+not_false : (b c : Bool) → c ≡ not b → c ≡ false → b ≡ true
+not_false true c e f = refl
+not_false false c e f = let g : true ≡ false = sym e ∙ f in cc
+
+not_true : (b c : Bool) → c ≡ not b → c ≡ true → b ≡ false
+not_true true c e f = let g : false ≡ true = sym e ∙ f in cc
+not_true false c e f = refl
+
+next_reached : (input : List ℕ) (said : List Line) (n : ℕ) (old new : Held) (left rest : List ℕ) (line : ScriptLine) (says : Line) → Reached input said n old left → GivesLine old new (Some left) (Some rest) line →
+    meaning_of line.text ≡ Ok says → new.read + length new.bytes ≤ 16777217 → Reached input (said ++ says ∷ []) (n + 1) new rest
+next_reached input said n old new left rest line says at gives means few =
+    let whole = at.unfinished gives.unfinished in
+    let next = gives.reads in
+    let meaning : meaning_at (length at.read) line ≡ Ok says = ap (λ k. meaning_at k line) at.size ∙ meaning_of_line old new (Some left) (Some rest) line gives ∙ ap in_text means in
+    record {
+      read = at.read ++ bytes_of line;
+      bytes = at.bytes ∙ ap (λ (l : List ℕ). at.read ++ l) next.bytes ∙ sym (append_assoc at.read (bytes_of line) (new.bytes ++ rest));
+      size = omega (arith, length-append at.read (bytes_of line), at.size, gives.read);
+      few = omega (arith, few);
+      reading_is = read_line at.read line said says whole at.reading_is next.one gives.some meaning;
+      count = omega (arith, length-append said (says ∷ []), at.count);
+      unfinished = λ e. step_whole at.read line whole next.one gives.some (not_false line.newline new.finished gives.finished e);
+      finished = λ e. next.last (not_true line.newline new.finished gives.finished e);
+    }
+
+made_more : (H G : List Entry) (said : List Line) (says : Line) → H ≡ entries said → G ≡ H ++ line_entries (replay H) says → G ≡ entries (said ++ says ∷ [])
+made_more H G said says made e = e ∙ ap (λ (F : List Entry). F ++ line_entries (replay F) says) made ∙ sym (entries-snoc empty_world said says)
+
+-- a line more
+pub next : (input : Option (List ℕ)) (H G : List Entry) (n : ℕ) (old new : Held) (now after : Option (List ℕ)) (line : ScriptLine) (says : Line) → ReachedBy input H n old now → GivesLine old new now after line →
+    meaning_of line.text ≡ Ok says → new.read + length new.bytes ≤ 16777217 → G ≡ H ++ line_entries (replay H) says → ReachedBy input G (n + 1) new after
+next None H G n old new now after line says r gives means few e = tt
+next (Some input) H G n old new None after line says r gives means few e = absurd r
+next (Some input) H G n old new (Some left) None line says r gives means few e = absurd gives.reads
+next (Some input) H G n old new (Some left) (Some rest) line says r gives means few e =
+    (r.0 ++ says ∷ [], next_reached input r.0 n old new left rest line says r.1 gives means few, made_more H G r.0 says r.2 e)
+
+-- the run ends at a line, before its call is made
+pub some_before : (input : Option (List ℕ)) (H : List Entry) (n : ℕ) (old new : Held) (now after : Option (List ℕ)) (line : ScriptLine) → ReachedBy input H n old now → GivesLine old new now after line →
+    IsOfSource NoRoom input after (with_halt H)
+some_before None H n old new now after line r gives = tt
+some_before (Some input) H n old new None after line r gives = absurd r
+some_before (Some input) H n old new (Some left) None line r gives = absurd gives.reads
+some_before (Some input) H n old new (Some left) (Some rest) line r gives =
+    let more = says_more input r.0 n old left r.1 in
+    record { done = r.0; left = more.more; lines = more.lines; serial_is = ap with_halt r.2 }
+
+-- or after it
+pub some_after : (input : Option (List ℕ)) (H : List Entry) (n : ℕ) (held : Held) (now : Option (List ℕ)) → ReachedBy input H n held now → IsOfSource NoRoom input now (with_halt H)
+some_after None H n held now r = tt
+some_after (Some input) H n held None r = absurd r
+some_after (Some input) H n held (Some left) r =
+    let more = says_more input r.0 n held left r.1 in
+    record { done = r.0; left = more.more; lines = more.lines; serial_is = ap with_halt r.2 }
+
+-- or because the history is full
+pub full : (input : Option (List ℕ)) (H : List Entry) (n : ℕ) (old new : Held) (now after : Option (List ℕ)) (line : ScriptLine) (call : Call) → ReachedBy input H n old now → GivesLine old new now after line →
+    meaning_of line.text ≡ Ok (CallLine call) → new.read + length new.bytes ≤ 16777217 → length H ≡ most_entries → IsOfSource Full input after (with_halt H)
+full None H n old new now after line call r gives means few count = tt
+full (Some input) H n old new None after line call r gives means few count = absurd r
+full (Some input) H n old new (Some left) None line call r gives means few count = absurd gives.reads
+full (Some input) H n old new (Some left) (Some rest) line call r gives means few count =
+    let at = next_reached input r.0 n old new left rest line (CallLine call) r.1 gives means few in
+    let more = says_more input (r.0 ++ CallLine call ∷ []) (n + 1) new rest at in
+    record {
+      done = r.0;
+      refused = call;
+      left = more.more;
+      lines = more.lines ∙ append_assoc r.0 (CallLine call ∷ []) more.more;
+      serial_is = ap with_halt r.2;
+      count = ap (λ (l : List Entry). length l) (sym r.2) ∙ count;
+    }

@@ -1,0 +1,54 @@
+-- The history that a single caller makes of a script's lines, and what it writes of a history.
+use Rattle.std.specs.Prelude.{ℕ, List, [], ◌∷◌, ◌++◌, codes, Bool, true, false}
+use Rattle.std.specs.List.{flat_map, list_any}
+use Rattle.swarm_objects.specs.World.{World, empty_world}
+use Rattle.swarm_objects.specs.History.{replay_from, replies}
+use Rattle.swarm_objects.specs.declared.calls.Call.{Call}
+use Rattle.swarm_objects.specs.declared.calls.Call.TheVariants.{Halt}
+use Rattle.swarm_objects.specs.declared.calls.Entry.{Entry}
+use Rattle.swarm_objects.specs.declared.calls.What.TheVariants.{Call as Called}
+use Rattle.swarm_objects.specs.declared.calls.Reply.{Reply}
+use Rattle.swarm_objects.specs.declared.calls.Reply.TheVariants.{Txn, Refused, View, HaltDone}
+use Rattle.swarm_print.specs.Texts.{reply_text}
+use Rattle.swarm_script.specs.Journal.{entry_text}
+use Rattle.swarm_script.specs.declared.Line.{Line}
+use Rattle.swarm_script.specs.declared.Line.TheVariants.{Blank, Call as CallLine}
+
+-- caller 0's entry of a call
+abbrev pub entry_of : Call → Entry
+entry_of call = record { by = 0; what = Called call }
+
+-- the entries that a line makes in a world
+abbrev pub line_entries : World → Line → List Entry
+line_entries w Blank = []
+line_entries w (CallLine call) = entry_of call ∷ []
+
+-- the entries that lines make, one line after the other
+abbrev pub entries_from : World → List Line → List Entry
+entries_from w [] = []
+entries_from w (line ∷ lines) = line_entries w line ++ entries_from (replay_from w (line_entries w line)) lines
+
+abbrev pub entries : List Line → List Entry
+entries = entries_from empty_world
+
+-- the lines' entries, and Halt
+abbrev pub serial : List Line → List Entry
+serial lines = entries lines ++ entry_of Halt ∷ []
+
+-- the texts of the replies, in order
+abbrev pub output : List Entry → List ℕ
+output history = flat_map reply_text (replies history)
+
+-- the head line and the line of each entry
+abbrev pub journal : List Entry → List ℕ
+journal history = codes "swarm journal 1\n" ++ flat_map entry_text history
+
+abbrev pub is_refused : Reply → Bool
+is_refused (Refused refusal) = true
+is_refused (Txn ids) = false
+is_refused (View view) = false
+is_refused HaltDone = false
+
+-- a reply is a refusal
+abbrev pub has_refusal : List Entry → Bool
+has_refusal history = list_any is_refused (replies history)

@@ -1,0 +1,48 @@
+// Faults of a script's lines, and the line that tells one.
+ghost use Rattle.std.specs.Prelude.{◌≡◌, ◌++◌, OnOk, IfOk, string_bytes};
+ghost use Rattle.swarm_top.specs.Reading.{line_fault_text, fault_text, bad_line};
+
+use std::alloc::{AllocError, Global};
+use std::fmt::Write;
+use swarm_script::LineFault;
+
+/// Why a line of a script is outside the grammar.
+#[derive(Clone, Copy, Debug, PartialEq, Eq)]
+pub enum Fault {
+    /// The script's first byte beyond 16 MiB is one of the line's.
+    Size,
+    /// The line's text can't be read.
+    Text(LineFault),
+}
+
+fn put_line_fault(text: &mut String, fault: LineFault) -> Result<(), AllocError>
+    ensures { OnOk result (string_bytes text.new ≡ string_bytes text.old ++ line_fault_text fault) }
+{
+    match fault {
+        LineFault::Long => text.push_str("Long"),
+        LineFault::Byte => text.push_str("Byte"),
+        LineFault::Word(place) => write!(text, "Word {place}"),
+        LineFault::Cut => text.push_str("Cut"),
+        LineFault::NoMemory => text.push_str("NoMemory"),
+    }
+}
+
+fn put_fault(text: &mut String, fault: Fault) -> Result<(), AllocError>
+    ensures { OnOk result (string_bytes text.new ≡ string_bytes text.old ++ fault_text fault) }
+{
+    match fault {
+        Fault::Size => text.push_str("Size"),
+        Fault::Text(fault) => put_line_fault(text, fault),
+    }
+}
+
+/// The line that tells the first line outside the grammar, with its number from 1.
+pub fn bad_line(alloc: Global, number: u64, fault: Fault) -> Result<String, AllocError>
+    ensures { IfOk result (λ text. string_bytes text ≡ bad_line number fault) }
+{
+    let mut text = String::new(alloc);
+    write!(text, "bad line {number} ")?;
+    put_fault(&mut text, fault)?;
+    text.push_str("\n")?;
+    Ok(text)
+}

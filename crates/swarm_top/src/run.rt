@@ -1,0 +1,102 @@
+// The calls of a single caller on the plain world, and their history.
+ghost use Rattle.std.specs.Prelude.{◌≡◌, ◌+◌, ◌<◌, ◌≤◌, [], ◌∷◌, ◌++◌, true, false, IfOk, IfErr, OnOk, OnErr, vec_len, vec_capacity};
+ghost use Rattle.std.specs.List.{list_all};
+ghost use Rattle.swarm_objects.specs.Calls.{is_halt};
+ghost use Rattle.swarm_objects.specs.History.{IsLegal};
+ghost use Rattle.swarm_script.specs.Journal.{call_has_text, has_text};
+ghost use Rattle.swarm_top.specs.Serial.{entry_of};
+ghost use Rattle.swarm_top.specs.Kept.{AppendsCall, AppendsNothing};
+
+use std::alloc::{AllocError, Global};
+use std::marker::Model;
+use swarm_objects::{Call, Entry, Reply, What};
+use swarm_plain::{HISTORY, Plain};
+
+/// Why a call is no entry.
+#[derive(Clone, Copy, Debug, PartialEq, Eq)]
+pub enum Unanswered {
+    /// The history has no room but for Halt.
+    Full,
+    NoMemory,
+}
+
+/// A world that runs, with its history. Contracts see the history.
+#[derive(Drop)]
+pub struct Run {
+    plain: Plain,
+    history: Vec<Entry>,
+}
+
+impl Model for Run {
+    ghost use Rattle.std.specs.Prelude.{List};
+    ghost use Rattle.swarm_objects.specs.declared.calls.Entry.{Entry};
+    ghost use Rattle.swarm_top.specs.Kept.{IsRunning};
+
+    ghost Value = { List Entry };
+
+    ghost view = { λ r. r.history.items };
+
+    ghost invariant = { IsRunning };
+}
+
+impl Run {
+    /// The empty history, with room for Halt.
+    pub fn new(alloc: Global) -> Result<Run, AllocError>
+        ensures { IfOk result (λ run. run ≡ []) }
+    {
+        Ok(Run {
+            plain: Plain::new(alloc),
+            history: Vec::with_capacity(alloc, 1)?,
+        })
+    }
+
+    /// Appends caller 0's call and answers it, or says why it could not. The journal must be able to write the call.
+    pub fn call(&mut self, call: Call) -> Result<Reply, Unanswered>
+        requires running { is_halt call ≡ false }
+        requires text { call_has_text call ≡ true }
+        ensures ok { IfOk result (λ reply. AppendsCall self.old call reply self.new) }
+        ensures err { IfErr result (λ cause. AppendsNothing cause self.old self.new) }
+    {
+        if self.plain.entries >= HISTORY {
+            return Err(Unanswered::Full);
+        }
+        // an entry and Halt
+        let Ok(()) = self.history.reserve(2) else {
+            return Err(Unanswered::NoMemory);
+        };
+        let before = self.plain.entries;
+        let reply = self.plain.call(&call);
+        if self.plain.entries == before {
+            return Err(Unanswered::NoMemory);
+        }
+        let entry = Entry {
+            by: 0,
+            what: What::Call(call),
+        };
+        match self.history.push(entry) {
+            Ok(()) => Ok(reply),
+            Err(_) => unreachable!(),
+        }
+    }
+
+    /// Appends Halt, and gives the whole history. It takes no memory.
+    pub fn halt(self) -> Vec<Entry>
+        ensures entries { result.items ≡ self ++ entry_of Call.Halt ∷ [] }
+        ensures legal { IsLegal result.items }
+        ensures texts { list_all has_text result.items ≡ true }
+    {
+        let Run {
+            mut plain,
+            mut history,
+        } = self;
+        plain.call(&Call::Halt);
+        let entry = Entry {
+            by: 0,
+            what: What::Call(Call::Halt),
+        };
+        match history.push(entry) {
+            Ok(()) => history,
+            Err(_) => unreachable!(),
+        }
+    }
+}
