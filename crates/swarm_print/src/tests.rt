@@ -63,7 +63,10 @@ fn texts_of_refusals(rt: HostRuntime) -> Result<(), Fail> {
     let table = [
         (Refusal::NameTaken(1), "refused 2 NameTaken 1\n"),
         (Refusal::TooManyOps(201), "refused 9 TooManyOps 201\n"),
-        (Refusal::TooMany(Kind::Node, 1_000), "refused 19 TooMany node 1000\n"),
+        (
+            Refusal::TooMany(Kind::Node, 1_000),
+            "refused 19 TooMany node 1000\n",
+        ),
         (Refusal::Halted, "refused 20 Halted\n"),
         (Refusal::Full(300_000), "refused 21 Full 300000\n"),
         (Refusal::NoMemory, "refused 22 NoMemory\n"),
