@@ -3,6 +3,8 @@
 
 mod entries;
 mod lines;
+#[cfg(test)]
+mod tests;
 mod words;
 
 pub use entries::write_entry;
