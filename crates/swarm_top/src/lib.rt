@@ -114,3 +114,6 @@ where
     }
     run_script(alloc, script, out, journal)
 }
+
+#[cfg(test)]
+mod tests;
