@@ -1,0 +1,6 @@
+// Constraints on nodes: reading them, and which nodes they admit.
+#![tactic(auto)]
+
+mod matching;
+
+pub use matching::matches;
