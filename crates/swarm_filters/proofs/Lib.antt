@@ -1,1 +1,4 @@
 pub mod Labels
+pub mod Suffixes
+pub mod Keys
+pub mod Runs
