@@ -2,3 +2,8 @@ pub mod Labels
 pub mod Suffixes
 pub mod Keys
 pub mod Runs
+pub mod Wholes
+pub mod FaultLemmas
+pub mod Places
+pub mod Steps
+pub mod Texts

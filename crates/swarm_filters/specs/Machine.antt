@@ -27,17 +27,19 @@ label_key true name = key.Engine name
 abbrev pub constraint_of : Key → Bool → List ℕ → Constraint
 constraint_of k equal value = record { key = k; equal = equal; value = value }
 
+abbrev pub label_words : List (List ℕ × Reading)
+label_words = (codes "node.labels.", in_label false []) ∷ (codes "engine.labels.", in_label true []) ∷ []
+
+abbrev pub platform_words : List (List ℕ × Reading)
+platform_words = (codes "node.platform.os", after_key key.Os) ∷ (codes "node.platform.arch", after_key key.Arch) ∷ label_words
+
 -- the words that keys begin with, and what is read with each; none begins another
 abbrev pub key_words : List (List ℕ × Reading)
 key_words =
     (codes "node.id", after_key key.NodeId)
     ∷ (codes "node.hostname", after_key key.Hostname)
     ∷ (codes "node.role", after_key key.Role)
-    ∷ (codes "node.platform.os", after_key key.Os)
-    ∷ (codes "node.platform.arch", after_key key.Arch)
-    ∷ (codes "node.labels.", in_label false [])
-    ∷ (codes "engine.labels.", in_label true [])
-    ∷ []
+    ∷ platform_words
 
 -- the first of the words that begins so
 abbrev pub word_begun : List ℕ → List (List ℕ × Reading) → Option Reading

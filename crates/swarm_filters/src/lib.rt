@@ -2,5 +2,9 @@
 #![tactic(auto)]
 
 mod matching;
+mod parsed;
+mod parsing;
+mod states;
 
 pub use matching::matches;
+pub use parsed::{ParseFault, parse_constraint};
