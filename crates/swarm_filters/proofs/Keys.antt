@@ -1,19 +1,19 @@
 -- The words that keys begin with.
-use Rattle.std.proofs.Common.{◌≡◌, ℕ, List, [], ◌∷◌, ◌++◌, length, take, drop, codes, Bool, true, false, cond, Option, Some, None, refl, sym, ap, ◌∙◌, subst}
+use Rattle.std.proofs.Common.{◌≡◌, ℕ, List, [], ◌∷◌, ◌++◌, length, take, drop, codes, Bool, true, false, cond, Some, refl, sym, ap, ◌∙◌, subst}
 use Rattle.std.specs.Prelude.{◌==◌, ◌&&◌, IsTrue, nat_eq}
 use Rattle.std.specs.Char.{to_ascii_lowercase}
 use Rattle.std.specs.List.{list_all, starts_with}
 use Rattle.std.specs.Str.{bytes_eq, str_to_ascii_lowercase}
 use Rattle.std.proofs.lemmas.Bool.Decides.{Decides-eqb}
-use Rattle.std.proofs.lemmas.List.{append-nil, append_assoc, take-append-drop}
+use Rattle.std.proofs.lemmas.List.{append_assoc, take-append-drop}
 use Rattle.std.proofs.lemmas.List.Folds.{list_all-append}
 use Rattle.std.proofs.lemmas.Slice.Eq.{bytes_eq-Decides}
 use Rattle.swarm_objects.specs.declared.templates.Key.{Key}
 use Rattle.swarm_objects.specs.declared.templates.Key.TheVariants as key
 use Rattle.swarm_objects.specs.declared.templates.Constraint.{Constraint}
 use Rattle.swarm_filters.specs.Grammar.{is_name, is_value}
-use Rattle.swarm_filters.specs.Machine.{Reading, in_key, in_label, after_key, in_value, constraint_of, label_key, key_words, word_begun, key_begun}
-use Rattle.swarm_filters.proofs.Suffixes.{InKey, KeyTail, Spelling, AfterKey, AfterSign, LabelTail, Suffix, at, same, never}
+use Rattle.swarm_filters.specs.Machine.{Reading, in_key, in_label, after_key, in_value, constraint_of, label_key, key_words, word_begun}
+use Rattle.swarm_filters.proofs.Suffixes.{InKey, KeyTail, Spelling, AfterKey, Suffix, at, same, never}
 
 small_rest : (bs : List ℕ) → list_all (λ b. to_ascii_lowercase b == b) bs ≡ true → str_to_ascii_lowercase bs ≡ bs
 small_rest [] e = refl
@@ -76,14 +76,25 @@ AllGood [] = Unit {0}
 AllGood (word ∷ words) = IsGood word.0 word.1 × AllGood words
 
 pub all_good : AllGood key_words
-all_good =
-    (good_key key.NodeId (codes "node.id") refl (λ bytes raw is. is),
-    (good_key key.Hostname (codes "node.hostname") refl (λ bytes raw is. is),
-    (good_key key.Role (codes "node.role") refl (λ bytes raw is. is),
-    (good_key key.Os (codes "node.platform.os") refl (λ bytes raw is. is),
-    (good_key key.Arch (codes "node.platform.arch") refl (λ bytes raw is. is),
-    (good_label false (codes "node.labels.") refl (λ bytes front name is named. (front, (is, (refl, named)))),
-    (good_label true (codes "engine.labels.") refl (λ bytes front name is named. (front, (is, (refl, named)))), tt)))))))
+all_good = (
+  good_key key.NodeId (codes "node.id") refl (λ bytes raw is. is),
+  (
+    good_key key.Hostname (codes "node.hostname") refl (λ bytes raw is. is),
+    (
+      good_key key.Role (codes "node.role") refl (λ bytes raw is. is),
+      (
+        good_key key.Os (codes "node.platform.os") refl (λ bytes raw is. is),
+        (
+          good_key key.Arch (codes "node.platform.arch") refl (λ bytes raw is. is),
+          (
+            good_label false (codes "node.labels.") refl (λ bytes front name is named. (front, (is, (refl, named)))),
+            (good_label true (codes "engine.labels.") refl (λ bytes front name is named. (front, (is, (refl, named)))), tt),
+          ),
+        ),
+      ),
+    ),
+  ),
+)
 
 -- one byte more of a key
 

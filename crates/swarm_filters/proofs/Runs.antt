@@ -2,13 +2,13 @@
 use Rattle.std.proofs.Common.{◌≡◌, ℕ, List, [], ◌∷◌, ◌++◌, codes, Bool, true, false, cond, Option, Some, None, refl, sym, ap, ◌∙◌, subst}
 use Rattle.std.specs.Prelude.{◌==◌, IsTrue}
 use Rattle.std.specs.Char.{to_ascii_lowercase}
-use Rattle.std.proofs.lemmas.List.{append-nil, append_assoc}
+use Rattle.std.proofs.lemmas.List.{append-nil}
 use Rattle.swarm_objects.specs.declared.templates.Key.{Key}
 use Rattle.swarm_objects.specs.declared.templates.Key.TheVariants as key
 use Rattle.swarm_objects.specs.declared.templates.Constraint.{Constraint}
 use Rattle.swarm_filters.specs.Grammar.{is_value, is_name, IsKey, sign_of, IsConstraint}
 use Rattle.swarm_filters.specs.Machine.{Reading, start, in_key, in_label, after_key, in_sign, after_sign, in_value, finished, label_key, constraint_of, key_words, key_begun, behind_key, step, goes_on, run, whole_of}
-use Rattle.swarm_filters.proofs.Suffixes.{FromStart, InKey, KeyTail, AfterKey, AfterSign, SignTail, LabelTail, ValueTail, Suffix, at, same, never, space_more, behind_key-suffix, in_sign-suffix, after_sign-suffix, finished-suffix, in_value-suffix, in_label-suffix}
+use Rattle.swarm_filters.proofs.Suffixes.{FromStart, InKey, KeyTail, AfterKey, AfterSign, ValueTail, Suffix, at, same, never, space_more, behind_key-suffix, in_sign-suffix, after_sign-suffix, finished-suffix, in_value-suffix, in_label-suffix}
 use Rattle.swarm_filters.proofs.Keys.{IsSound, Completes, completes_at, end_of, all_good, word_begun-suffix, word_begun-completes}
 
 start-suffix : (b : ℕ) (s : Reading) (t : List ℕ) (c : Constraint) → step start b ≡ Some s → Suffix s t c → FromStart (b ∷ t) c
@@ -33,13 +33,22 @@ step-suffix (finished known) b s t c sound h suffix = finished-suffix known b s 
 -- each reading can be made whole
 
 pub start_completes : Completes start
-start_completes = (tt, (codes "node.id==a", (constraint_of key.NodeId true (codes "a"), record {
-  gap = [];
-  rest = codes "node.id==a";
-  whole = refl;
-  spaces = refl;
-  behind = record { raw = codes "node.id"; found = key.NodeId; rest = codes "==a"; whole = refl; is_key = refl; behind = end_of key.NodeId };
-})))
+start_completes = (
+  tt,
+  (
+    codes "node.id==a",
+    (
+      constraint_of key.NodeId true (codes "a"),
+      record {
+        gap = [];
+        rest = codes "node.id==a";
+        whole = refl;
+        spaces = refl;
+        behind = record { raw = codes "node.id"; found = key.NodeId; rest = codes "==a"; whole = refl; is_key = refl; behind = end_of key.NodeId };
+      },
+    ),
+  ),
+)
 
 after_key_completes : (k : Key) → Completes (after_key k)
 after_key_completes k = (tt, (codes "==a", (constraint_of k true (codes "a"), end_of k)))
@@ -75,8 +84,8 @@ nothing s h = never s h
 behind_key-completes : (k : Key) (b : ℕ) (s : Reading) → behind_key k b ≡ Some s → Completes s
 behind_key-completes k b s h =
     when (b == 32) (after_key k) (cond (b == 61) (Some (in_sign k true)) (cond (b == 33) (Some (in_sign k false)) None)) s (λ _. after_key_completes k)
-      (λ i. when (b == 61) (in_sign k true) (cond (b == 33) (Some (in_sign k false)) None) s (λ _. in_sign_completes k true)
-        (λ j. when (b == 33) (in_sign k false) None s (λ _. in_sign_completes k false) (nothing s) j) i) h
+    (λ i. when (b == 61) (in_sign k true) (cond (b == 33) (Some (in_sign k false)) None) s (λ _. in_sign_completes k true)
+    (λ j. when (b == 33) (in_sign k false) None s (λ _. in_sign_completes k false) (nothing s) j) i) h
 
 label_ends : (x : Bool) (k : Key) (b : ℕ) (s : Reading) → cond x (behind_key k b) None ≡ Some s → Completes s
 label_ends true k b s h = behind_key-completes k b s h
@@ -91,10 +100,10 @@ step-completes (after_key k) b s h = behind_key-completes k b s h
 step-completes (in_sign k e) b s h = when (b == 61) (after_sign k e) None s (λ _. after_sign_completes k e) (nothing s) h
 step-completes (after_sign k e) b s h =
     when (b == 32) (after_sign k e) (cond (is_value (b ∷ [])) (Some (in_value k e (b ∷ []))) None) s (λ _. after_sign_completes k e)
-      (λ i. when (is_value (b ∷ [])) (in_value k e (b ∷ [])) None s (λ v. in_value_completes k e (b ∷ []) v) (nothing s) i) h
+    (λ i. when (is_value (b ∷ [])) (in_value k e (b ∷ [])) None s (λ v. in_value_completes k e (b ∷ []) v) (nothing s) i) h
 step-completes (in_value k e v) b s h =
     when (b == 32) (finished (constraint_of k e v)) (cond (is_value (v ++ b ∷ [])) (Some (in_value k e (v ++ b ∷ []))) None) s (λ _. finished_completes (constraint_of k e v))
-      (λ i. when (is_value (v ++ b ∷ [])) (in_value k e (v ++ b ∷ [])) None s (λ w. in_value_completes k e (v ++ b ∷ []) w) (nothing s) i) h
+    (λ i. when (is_value (v ++ b ∷ [])) (in_value k e (v ++ b ∷ [])) None s (λ w. in_value_completes k e (v ++ b ∷ []) w) (nothing s) i) h
 step-completes (finished c) b s h = when (b == 32) (finished c) None s (λ _. finished_completes c) (nothing s) h
 
 -- many bytes

@@ -1,10 +1,10 @@
 -- One byte more, between the places of a text.
-use Rattle.std.proofs.Common.{◌≡◌, ℕ, ◌+◌, ◌<◌, ◌≤◌, List, [], ◌∷◌, ◌++◌, length, Bool, true, false, cond, Option, Some, None, refl, sym, ap, ◌∙◌}
+use Rattle.std.proofs.Common.{◌≡◌, ℕ, ◌+◌, ◌<◌, ◌≤◌, List, [], ◌∷◌, ◌++◌, length, Bool, true, false, cond, Some, None, refl, sym, ap, ◌∙◌}
 use Rattle.std.specs.Prelude.{slice_index, ◌==◌}
 use Rattle.std.proofs.lemmas.Bool.Decides.{Decides-eqb}
 use Rattle.swarm_objects.specs.declared.templates.Key.{Key}
 use Rattle.swarm_filters.specs.Grammar.{is_name, is_value}
-use Rattle.swarm_filters.specs.Machine.{Reading, in_label, in_value, finished, label_key, constraint_of, behind_key, step}
+use Rattle.swarm_filters.specs.Machine.{in_label, in_value, finished, label_key, constraint_of, behind_key, step}
 use Rattle.swarm_filters.specs.Shown.{part}
 use Rattle.swarm_filters.proofs.Places.{part-next}
 

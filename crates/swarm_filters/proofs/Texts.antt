@@ -1,5 +1,5 @@
 -- From what was read to a constraint or a fault.
-use Rattle.std.proofs.Common.{◌≡◌, ℕ, suc, ◌+◌, ◌<◌, List, [], ◌∷◌, ◌++◌, length, take, Bool, true, false, ◌&&◌, Option, Some, None, refl, sym, ap, ◌∙◌, arith, add-one, subst}
+use Rattle.std.proofs.Common.{◌≡◌, ℕ, suc, ◌+◌, ◌<◌, List, [], ◌∷◌, ◌++◌, length, take, true, ◌&&◌, Some, None, sym, ap, ◌∙◌, arith}
 use Rattle.std.specs.Prelude.{slice_index, IsTrue, nat_lt, nat_le}
 use Rattle.std.specs.List.{list_all}
 use Rattle.std.specs.Str.{IsAscii, IsUtf8}
@@ -9,12 +9,10 @@ use Rattle.std.proofs.lemmas.Str.Ascii.{IsAscii-nil, IsAscii-cons}
 use Rattle.std.proofs.lemmas.Bool.Decides.{nat_tests}
 use Rattle.swarm_objects.specs.declared.templates.Key.{Key}
 use Rattle.swarm_objects.specs.declared.templates.Key.TheVariants as key
-use Rattle.swarm_objects.specs.declared.templates.Constraint.{Constraint}
 use Rattle.swarm_filters.specs.Grammar.{is_name_byte, is_name, begins_name, is_value, IsKey, IsConstraint, IsFault}
 use Rattle.swarm_filters.specs.Machine.{Reading, start, step, goes_on, run, whole_of}
-use Rattle.swarm_filters.specs.Shown.{IsNamed, PartsRead, PartsFit, key_of, whole_at, option_shown, shown, option_whole}
+use Rattle.swarm_filters.specs.Shown.{IsNamed, PartsRead, PartsFit, key_of, whole_at}
 use Rattle.swarm_filters.specs.declared.states.Parts.{Parts}
-use Rattle.swarm_filters.specs.declared.states.State.{State}
 use Rattle.swarm_filters.proofs.Runs.{IsConstraint-read}
 use Rattle.swarm_filters.proofs.Wholes.{first_true, second_true, run-append}
 use Rattle.swarm_filters.proofs.FaultLemmas.{IsFault-there, IsFault-cut}

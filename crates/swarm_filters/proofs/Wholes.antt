@@ -1,10 +1,10 @@
 -- The machine reads each constraint.
 use Rattle.std.proofs.Common.{◌≡◌, ℕ, ◌+◌, ◌<◌, ◌≤◌, List, [], ◌∷◌, ◌++◌, length, codes, Bool, true, false, cond, Option, Some, None, refl, sym, ap, ◌∙◌, subst, arith}
-use Rattle.std.specs.Prelude.{◌==◌, ◌&&◌, IsTrue, nat_lt, nat_le}
-use Rattle.std.specs.Char.{to_ascii_lowercase, is_ascii_alphanumeric}
+use Rattle.std.specs.Prelude.{◌==◌, ◌&&◌, nat_lt, nat_le}
+use Rattle.std.specs.Char.{to_ascii_lowercase}
 use Rattle.std.specs.List.{list_all}
 use Rattle.std.specs.Str.{str_to_ascii_lowercase}
-use Rattle.std.proofs.lemmas.Bool.Decides.{Decides-eqb, nat_tests}
+use Rattle.std.proofs.lemmas.Bool.Decides.{nat_tests}
 use Rattle.std.proofs.lemmas.List.{append-nil, append_assoc, length-append}
 use Rattle.std.proofs.lemmas.List.Folds.{list_all-append}
 use Rattle.swarm_objects.specs.declared.templates.Key.{Key}
@@ -73,7 +73,7 @@ value_begun v b more e =
     let long : length (v ++ b ∷ more) ≡ length v + length (b ∷ more) = length-append v (b ∷ more) in
     let short : length (v ++ b ∷ []) ≡ length v + length (b ∷ []) = length-append v (b ∷ []) in
     let sizes : (nat_lt 0 (length (v ++ b ∷ more)) && nat_le (length (v ++ b ∷ more)) 63) ≡ true = first_true (nat_lt 0 (length (v ++ b ∷ more)) && nat_le (length (v ++ b ∷ more)) 63) (list_all is_name_byte (v ++ b ∷ more)) e in
-    let within : nat_le (length (v ++ b ∷ []) ) 63 ≡ true = fewer (length (v ++ b ∷ [])) (length (v ++ b ∷ more)) (omega arith) (second_true (nat_lt 0 (length (v ++ b ∷ more))) (nat_le (length (v ++ b ∷ more)) 63) sizes) in
+    let within : nat_le (length (v ++ b ∷ [])) 63 ≡ true = fewer (length (v ++ b ∷ [])) (length (v ++ b ∷ more)) (omega arith) (second_true (nat_lt 0 (length (v ++ b ∷ more))) (nat_le (length (v ++ b ∷ more)) 63) sizes) in
     let above : nat_lt 0 (length (v ++ b ∷ [])) ≡ true = some (length (v ++ b ∷ [])) (omega arith) in
     let each : (list_all is_name_byte v && list_all is_name_byte (b ∷ more)) ≡ true = sym (list_all-append is_name_byte v (b ∷ more)) ∙ second_true (nat_lt 0 (length (v ++ b ∷ more)) && nat_le (length (v ++ b ∷ more)) 63) (list_all is_name_byte (v ++ b ∷ more)) e in
     let front : list_all is_name_byte v ≡ true = first_true (list_all is_name_byte v) (list_all is_name_byte (b ∷ more)) each in
@@ -227,12 +227,12 @@ ends k e value (b ∷ last) spaces =
 pub run-IsConstraint : (text : List ℕ) (c : Constraint) → IsConstraint text c → (s : Reading) × ((run start text ≡ Some s) × (whole_of s ≡ Some c))
 run-IsConstraint text c is =
     let read : run start text ≡ run (in_value c.key c.equal c.value) is.fourth =
-      ap (λ x. run start x) is.whole
-      ∙ stays start start_keeps is.first (is.key_text ++ (is.second ++ (sign_of c.equal ++ (is.third ++ (c.value ++ is.fourth))))) is.first_spaces
-      ∙ key_reads c.key is.key_text is.second c.equal (is.third ++ (c.value ++ is.fourth)) is.is_key is.second_spaces
-      ∙ stays (after_key c.key) (after_key_keeps c.key) is.second (sign_of c.equal ++ (is.third ++ (c.value ++ is.fourth))) is.second_spaces
-      ∙ sign_reads c.key c.equal (is.third ++ (c.value ++ is.fourth))
-      ∙ stays (after_sign c.key c.equal) (after_sign_keeps c.key c.equal) is.third (c.value ++ is.fourth) is.third_spaces
-      ∙ whole_value c.key c.equal c.value is.fourth is.valued in
+    ap (λ x. run start x) is.whole
+    ∙ stays start start_keeps is.first (is.key_text ++ (is.second ++ (sign_of c.equal ++ (is.third ++ (c.value ++ is.fourth))))) is.first_spaces
+    ∙ key_reads c.key is.key_text is.second c.equal (is.third ++ (c.value ++ is.fourth)) is.is_key is.second_spaces
+    ∙ stays (after_key c.key) (after_key_keeps c.key) is.second (sign_of c.equal ++ (is.third ++ (c.value ++ is.fourth))) is.second_spaces
+    ∙ sign_reads c.key c.equal (is.third ++ (c.value ++ is.fourth))
+    ∙ stays (after_sign c.key c.equal) (after_sign_keeps c.key c.equal) is.third (c.value ++ is.fourth) is.third_spaces
+    ∙ whole_value c.key c.equal c.value is.fourth is.valued in
     let made : Makes (run (in_value c.key c.equal c.value) is.fourth) (constraint_of c.key c.equal c.value) = ends c.key c.equal c.value is.fourth is.fourth_spaces in
     (made.0, (read ∙ made.1.0, made.1.1))

@@ -1,5 +1,5 @@
 -- What a state of the parser stands for, in the text that it reads.
-use Rattle.std.specs.Prelude.{ℕ, ◌≤◌, ◌-◌, IsTrue, length, List, take, drop, Bool, Option, Some, None}
+use Rattle.std.specs.Prelude.{ℕ, ◌≤◌, ◌-◌, IsTrue, length, List, take, drop, Option, Some, None}
 use Rattle.std.specs.Str.{str_to_ascii_lowercase}
 use Rattle.swarm_objects.specs.declared.templates.Key.{Key}
 use Rattle.swarm_objects.specs.declared.templates.Key.TheVariants as key

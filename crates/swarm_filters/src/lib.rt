@@ -5,6 +5,8 @@ mod matching;
 mod parsed;
 mod parsing;
 mod states;
+#[cfg(test)]
+mod tests;
 
 pub use matching::matches;
 pub use parsed::{ParseFault, parse_constraint};

@@ -1,18 +1,18 @@
-use Rattle.std.proofs.Common.{◌≡◌, ◌+◌, length, take, Some, None, sym, ap, ◌∙◌, subst, arith}
+use Rattle.std.proofs.Common.{◌≡◌, ◌+◌, length, take, Some, sym, ap, ◌∙◌, subst, arith}
 use Rattle.swarm_filters.specs.Machine.{start, run, whole_of}
-use Rattle.swarm_filters.specs.Shown.{OptionFits, OptionPartsFit, PartsFit, StateFits, option_shown, option_whole, shown, whole_at}
+use Rattle.swarm_filters.specs.Shown.{OptionFits, OptionPartsFit, option_shown, option_whole, shown, whole_at}
 use Rattle.swarm_filters.proofs.Texts.{read_more, fault_there, fault_cut, parts_read}
 use Rattle.swarm_filters.proofs.parsed.read.Goals as goal
 
 pub returns-in-None-clause-place : goal.returns-in-None-clause-place
 returns-in-None-clause-place c =
     fault_there c.args.text.now c.loop-place.place (shown c.args.text.now c.loop-place.place c.loop-place.state) c.loop-place-test.true c.loop-place.invariant.reads
-      (sym c.step.ensures.shows ∙ ap (λ o. option_shown c.args.text.now (c.loop-place.place + 1) o) c.in-None.is)
+    (sym c.step.ensures.shows ∙ ap (λ o. option_shown c.args.text.now (c.loop-place.place + 1) o) c.in-None.is)
 
 pub loop-place-preserved : goal.loop-place-preserved
 loop-place-preserved c = record {
   reads = read_more c.args.text.now c.loop-place.place (shown c.args.text.now c.loop-place.place c.loop-place.state) (shown c.args.text.now (c.loop-place.place + 1) c.in-Some.next) c.loop-place-test.true c.loop-place.invariant.reads
-    (sym c.step.ensures.shows ∙ ap (λ o. option_shown c.args.text.now (c.loop-place.place + 1) o) c.in-Some.is);
+      (sym c.step.ensures.shows ∙ ap (λ o. option_shown c.args.text.now (c.loop-place.place + 1) o) c.in-Some.is);
   fits = subst (λ o. OptionFits (c.loop-place.place + 1) o) c.in-Some.is c.step.ensures.fits;
 }
 

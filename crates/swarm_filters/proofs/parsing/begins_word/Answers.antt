@@ -1,4 +1,4 @@
-use Rattle.std.proofs.Common.{◌≡◌, ◌∙◌}
+use Rattle.std.proofs.Common.{◌∙◌}
 use Rattle.swarm_filters.proofs.Places.{starts_with-small}
 use Rattle.swarm_filters.proofs.parsing.begins_word.Goals as goal
 

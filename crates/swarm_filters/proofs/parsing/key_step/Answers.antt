@@ -1,4 +1,4 @@
-use Rattle.std.proofs.Common.{◌≡◌, ◌∙◌, ap}
+use Rattle.std.proofs.Common.{◌∙◌, ap}
 use Rattle.swarm_filters.specs.Machine.{key_words, word_begun}
 use Rattle.swarm_filters.proofs.Places.{lower_part-next}
 use Rattle.swarm_filters.proofs.parsing.key_step.Goals as goal

@@ -1,4 +1,4 @@
-use Rattle.std.proofs.Common.{◌≡◌, ◌∙◌, ap, sym}
+use Rattle.std.proofs.Common.{◌∙◌, sym}
 use Rattle.swarm_filters.proofs.Steps.{label_goes_on, label_fails, label_ends}
 use Rattle.swarm_filters.proofs.parsing.label_step.Goals as goal
 

@@ -1,4 +1,4 @@
-use Rattle.std.proofs.Common.{◌≡◌, ◌∙◌, ap, sym}
+use Rattle.std.proofs.Common.{◌∙◌, sym}
 use Rattle.std.specs.Prelude.{slice_index}
 use Rattle.swarm_filters.specs.Shown.{key_of}
 use Rattle.swarm_filters.proofs.Steps.{value_goes_on, value_fails, unequal}
