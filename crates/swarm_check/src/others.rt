@@ -1,0 +1,59 @@
+// The rules of nodes, networks and settings.
+ghost use Rattle.std.specs.Prelude.{◌≡◌, ◌≤◌, find};
+ghost use Rattle.std.specs.Result.{result_err};
+ghost use Rattle.swarm_objects.specs.OtherRules.{has_host_bits as host_bits_in, node_breaks, node_rules, resource_rules, resources_break, settings_break, settings_rules, subnet_breaks, subnet_rules};
+
+use crate::{LONGEST_TIME, MOST_CPU, MOST_ITEMS, MOST_MEM};
+use swarm_objects::{Node, Settings, SpecRule};
+
+/// The first rule that a node breaks.
+pub fn check_node(node: &Node) -> Result<(), SpecRule>
+    ensures { result_err result ≡ find (node_breaks node.now) node_rules }
+{
+    check_resources(node.cpu, node.mem)?;
+    if node.labels.as_slice().len() > MOST_ITEMS || node.engine.as_slice().len() > MOST_ITEMS {
+        return Err(SpecRule::Count);
+    }
+    Ok(())
+}
+
+/// The first rule that resources of a node break, in thousandths of a processor and bytes of memory.
+pub fn check_resources(cpu: u64, mem: u64) -> Result<(), SpecRule>
+    ensures { result_err result ≡ find (resources_break cpu mem) resource_rules }
+{
+    if cpu > MOST_CPU || mem > MOST_MEM {
+        return Err(SpecRule::Resources);
+    }
+    Ok(())
+}
+
+/// The first rule that a subnet breaks, whose addresses share so many leading bits with its base.
+pub fn check_network(base: u32, length: u8) -> Result<(), SpecRule>
+    ensures { result_err result ≡ find (subnet_breaks base length) subnet_rules }
+{
+    if length < 16 || 29 < length || has_host_bits(base, length) {
+        return Err(SpecRule::Subnet);
+    }
+    Ok(())
+}
+
+// Whether an address has a bit below its first so many.
+fn has_host_bits(base: u32, bits: u8) -> bool
+    requires low { 16 ≤ bits }
+    requires high { bits ≤ 29 }
+    ensures { result ≡ host_bits_in base bits }
+{
+    base % 2u32.pow(32 - bits as u32) != 0
+}
+
+/// The first rule that settings break.
+pub fn check_settings(settings: &Settings) -> Result<(), SpecRule>
+    ensures { result_err result ≡ find (settings_break settings.now) settings_rules }
+{
+    let wrong_beat = settings.heartbeat < 1_000 || 60_000 < settings.heartbeat;
+    let wrong_orphan = settings.orphan < 1 || LONGEST_TIME < settings.orphan;
+    if wrong_beat || wrong_orphan || settings.history > 100 {
+        return Err(SpecRule::Settings);
+    }
+    Ok(())
+}

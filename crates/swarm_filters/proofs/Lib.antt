@@ -1,0 +1,9 @@
+pub mod Labels
+pub mod Suffixes
+pub mod Keys
+pub mod Runs
+pub mod Wholes
+pub mod FaultLemmas
+pub mod Places
+pub mod Steps
+pub mod Texts

@@ -1,0 +1,72 @@
+-- From what was read to a constraint or a fault.
+use Rattle.std.proofs.Common.{◌≡◌, ℕ, suc, ◌+◌, ◌<◌, List, [], ◌∷◌, ◌++◌, length, take, true, ◌&&◌, Some, None, sym, ap, ◌∙◌, arith}
+use Rattle.std.specs.Prelude.{slice_index, IsTrue, nat_lt, nat_le}
+use Rattle.std.specs.List.{list_all}
+use Rattle.std.specs.Str.{IsAscii, IsUtf8}
+use Rattle.std.proofs.Math.Seq.{take-suc, take-length}
+use Rattle.std.proofs.lemmas.Str.{IsUtf8-from_ascii}
+use Rattle.std.proofs.lemmas.Str.Ascii.{IsAscii-nil, IsAscii-cons}
+use Rattle.std.proofs.lemmas.Bool.Decides.{nat_tests}
+use Rattle.swarm_objects.specs.declared.templates.Key.{Key}
+use Rattle.swarm_objects.specs.declared.templates.Key.TheVariants as key
+use Rattle.swarm_filters.specs.Grammar.{is_name_byte, is_name, begins_name, is_value, IsKey, IsConstraint, IsFault}
+use Rattle.swarm_filters.specs.Machine.{Reading, start, step, goes_on, run, whole_of}
+use Rattle.swarm_filters.specs.Shown.{IsNamed, PartsRead, PartsFit, key_of, whole_at}
+use Rattle.swarm_filters.specs.declared.states.Parts.{Parts}
+use Rattle.swarm_filters.proofs.Runs.{IsConstraint-read}
+use Rattle.swarm_filters.proofs.Wholes.{first_true, second_true, run-append}
+use Rattle.swarm_filters.proofs.FaultLemmas.{IsFault-there, IsFault-cut}
+
+take-next : (text : List ℕ) (place : ℕ) → place < length text → take (place + 1) text ≡ take place text ++ slice_index text place ∷ []
+take-next text place below =
+    let one : place + 1 ≡ suc place = omega arith in
+    ap (λ n. take n text) one ∙ take-suc text place 0 below
+
+-- a byte more was read
+pub read_more : (text : List ℕ) (place : ℕ) (s next : Reading) → place < length text → run start (take place text) ≡ Some s → step s (slice_index text place) ≡ Some next → run start (take (place + 1) text) ≡ Some next
+read_more text place s next below read goes =
+    ap (λ x. run start x) (take-next text place below)
+    ∙ run-append (take place text) start (slice_index text place ∷ [])
+    ∙ ap (λ o. goes_on o (λ q. run q (slice_index text place ∷ []))) read
+    ∙ ap (λ o. goes_on o (λ q. run q [])) goes
+
+-- a byte that has no step
+pub fault_there : (text : List ℕ) (place : ℕ) (s : Reading) → place < length text → run start (take place text) ≡ Some s → step s (slice_index text place) ≡ None → IsFault text place
+fault_there text place s below read none = IsFault-there text place (slice_index text place) s below (take-next text place below) read none
+
+all_read : (text : List ℕ) (s : Reading) → run start (take (length text) text) ≡ Some s → run start text ≡ Some s
+all_read text s read = ap (λ x. run start x) (sym (take-length text)) ∙ read
+
+-- a text that ends too early
+pub fault_cut : (text : List ℕ) (s : Reading) → run start (take (length text) text) ≡ Some s → whole_of s ≡ None → IsFault text (length text)
+fault_cut text s read none = IsFault-cut text s (all_read text s read) none
+
+named_key : (text : List ℕ) (k : Key) → IsKey text k → IsNamed k
+named_key text key.NodeId is = tt
+named_key text key.Hostname is = tt
+named_key text key.Role is = tt
+named_key text key.Os is = tt
+named_key text key.Arch is = tt
+named_key text (key.Label name) is = is.1.1.1
+named_key text (key.Engine name) is = is.1.1.1
+
+-- a text that is whole
+pub parts_read : (text : List ℕ) (s : Reading) (p : Parts) → run start (take (length text) text) ≡ Some s → whole_of s ≡ Some (whole_at text p) → PartsFit (length text) p → PartsRead text p
+parts_read text s p read whole fits =
+    let is : IsConstraint text (whole_at text p) = IsConstraint-read text s (whole_at text p) (all_read text s read) whole in
+    record { fits = fits; is = is; named = named_key is.key_text (key_of text p.found) is.is_key; valued = is.valued }
+
+-- names are text
+
+byte : (b : ℕ) → is_name_byte b ≡ true → b < 128
+byte b e = grind (arith, nat_tests)
+
+ascii : (xs : List ℕ) → list_all is_name_byte xs ≡ true → IsAscii xs
+ascii [] e = IsAscii-nil
+ascii (x ∷ xs) e = IsAscii-cons x xs (byte x (first_true (is_name_byte x) (list_all is_name_byte xs) e)) (ascii xs (second_true (is_name_byte x) (list_all is_name_byte xs) e))
+
+pub IsUtf8-value : (bytes : List ℕ) → IsTrue (is_value bytes) → IsUtf8 bytes
+IsUtf8-value bytes e = IsUtf8-from_ascii bytes (ascii bytes (second_true (nat_lt 0 (length bytes) && nat_le (length bytes) 63) (list_all is_name_byte bytes) e))
+
+pub is_value-name : (name : List ℕ) → IsTrue (is_name name) → IsTrue (is_value name)
+is_value-name name e = second_true (begins_name name) (is_value name) e
