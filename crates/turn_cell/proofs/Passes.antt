@@ -4,7 +4,7 @@ use mathlib.Core.Option.{some, some-injective}
 use lib.ListN.{get_elem?}
 use Rattle.std.specs.List.{All, Any}
 use Rattle.std.proofs.lemmas.List.{reverse-append}
-use Rattle.std.proofs.lemmas.List.Elements.{All-pop}
+use Rattle.std.proofs.lemmas.List.Elements.{All-pop, Contains-push, Contains-append_left}
 use Rattle.std.proofs.lemmas.Option.{slice_get-get_or, get_or_from_slice_get}
 use Rattle.atomic_table.specs.Table.{Final, Seen}
 use Rattle.atomic_table.proofs.Lists.{at_last, at_longer, at_map}
@@ -30,6 +30,12 @@ module _ {A : Type 0} where
       there [] n l = absurd (omega arith)
       there (x ∷ xs) zero l = (x, refl)
       there (x ∷ xs) (suc n) l = there xs n (omega arith)
+
+  pub Any-push : (P : A → Type 0) (xs : List A) (a : A) → P a → Any P (xs ++ a ∷ [])
+  Any-push P xs a h = let c = Contains-push xs a in (c.0, a, c.1, c.2, h)
+
+  pub Any-append_left : (P : A → Type 0) (xs ys : List A) → Any P xs → Any P (xs ++ ys)
+  Any-append_left P xs ys h = let c = Contains-append_left xs ys h.1 (h.0, h.2, h.3) in (c.0, h.1, c.1, c.2, h.4)
 
   in_reverse : (xs : List A) (k : ℕ) (a : A) → slice_get xs k ≡ Some a → (i : ℕ) × (get_elem? (reverse xs) i ≡ some a)
   in_reverse [] k a e = absurd (cc)

@@ -30,8 +30,7 @@ pub struct TurnCell<V: Counted> {
 impl<V: Counted + Drop> TurnCell<V> {
     ghost use Rattle.std.specs.Prelude.{◌≡◌, ◌<◌, ◌≤◌, [], length, IfOk};
     ghost use Rattle.turn_cell.specs.Entries.{Each};
-    ghost use Rattle.turn_cell.specs.Turn.{account, maker_view};
-    ghost use Rattle.turn_cell.specs.Steps.{own_account};
+    ghost use Rattle.turn_cell.specs.Turn.{maker_view};
     ghost use Rattle.turn_cell.specs.Passes.{cell_seats, IsNew};
 
     /// A cell with this value, and the passes of the callers 0 to seats - 1, in order. For want of memory the value is dropped.

@@ -12,3 +12,6 @@ pub use cell::TurnCell;
 pub use pass::Pass;
 pub use view::{Account, Stage, View};
 pub use work::{Counted, TurnWork};
+
+#[cfg(test)]
+mod tests;
