@@ -40,7 +40,7 @@ module _ {V I : Type 0} {C : Ghosts V I} where
   abbrev pub IsNew : TurnCell V I → ℕ → Pass V I C → Type 0
   IsNew cell n p = IsPassOf cell p × (number_of p ≡ n) × (seen p ≡ []) × (mine p ≡ []) × (known p ≡ 0)
 
-  -- the list begins with what the caller has seen, and is as long as it knows
+  -- the list begins with what the caller has seen, and is at least as long as it knows
   abbrev pub Continues : Pass V I C → List I → Type 0
   Continues p xs = StartsWith xs (seen p) × (known p ≤ length xs)
 

@@ -49,7 +49,7 @@ module _ {S I : Type 0} where
   Draws st m found m' = (a : Account I) → m ≡ idle_seat a → Waits found a m'
 
 module _ {I : Type 0} (by : I → ℕ) where
-  -- the list begins with what the caller had seen, is as long as it knew, and has no more of its entries
+  -- the list begins with what the caller had seen, is at least as long as it knew, and has no more of its entries
   abbrev pub GoesOn : Account I → List I → Type 0
   GoesOn a xs = StartsWith xs a.seen × (a.known ≤ length xs) × (mine_of by a.number xs ≡ mine_of by a.number a.seen)
 

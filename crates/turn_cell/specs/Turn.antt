@@ -53,16 +53,18 @@ module _ {I : Type 0} where
   abbrev pub IsViewAt : List (View I) → ℕ → View I → Type 0
   IsViewAt vs j v = get_elem? vs j ≡ some v
 
+  -- some caller has the ticket served, and holds the value
+  abbrev pub HasHolder : ℕ → List (View I) → Type 0
+  HasHolder serving views = (j : ℕ) × (v : View I) × IsViewAt views j v × (v.stage ≡ Holding serving) × ((a : Account I) × StandsIn a v)
+
+-- the slot has the value, with the longest list
+abbrev pub IsAtHome : {S I : Type 0} → (S → List I) → List I → List (Place (Option S)) → Type 0
+IsAtHome {S} items longest homes = (x : S) × (homes ≡ some (Some x) ∷ []) × (items x ≡ longest)
+
 module _ {S I : Type 0} (items : S → List I) (by : I → ℕ) where
   -- what an account says is true of the longest list
   abbrev pub Agrees : List I → Account I → Type 0
   Agrees longest a = StartsWith longest a.seen × (length a.seen ≤ a.known) × (a.known ≤ length longest) × (mine_of by a.number longest ≡ mine_of by a.number a.seen)
-
-  -- the value is at home and has the longest list, or it is out with a caller whose ticket is served
-  abbrev pub IsHomeOrOut : ℕ → List I → List (View I) → List (Place (Option S)) → Type 0
-  IsHomeOrOut serving longest views homes =
-      ((x : S) × (homes ≡ some (Some x) ∷ []) × (items x ≡ longest))
-      ⊎ ((homes ≡ none ∷ []) × ((j : ℕ) × (v : View I) × IsViewAt views j v × (v.stage ≡ Holding serving) × ((a : Account I) × StandsIn a v)))
 
   -- what the rule says of the view j, one of `count` views
   pub record ViewRule (serving ticket : ℕ) (longest : List I) (homes : List (Place (Option S))) (count j : ℕ) (v : View I) : Type 0 where
@@ -88,4 +90,4 @@ module _ {S I : Type 0} (items : S → List I) (by : I → ℕ) where
     pub owned : (j : ℕ) (v : View I) (a : Account I) → IsViewAt s.views j v → StandsIn a v → (owner a.number ≡ j) × (a.number + 1 < length s.views)
     -- a number that was not given yet has no entry
     pub unheard : (n : ℕ) → length s.views ≤ n + 1 → mine_of by n longest ≡ []
-    pub home : IsHomeOrOut serving longest s.views s.homes
+    pub home : IsAtHome items longest s.homes ⊎ ((s.homes ≡ none ∷ []) × HasHolder serving s.views)
