@@ -1,4 +1,4 @@
-//! One value, which callers use in turns.
+//! The cell: a value, which callers use in turns.
 ghost use Rattle.std.specs.Prelude.{◌≡◌, ◌<◌};
 
 use crate::pass::Pass;
@@ -287,7 +287,8 @@ impl<V: Counted> TurnCell<V> {
         requires idle { IsIdle seat.old.me }
         ensures same { (seat.new.table_id ≡ seat.old.table_id) × (seat.new.id ≡ seat.old.id) }
         ensures known { (own_account seat.old.me.0).known ≤ result }
-        ensures account { seat.new.me ≡ idle_seat (account (own_account seat.old.me.0).number (own_account seat.old.me.0).seen result) }
+        ensures account { seat.new.me
+            ≡ idle_seat (account (own_account seat.old.me.0).number (own_account seat.old.me.0).seen result) }
     {
         self.table.shared.load::<Count>(seat, COUNT)
     }
@@ -298,7 +299,8 @@ impl<V: Counted> TurnCell<V> {
         requires free { seat.old.me ≡ (joined_view seat.old.me.0.accounts, []) }
         requires passes { All (IsPassOf self.now) passes.items }
         ensures same { (seat.new.table_id ≡ seat.old.table_id) × (seat.new.id ≡ seat.old.id) }
-        ensures all { seat.new.me ≡ (joined_view (seat.old.me.0.accounts ++ map (λ p. own_account p.seat.me.0) (reverse passes.items)), []) }
+        ensures all { seat.new.me
+            ≡ (joined_view (seat.old.me.0.accounts ++ map (λ p. own_account p.seat.me.0) (reverse passes.items)), []) }
     {
         while let Some(pass) = passes.pop() {
             let Pass { seat: other, .. } = pass;
