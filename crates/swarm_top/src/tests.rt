@@ -6,14 +6,16 @@ use std::test::Fail;
 use std::thread::Threads;
 use swarm_objects::{FailedPut, MemorySink, MemorySource, RealGate};
 
-/// What a run left: its status, what was put out and the journal.
+// What a run left: its status, what was put out and the journal.
+#[derive(Drop)]
 struct Left {
     status: u8,
     out: Vec<u8>,
     journal: Vec<u8>,
 }
 
-/// How the ends of a run behave: the size of the pieces that the source gives, and the calls that fail.
+// How the ends of a run behave: the size of the pieces that the source gives, and the calls that fail.
+#[derive(Clone, Copy)]
 struct Ends<'a> {
     piece: usize,
     failing_takes: &'a [u64],
@@ -84,19 +86,31 @@ fn first_rows(rt: HostRuntime) -> Result<(), Fail> {
     let left = run(&rt, b"", &SOUND)?;
     assert_eq!(rt; left.status, 0);
     assert_eq!(rt; left.out.as_slice(), b"".as_slice());
-    assert_eq!(rt; left.journal.as_slice(), b"swarm journal 1\n0 halt\n".as_slice());
+    assert_eq!(rt;
+        left.journal.as_slice(),
+        b"swarm journal 1\n0 halt\n".as_slice()
+    );
 
     // node_join_and_list
     let left = run(&rt, b"node join n1\nlist nodes\n", &SOUND)?;
     assert_eq!(rt; left.status, 0);
-    assert_eq!(rt; left.out.as_slice(), b"ok 1\nnodes 1\nnode 1 n1 UNKNOWN ACTIVE worker 4000 8589934592\n".as_slice());
+    assert_eq!(rt;
+        left.out.as_slice(),
+        b"ok 1\nnodes 1\nnode 1 n1 UNKNOWN ACTIVE worker 4000 8589934592\n".as_slice()
+    );
 
     // one name twice, in pieces of one byte
     let ends = Ends { piece: 1, ..SOUND };
     let left = run(&rt, b"node join n1\nnode join n1\n", &ends)?;
     assert_eq!(rt; left.status, 1);
-    assert_eq!(rt; left.out.as_slice(), b"ok 1\nrefused 2 NameTaken 1\n".as_slice());
-    assert_eq!(rt; left.journal.as_slice(), b"swarm journal 1\n0 node join n1\n0 node join n1\n0 halt\n".as_slice());
+    assert_eq!(rt;
+        left.out.as_slice(),
+        b"ok 1\nrefused 2 NameTaken 1\n".as_slice()
+    );
+    assert_eq!(rt;
+        left.journal.as_slice(),
+        b"swarm journal 1\n0 node join n1\n0 node join n1\n0 halt\n".as_slice()
+    );
     Ok(())
 }
 
@@ -104,8 +118,14 @@ fn first_rows(rt: HostRuntime) -> Result<(), Fail> {
 fn lines_outside_the_grammar(rt: HostRuntime) -> Result<(), Fail> {
     let left = run(&rt, b"node join n1\nlist tasks\nnode join n2\n", &SOUND)?;
     assert_eq!(rt; left.status, 6);
-    assert_eq!(rt; left.out.as_slice(), b"ok 1\nbad line 2 Word 2\n".as_slice());
-    assert_eq!(rt; left.journal.as_slice(), b"swarm journal 1\n0 node join n1\n0 halt\n".as_slice());
+    assert_eq!(rt;
+        left.out.as_slice(),
+        b"ok 1\nbad line 2 Word 2\n".as_slice()
+    );
+    assert_eq!(rt;
+        left.journal.as_slice(),
+        b"swarm journal 1\n0 node join n1\n0 halt\n".as_slice()
+    );
 
     // comments and empty lines count, and the last line may lack its newline
     let left = run(&rt, b"# one\n\nnode join", &SOUND)?;
@@ -184,13 +204,22 @@ fn faults_of_the_outside(rt: HostRuntime) -> Result<(), Fail> {
 #[test]
 fn words_of_the_program(rt: HostRuntime) -> Result<(), Fail> {
     let usage = b"usage: swarm run [--workers K] | swarm replay | swarm make N [--run]\n";
-    let accepted: [&[&str]; 3] = [&["run"], &["run", "--workers=0"], &["run", "--workers", "0"]];
+    let accepted: [&[&str]; 3] = [
+        &["run"],
+        &["run", "--workers=0"],
+        &["run", "--workers", "0"],
+    ];
     for words in accepted {
         let left = run_words(&rt, words, b"list nodes\n", &SOUND)?;
         assert_eq!(rt; left.status, 0);
         assert_eq!(rt; left.out.as_slice(), b"nodes 0\n".as_slice());
     }
-    let others: [&[&str]; 4] = [&[], &["run", "--workers=00"], &["run", "0"], &["run", "--workers", "0", "0"]];
+    let others: [&[&str]; 4] = [
+        &[],
+        &["run", "--workers=00"],
+        &["run", "0"],
+        &["run", "--workers", "0", "0"],
+    ];
     for words in others {
         let left = run_words(&rt, words, b"list nodes\n", &SOUND)?;
         assert_eq!(rt; left.status, 2);
@@ -211,8 +240,18 @@ fn one_node_too_many(rt: HostRuntime) -> Result<(), Fail> {
     }
     let left = run(&rt, script.as_slice(), &SOUND)?;
     assert_eq!(rt; left.status, 1);
-    assert!(rt; left.out.as_slice().ends_with(b"ok 1000\nrefused 19 TooMany node 1000\n"));
-    let entries = left.journal.as_slice().iter().filter(|b| **b == b'\n').count() - 1;
+    assert!(rt;
+        left.out
+            .as_slice()
+            .ends_with(b"ok 1000\nrefused 19 TooMany node 1000\n")
+    );
+    let entries = left
+        .journal
+        .as_slice()
+        .iter()
+        .filter(|b| **b == b'\n')
+        .count()
+        - 1;
     assert_eq!(rt; entries, 1_002);
     Ok(())
 }
