@@ -1,5 +1,5 @@
 -- What is put for the lines of a script.
-use Rattle.std.proofs.Common.{◌≡◌, inl, inr, ℕ, ◌≤◌, List, ◌++◌, length, Bool, true, false, ◌||◌, refl, Option, Result, Ok, Err, sym, ◌∙◌, ap, subst, arith, ◌+◌}
+use Rattle.std.proofs.Common.{◌≡◌, inl, inr, ℕ, ◌≤◌, List, ◌++◌, length, take, Bool, true, false, ◌||◌, refl, Option, Result, Ok, Err, sym, ◌∙◌, ap, subst, arith, ◌+◌}
 use Rattle.std.specs.Io.KnownBytes.{Appends}
 use Rattle.swarm_objects.specs.Outside.{Rose, AppendsPrefix}
 use Rattle.swarm_objects.specs.declared.calls.Entry.{Entry}
@@ -18,9 +18,10 @@ use Rattle.swarm_top.specs.declared.input.ReadFault.TheVariants.{Failed, Bad, No
 use Rattle.swarm_top.specs.declared.endings.Ending.{Ending}
 use Rattle.swarm_top.specs.declared.endings.Ending.TheVariants.{Done, Refused, ReadFault as SourceFault, OutFault, JournalFault, NoMemory as NoRoom, NoMemoryAt, BadLine, Full}
 use Rattle.swarm_top.proofs.Prefixes.{appends_more, prefix_all, prefix_of, prefix_more}
-use Rattle.swarm_top.proofs.Readings.{output-line, refused-line}
+use Rattle.swarm_top.proofs.Readings.{output-append, output-line, refused-line}
+use Rattle.swarm_top.proofs.Settling.{part_silent}
 use Rattle.swarm_top.proofs.Reaching.{some}
-use Rattle.swarm_top.proofs.Ways.{TakesWithin, next, some_before, some_after, full}
+use Rattle.swarm_top.proofs.Ways.{TakesWithin, next, some_after, some_part, full}
 
 pub rose_later : (a b c : ℕ) → a ≤ b → Rose b c → Rose a c
 rose_later a b c h r = omega (arith, h, r)
@@ -58,13 +59,12 @@ pub line_answers : (ending : Ending) (line : Line) (H G : List Entry) (a b c : O
     AnswersLines ending (end_of a c k n) G
 line_answers OutFault line H G a b c k m n does puts later cause = (out_more a c H G line does.0 (prefix_more a b c (output H) (line_out H line) puts does.1), rose_later k m n later (cause refl))
 line_answers NoRoom line H G a b c k m n does puts later cause =
-    let same : Appends a c (output H) = subst (λ (o : Option (List ℕ)). Appends a o (output H)) (sym does.1) puts in
-    elim (does.0) [
-      | inl e ↦ prefix_all a c (output G) (subst (λ (F : List Entry). Appends a c (output F)) (sym e) same)
-      | inr takes ↦ out_more a c H G line takes (prefix_of a c (output H) (line_out H line) (prefix_all a c (output H) same))
-    ]
+    let same : Appends a c (output H) = subst (λ (o : Option (List ℕ)). Appends a o (output H)) (sym does.2) puts in
+    subst (AppendsPrefix a c) (sym (ap output does.1 ∙ output-append H (take does.0 (line_entries (replay H) line))))
+    (prefix_of a c (output H) (flat_map reply_text (replies_from (replay H) (take does.0 (line_entries (replay H) line)))) (prefix_all a c (output H) same))
 line_answers Full line H G a b c k m n does puts later cause =
-    subst (λ (F : List Entry). Appends a c (output F)) (sym does.0) (subst (λ (o : Option (List ℕ)). Appends a o (output H)) (sym does.3) puts)
+    let same : Appends a c (output H) = subst (λ (o : Option (List ℕ)). Appends a o (output H)) (sym does.4) puts in
+    subst (Appends a c) (sym (ap output does.1 ∙ output-append H (take does.0 (line_entries (replay H) line)) ∙ ap (λ (l : List ℕ). output H ++ l) (part_silent (replay H) line does.0 does.2) ∙ append-nil (output H))) same
 line_answers Done line H G a b c k m n does puts later cause = absurd does
 line_answers Refused line H G a b c k m n does puts later cause = absurd does
 line_answers SourceFault line H G a b c k m n does puts later cause = absurd does
@@ -77,13 +77,8 @@ pub line_source : (ending : Ending) (says : Line) (input : Option (List ℕ)) (H
     DoesLine (Err ending) says H G b c → ReachedBy input H n old now → GivesLine old new now after line → meaning_of line.text ≡ Ok says → new.read + length new.bytes ≤ 16777217 →
     IsOfSource ending input after (with_halt G)
 line_source OutFault says input H G n old new now after line b c does r gives means few = some_after input G (n + 1) new after (next input H G n old new now after line says r gives means few does.0)
-line_source NoRoom says input H G n old new now after line b c does r gives means few = elim (does.0) [
-  | inl e ↦ subst (λ (F : List Entry). IsOfSource NoRoom input after (with_halt F)) (sym e) (some_before input H n old new now after line r gives)
-  | inr takes ↦ some_after input G (n + 1) new after (next input H G n old new now after line says r gives means few takes)
-]
-line_source Full says input H G n old new now after line b c does r gives means few =
-    subst (λ (F : List Entry). IsOfSource Full input after (with_halt F)) (sym does.0)
-    (full input H n old new now after line does.2.0 r gives (means ∙ ap (λ (s : Line). Ok s) does.2.1) few does.1)
+line_source NoRoom says input H G n old new now after line b c does r gives means few = some_part input H G n old new now after line says does.0 r gives means few does.1
+line_source Full says input H G n old new now after line b c does r gives means few = full input H G n old new now after line says does.0 r gives means few does.1 does.2 does.3
 line_source Done says input H G n old new now after line b c does r gives means few = absurd does
 line_source Refused says input H G n old new now after line b c does r gives means few = absurd does
 line_source SourceFault says input H G n old new now after line b c does r gives means few = absurd does
@@ -91,23 +86,40 @@ line_source JournalFault says input H G n old new now after line b c does r give
 line_source (NoMemoryAt number fault) says input H G n old new now after line b c does r gives means few = absurd does
 line_source (BadLine number fault) says input H G n old new now after line b c does r gives means few = absurd does
 
+as_no_room : (input after : Option (List ℕ)) (W : List Entry) → IsOfSource OutFault input after W → IsOfSource NoRoom input after W
+as_no_room None after W h = tt
+as_no_room (Some input) None W h = absurd h
+as_no_room (Some input) (Some left) W h = h
+
+some_of_source : (input after : Option (List ℕ)) (W : List Entry) → IsOfSource NoRoom input after W → IsOfSomeSource input W
+some_of_source None after W h = tt
+some_of_source (Some input) None W h = absurd h
+some_of_source (Some input) (Some left) W h = h
+
+full_of_source : (input after : Option (List ℕ)) (W : List Entry) → IsOfSource Full input after W → IsOfSomeSource input W
+full_of_source None after W h = tt
+full_of_source (Some input) None W h = absurd h
+full_of_source (Some input) (Some left) W h = record {
+  done = h.done;
+  left = h.next ∷ h.left;
+  part = take h.part (line_entries (replay (entries h.done)) h.next);
+  lines = h.lines;
+  next = (h.part, refl);
+  history_is = h.history_is;
+}
+
 -- and it is that of some first lines
-pub line_some : (ending : Ending) (says : Line) (input : Option (List ℕ)) (H G : List Entry) (n : ℕ) (old new : Held) (now after : Option (List ℕ)) (line : ScriptLine) (b c : Option (List ℕ)) →
-    DoesLine (Err ending) says H G b c → ReachedBy input H n old now → GivesLine old new now after line → meaning_of line.text ≡ Ok says → new.read + length new.bytes ≤ 16777217 →
+pub line_some : (ending : Ending) (says : Line) (input after : Option (List ℕ)) (H G : List Entry) (b c : Option (List ℕ)) → DoesLine (Err ending) says H G b c → IsOfSource ending input after (with_halt G) →
     IsOfSomeSource input (with_halt G)
-line_some OutFault says input H G n old new now after line b c does r gives means few = some input G (n + 1) new after (next input H G n old new now after line says r gives means few does.0)
-line_some NoRoom says input H G n old new now after line b c does r gives means few = elim (does.0) [
-  | inl e ↦ subst (λ (F : List Entry). IsOfSomeSource input (with_halt F)) (sym e) (some input H n old now r)
-  | inr takes ↦ some input G (n + 1) new after (next input H G n old new now after line says r gives means few takes)
-]
-line_some Full says input H G n old new now after line b c does r gives means few =
-    subst (λ (F : List Entry). IsOfSomeSource input (with_halt F)) (sym does.0) (some input H n old now r)
-line_some Done says input H G n old new now after line b c does r gives means few = absurd does
-line_some Refused says input H G n old new now after line b c does r gives means few = absurd does
-line_some SourceFault says input H G n old new now after line b c does r gives means few = absurd does
-line_some JournalFault says input H G n old new now after line b c does r gives means few = absurd does
-line_some (NoMemoryAt number fault) says input H G n old new now after line b c does r gives means few = absurd does
-line_some (BadLine number fault) says input H G n old new now after line b c does r gives means few = absurd does
+line_some OutFault says input after H G b c does h = some_of_source input after (with_halt G) (as_no_room input after (with_halt G) h)
+line_some NoRoom says input after H G b c does h = some_of_source input after (with_halt G) h
+line_some Full says input after H G b c does h = full_of_source input after (with_halt G) h
+line_some Done says input after H G b c does h = absurd does
+line_some Refused says input after H G b c does h = absurd does
+line_some SourceFault says input after H G b c does h = absurd does
+line_some JournalFault says input after H G b c does h = absurd does
+line_some (NoMemoryAt number fault) says input after H G b c does h = absurd does
+line_some (BadLine number fault) says input after H G b c does h = absurd does
 
 -- a line doesn't fail the source
 pub line_cause : (ending : Ending) (says : Line) (H G : List Entry) (b c : Option (List ℕ)) → DoesLine (Err ending) says H G b c → ending ≡ SourceFault → ⊥

@@ -1,5 +1,5 @@
 -- How far a script is read: one line more, a fault, the end.
-use Rattle.std.proofs.Common.{◌≡◌, ℕ, ◌+◌, ◌<◌, List, [], ◌∷◌, ◌++◌, length, Bool, true, false, cond, refl, Option, Some, None, Ok, Err, sym, ◌∙◌, ap, append_assoc, arith, filter}
+use Rattle.std.proofs.Common.{◌≡◌, ℕ, ◌+◌, ◌<◌, List, [], ◌∷◌, ◌++◌, length, take, Bool, true, false, cond, refl, Option, Some, None, Ok, Err, sym, ◌∙◌, ap, append_assoc, arith, filter}
 use Rattle.std.proofs.lemmas.List.{append-nil}
 use Rattle.swarm_objects.specs.declared.calls.Entry.{Entry}
 use Rattle.swarm_script.specs.declared.Line.{Line}
@@ -135,10 +135,37 @@ reached_start (Some input) = (
   refl,
 )
 
+-- nothing was done of the next line
+begins_none : (w : World) (left : List Line) → BeginsNext w left []
+begins_none w [] = refl
+begins_none w (line ∷ lines) = (0, refl)
+
 -- the history of the lines so far is that of some first lines
+pub some_of : (script : Reading) (said more : List Line) (H : List Entry) → script.said ≡ said ++ more → H ≡ entries said → IsOfSome script (with_halt H)
+some_of script said more H lines made = record {
+  done = said;
+  left = more;
+  part = [];
+  lines = lines;
+  next = begins_none (replay (entries said)) more;
+  history_is = ap with_halt (made ∙ sym (append-nil (entries said)));
+}
+
+-- and so it is with a part of the next line
+pub part_of : (script : Reading) (said more : List Line) (line : Line) (n : ℕ) (H G : List Entry) → script.said ≡ said ++ line ∷ more → H ≡ entries said → G ≡ H ++ take n (line_entries (replay H) line) →
+    IsOfSome script (with_halt G)
+part_of script said more line n H G lines made takes = record {
+  done = said;
+  left = line ∷ more;
+  part = take n (line_entries (replay (entries said)) line);
+  lines = lines;
+  next = (n, refl);
+  history_is = ap with_halt (takes ∙ ap (λ (F : List Entry). F ++ take n (line_entries (replay F) line)) made);
+}
+
 pub some : (input : Option (List ℕ)) (H : List Entry) (n : ℕ) (held : Held) (now : Option (List ℕ)) → ReachedBy input H n held now → IsOfSomeSource input (with_halt H)
 some None H n held now r = tt
 some (Some input) H n held None r = absurd r
 some (Some input) H n held (Some left) r =
     let more = says_more input r.0 n held left r.1 in
-    record { done = r.0; left = more.more; lines = more.lines; serial_is = ap with_halt r.2 }
+    some_of (reading input) r.0 more.more H more.lines r.2

@@ -88,11 +88,13 @@ pub replies-append : (w : World) (H G : List Entry) → replies_from w (H ++ G) 
 replies-append w [] G = refl
 replies-append w (e ∷ H) G = ap (λ rs. step_reply w e ∷ rs) (replies-append (step_world w e) H G)
 
+-- what further entries put out
+pub output-append : (H G : List Entry) → output (H ++ G) ≡ output H ++ flat_map reply_text (replies_from (replay H) G)
+output-append H G = ap (flat_map reply_text) (replies-append empty_world H G) ∙ flat_map-append reply_text (replies_from empty_world H) (replies_from (replay H) G)
+
 -- what a line's entries put out
 pub output-line : (H : List Entry) (line : Line) → output (H ++ line_entries (replay H) line) ≡ output H ++ line_out H line
-output-line H line =
-    ap (flat_map reply_text) (replies-append empty_world H (line_entries (replay H) line)) ∙
-    flat_map-append reply_text (replies_from empty_world H) (replies_from (replay H) (line_entries (replay H) line))
+output-line H line = output-append H (line_entries (replay H) line)
 
 pub refused-line : (H : List Entry) (line : Line) → has_refusal (H ++ line_entries (replay H) line) ≡ (has_refusal H || line_refused H line)
 refused-line H line =

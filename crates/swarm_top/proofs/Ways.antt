@@ -1,21 +1,19 @@
 -- The ways of a reading: one line more, a fault, the end.
-use Rattle.std.proofs.Common.{◌≡◌, ℕ, ◌+◌, ◌≤◌, ◌<◌, List, [], ◌∷◌, ◌++◌, length, Bool, true, false, not, cond, refl, Option, Some, None, Ok, Err, sym, ◌∙◌, ap, subst, append_assoc, arith, filter}
+use Rattle.std.proofs.Common.{◌≡◌, ℕ, ◌+◌, ◌≤◌, ◌<◌, List, [], ◌∷◌, ◌++◌, length, take, Bool, true, false, not, cond, refl, Option, Some, None, Ok, Err, sym, ◌∙◌, ap, subst, append_assoc, arith, filter}
 use Rattle.std.specs.Io.KnownBytes.{Consumes}
 use Rattle.std.proofs.lemmas.List.{append-nil, length-append}
 use Rattle.swarm_objects.specs.History.{replay}
 use Rattle.swarm_objects.specs.World.{empty_world}
 use Rattle.swarm_objects.specs.Calls.{most_entries}
-use Rattle.swarm_objects.specs.declared.calls.Call.{Call}
 use Rattle.swarm_objects.specs.declared.calls.Entry.{Entry}
 use Rattle.swarm_script.specs.Script.{meaning_of}
 use Rattle.swarm_script.specs.declared.Line.{Line}
-use Rattle.swarm_script.specs.declared.Line.TheVariants.{Call as CallLine}
 use Rattle.swarm_top.specs.Lines.{lines_of, bytes_of, has_newline, whole_lines}
 use Rattle.swarm_top.specs.Reading.{Reading, reading, reading_of, meaning_at, in_text, most_bytes}
 use Rattle.swarm_top.specs.Serial.{entries, line_entries}
 use Rattle.swarm_top.specs.Held.{Held, has_newline_in, to_read, TakesOn, IsNextLine, Gives, GivesLine, MeansFault}
 use Rattle.swarm_top.specs.Theorem.{IsOfAll, IsOfGood, IsOfSource}
-use Rattle.swarm_top.specs.Parts.{IsWhole, Reached, ReachedBy, with_halt, ending_of, SaysLine}
+use Rattle.swarm_top.specs.Parts.{IsWhole, TakesPart, Reached, ReachedBy, with_halt, ending_of, SaysLine}
 use Rattle.swarm_top.specs.declared.faults.Fault.{Fault}
 use Rattle.swarm_top.specs.declared.faults.Fault.TheVariants.{Size, Text}
 use Rattle.swarm_top.specs.declared.input.ScriptLine.{ScriptLine}
@@ -25,7 +23,7 @@ use Rattle.swarm_top.specs.declared.endings.Ending.{Ending}
 use Rattle.swarm_top.specs.declared.endings.Ending.TheVariants.{Done, Refused, ReadFault as SourceFault, OutFault, JournalFault, NoMemory as NoRoom, NoMemoryAt, BadLine, Full}
 use Rattle.swarm_top.proofs.LinesOf.{lines_open, meaning_within}
 use Rattle.swarm_top.proofs.Readings.{good, entries-snoc}
-use Rattle.swarm_top.proofs.Reaching.{says_more, read_line, read_bad, all_read, step_whole, alone, closed}
+use Rattle.swarm_top.proofs.Reaching.{says_more, some_of, part_of, read_line, read_bad, all_read, step_whole, alone, closed}
 
 -- What was taken.
 
@@ -114,7 +112,7 @@ reader_fault (Some input) H n old new (Some left) None fault r takes means = abs
 reader_fault (Some input) H n old new (Some left) (Some rest) (Bad fault) r takes means = bad input r.0 n old left H means.line means.more fault r.1 r.2 means.lines means.meaning
 reader_fault (Some input) H n old new (Some left) (Some rest) NoMemory r takes means =
     let more = says_more input r.0 n old left r.1 in
-    record { done = r.0; left = more.more; lines = more.lines; serial_is = ap with_halt r.2 }
+    some_of (reading input) r.0 more.more H more.lines r.2
 reader_fault (Some input) H n old new (Some left) (Some rest) Failed r takes means =
     let at = r.1 in
     let whole = at.unfinished (sym takes.finished ∙ means.1) in
@@ -152,7 +150,7 @@ text_fault (Some input) H n old new (Some left) (Some rest) line (BadLine m (Tex
     (bad input r.0 n old left H line (lines_of (new.bytes ++ rest)) (Text fault) r.1 r.2 (next_lines (old.bytes ++ left) (new.bytes ++ rest) line gives.reads gives.some) meaning)
 text_fault (Some input) H n old new (Some left) (Some rest) line NoRoom r gives says =
     let more = says_more input r.0 n old left r.1 in
-    record { done = r.0; left = more.more; lines = more.lines; serial_is = ap with_halt r.2 }
+    some_of (reading input) r.0 more.more H more.lines r.2
 text_fault (Some input) H n old new (Some left) (Some rest) line (BadLine m Size) r gives says = absurd says
 text_fault (Some input) H n old new (Some left) (Some rest) line Done r gives says = absurd says
 text_fault (Some input) H n old new (Some left) (Some rest) line Refused r gives says = absurd says
@@ -199,38 +197,48 @@ next (Some input) H G n old new (Some left) None line says r gives means few e =
 next (Some input) H G n old new (Some left) (Some rest) line says r gives means few e =
     (r.0 ++ says ∷ [], next_reached input r.0 n old new left rest line says r.1 gives means few, made_more H G r.0 says r.2 e)
 
--- the run ends at a line, before its call is made
-pub some_before : (input : Option (List ℕ)) (H : List Entry) (n : ℕ) (old new : Held) (now after : Option (List ℕ)) (line : ScriptLine) → ReachedBy input H n old now → GivesLine old new now after line →
-    IsOfSource NoRoom input after (with_halt H)
-some_before None H n old new now after line r gives = tt
-some_before (Some input) H n old new None after line r gives = absurd r
-some_before (Some input) H n old new (Some left) None line r gives = absurd gives.reads
-some_before (Some input) H n old new (Some left) (Some rest) line r gives =
-    let more = says_more input r.0 n old left r.1 in
-    record { done = r.0; left = more.more; lines = more.lines; serial_is = ap with_halt r.2 }
-
--- or after it
+-- the run ends after a line
 pub some_after : (input : Option (List ℕ)) (H : List Entry) (n : ℕ) (held : Held) (now : Option (List ℕ)) → ReachedBy input H n held now → IsOfSource NoRoom input now (with_halt H)
 some_after None H n held now r = tt
 some_after (Some input) H n held None r = absurd r
 some_after (Some input) H n held (Some left) r =
     let more = says_more input r.0 n held left r.1 in
-    record { done = r.0; left = more.more; lines = more.lines; serial_is = ap with_halt r.2 }
+    some_of (reading input) r.0 more.more H more.lines r.2
+
+-- what the script says, where a line more is read
+more_lines : (input : List ℕ) (said : List Line) (n : ℕ) (old new : Held) (left rest : List ℕ) (line : ScriptLine) (says : Line) → Reached input said n old left → GivesLine old new (Some left) (Some rest) line →
+    meaning_of line.text ≡ Ok says → new.read + length new.bytes ≤ 16777217 → (more : List Line) × ((reading input).said ≡ said ++ says ∷ more)
+more_lines input said n old new left rest line says r gives means few =
+    let more = says_more input (said ++ says ∷ []) (n + 1) new rest (next_reached input said n old new left rest line says r gives means few) in
+    (more.more, more.lines ∙ append_assoc said (says ∷ []) more.more)
+
+-- it ends within a line
+pub some_part : (input : Option (List ℕ)) (H G : List Entry) (n : ℕ) (old new : Held) (now after : Option (List ℕ)) (line : ScriptLine) (says : Line) (k : ℕ) → ReachedBy input H n old now →
+    GivesLine old new now after line → meaning_of line.text ≡ Ok says → new.read + length new.bytes ≤ 16777217 → TakesPart says k H G → IsOfSource NoRoom input after (with_halt G)
+some_part None H G n old new now after line says k r gives means few takes = tt
+some_part (Some input) H G n old new None after line says k r gives means few takes = absurd r
+some_part (Some input) H G n old new (Some left) None line says k r gives means few takes = absurd gives.reads
+some_part (Some input) H G n old new (Some left) (Some rest) line says k r gives means few takes =
+    let more = more_lines input r.0 n old new left rest line says r.1 gives means few in
+    part_of (reading input) r.0 more.0 says k H G more.1 r.2 takes
 
 -- or because the history is full
-pub full : (input : Option (List ℕ)) (H : List Entry) (n : ℕ) (old new : Held) (now after : Option (List ℕ)) (line : ScriptLine) (call : Call) → ReachedBy input H n old now → GivesLine old new now after line →
-    meaning_of line.text ≡ Ok (CallLine call) → new.read + length new.bytes ≤ 16777217 → length H ≡ most_entries → IsOfSource Full input after (with_halt H)
-full None H n old new now after line call r gives means few count = tt
-full (Some input) H n old new None after line call r gives means few count = absurd r
-full (Some input) H n old new (Some left) None line call r gives means few count = absurd gives.reads
-full (Some input) H n old new (Some left) (Some rest) line call r gives means few count =
-    let at = next_reached input r.0 n old new left rest line (CallLine call) r.1 gives means few in
-    let more = says_more input (r.0 ++ CallLine call ∷ []) (n + 1) new rest at in
+pub full : (input : Option (List ℕ)) (H G : List Entry) (n : ℕ) (old new : Held) (now after : Option (List ℕ)) (line : ScriptLine) (says : Line) (k : ℕ) → ReachedBy input H n old now →
+    GivesLine old new now after line → meaning_of line.text ≡ Ok says → new.read + length new.bytes ≤ 16777217 → TakesPart says k H G → k < length (line_entries (replay H) says) →
+    length G ≡ most_entries → IsOfSource Full input after (with_halt G)
+full None H G n old new now after line says k r gives means few takes inside count = tt
+full (Some input) H G n old new None after line says k r gives means few takes inside count = absurd r
+full (Some input) H G n old new (Some left) None line says k r gives means few takes inside count = absurd gives.reads
+full (Some input) H G n old new (Some left) (Some rest) line says k r gives means few takes inside count =
+    let more = more_lines input r.0 n old new left rest line says r.1 gives means few in
+    let is : G ≡ entries r.0 ++ take k (line_entries (replay (entries r.0)) says) = takes ∙ ap (λ (F : List Entry). F ++ take k (line_entries (replay F) says)) r.2 in
     record {
       done = r.0;
-      refused = call;
-      left = more.more;
-      lines = more.lines ∙ append_assoc r.0 (CallLine call ∷ []) more.more;
-      serial_is = ap with_halt r.2;
-      count = ap (λ (l : List Entry). length l) (sym r.2) ∙ count;
+      next = says;
+      left = more.0;
+      part = k;
+      lines = more.1;
+      more = subst (λ (F : List Entry). k < length (line_entries (replay F) says)) r.2 inside;
+      history_is = ap with_halt is;
+      count = ap (λ (l : List Entry). length l) (sym is) ∙ count;
     }

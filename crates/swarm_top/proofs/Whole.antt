@@ -1,11 +1,11 @@
 -- The parts of a run make the whole theorem.
-use Rattle.std.proofs.Common.{◌≡◌, ◌⊎◌, inl, inr, ℕ, ◌≤◌, List, [], ◌∷◌, ◌++◌, length, Bool, true, false, ◌||◌, cond, refl, Option, Some, None, Result, Ok, Err, sym, ◌∙◌, ap, subst, arith, nat_lt, append_assoc}
+use Rattle.std.proofs.Common.{◌≡◌, ◌⊎◌, inl, inr, ℕ, ◌≤◌, List, [], ◌∷◌, ◌++◌, length, take, Bool, true, false, ◌||◌, cond, refl, Option, Some, None, Result, Ok, Err, sym, ◌∙◌, ap, subst, arith, nat_lt, append_assoc}
 use Rattle.std.specs.Prelude.{is_some}
 use Rattle.std.specs.List.{flat_map, list_any}
 use Rattle.std.specs.Io.KnownBytes.{Appends, Consumes}
 use Rattle.std.proofs.lemmas.Bool.Decides.{nat_tests}
 use Rattle.std.proofs.lemmas.Grind.{flat_map-append}
-use Rattle.std.proofs.lemmas.List.{append-nil, length-append}
+use Rattle.std.proofs.lemmas.List.{append-nil, length-append, length-take}
 use Rattle.std.proofs.lemmas.List.Folds.{list_any-append}
 use Rattle.swarm_objects.specs.Outside.{Rose, AppendsPrefix, PutsPiece}
 use Rattle.swarm_objects.specs.World.{World, empty_world}
@@ -16,7 +16,6 @@ use Rattle.swarm_objects.specs.declared.calls.Entry.{Entry}
 use Rattle.swarm_objects.proofs.Histories.{entries-legal, replay-append}
 use Rattle.swarm_print.specs.Texts.{reply_text}
 use Rattle.swarm_script.specs.declared.Line.{Line}
-use Rattle.swarm_script.specs.declared.Line.TheVariants.{Call as CallLine}
 use Rattle.swarm_top.specs.Reading.{Reading, reading, bad_line}
 use Rattle.swarm_top.specs.Serial.{entry_of, entries, entries_from, line_entries, serial, output, journal, has_refusal, is_refused}
 use Rattle.swarm_top.specs.Ends.{end_of, PutsUnlessFailed}
@@ -29,6 +28,7 @@ use Rattle.swarm_top.specs.declared.endings.Ending.{Ending}
 use Rattle.swarm_top.specs.declared.endings.Ending.TheVariants.{Done, Refused, ReadFault, OutFault, JournalFault, NoMemory, NoMemoryAt, BadLine, Full}
 use Rattle.swarm_top.proofs.Prefixes.{appends_more, prefix_all, prefix_of, prefix_more, prefix_none, consumes_none}
 use Rattle.swarm_top.proofs.Readings.{replies-append}
+use Rattle.swarm_top.proofs.Reaching.{some_of}
 use Rattle.swarm_top.proofs.Answering.{rose_later}
 
 -- Halt puts nothing out, and is not refused.
@@ -288,9 +288,19 @@ entries-append w (x ∷ xs) ys =
 
 many_said : (s : Reading) (W : List Entry) → IsOfFull s W → nat_lt most_entries (length (entries s.said)) ≡ true
 many_said s W h =
-    let parts = ap entries h.lines ∙ entries-append empty_world h.done (CallLine h.refused ∷ h.left) in
+    let es = line_entries (replay (entries h.done)) h.next in
+    let parts = ap entries h.lines ∙ entries-append empty_world h.done (h.next ∷ h.left) in
     let size : 300001 ≤ length (entries s.said) =
-    omega (arith, ap (λ (l : List Entry). length l) parts, length-append (entries h.done) (entries_from (replay (entries h.done)) (CallLine h.refused ∷ h.left)), h.count) in
+    omega (
+      arith,
+      ap (λ (l : List Entry). length l) parts,
+      length-append (entries h.done) (entries_from (replay (entries h.done)) (h.next ∷ h.left)),
+      length-append es (entries_from (replay_from (replay (entries h.done)) es) h.left),
+      length-append (entries h.done) (take h.part es),
+      length-take h.part es,
+      h.more,
+      h.count,
+    ) in
     grind (arith, nat_tests)
 
 quiet : (e : Ending) (a b : Option (List ℕ)) (m n : ℕ) (x z : Option (List ℕ)) (k j : ℕ) (p q : Option (List ℕ)) (u v : ℕ) (W : List Entry) → IsLegal W → IsDone e a b m n x z k j p q u v W →
@@ -344,7 +354,7 @@ alone = (refl, tt)
 
 some_none : (a : Option (List ℕ)) → IsOfSource NoMemory a a (with_halt [])
 some_none None = tt
-some_none (Some input) = record { done = []; left = (reading input).said; lines = refl; serial_is = refl }
+some_none (Some input) = some_of (reading input) [] (reading input).said [] refl refl
 
 -- there was no room for a world
 pub is_no_run : (a : Option (List ℕ)) (m : ℕ) (x : Option (List ℕ)) (k : ℕ) (p : Option (List ℕ)) (u : ℕ) → IsRun (end_of a a m m) (end_of x x k k) (end_of p p u u) 5

@@ -1,5 +1,5 @@
 -- What the parts of a run do.
-use Rattle.std.specs.Prelude.{ℕ, ◌≡◌, ◌⊎◌, ◌+◌, ◌≤◌, List, [], ◌∷◌, ◌++◌, length, Bool, true, false, not, if◌then◌else◌, Option, Some, None, Result, Ok, Err, ⊤}
+use Rattle.std.specs.Prelude.{ℕ, ◌≡◌, ◌+◌, ◌≤◌, ◌<◌, take, List, [], ◌∷◌, ◌++◌, length, Bool, true, false, not, if◌then◌else◌, Option, Some, None, Result, Ok, Err, ⊤}
 use Rattle.std.specs.List.{flat_map, list_any}
 use Rattle.std.specs.Io.KnownBytes.{Appends}
 use Rattle.swarm_objects.specs.Calls.{most_entries, is_halt}
@@ -12,10 +12,10 @@ use Rattle.swarm_objects.specs.declared.calls.Reply.{Reply}
 use Rattle.swarm_print.specs.Texts.{reply_text}
 use Rattle.swarm_script.specs.declared.Line.{Line}
 use Rattle.swarm_script.specs.declared.LineFault.{LineFault}
-use Rattle.swarm_script.specs.declared.Line.TheVariants.{Blank, Call as CallLine}
+use Rattle.swarm_script.specs.declared.Line.TheVariants.{Blank, Call as CallLine, Settle as SettleLine}
 use Rattle.swarm_top.specs.Lines.{lines_of, whole_lines}
 use Rattle.swarm_top.specs.Reading.{reading, most_bytes, bad_line}
-use Rattle.swarm_top.specs.Serial.{entry_of, line_entries, entries, is_refused, output, has_refusal}
+use Rattle.swarm_top.specs.Serial.{entry_of, line_entries, settle_entries, entries, is_refused, output, has_refusal}
 use Rattle.swarm_top.specs.Ends.{End, HasFailed, Puts, PutsPrefix, PutsUnlessFailed}
 use Rattle.swarm_top.specs.Held.{Held}
 use Rattle.swarm_top.specs.Theorem.{IsOfSource, IsOfSome, TakesFew}
@@ -39,19 +39,21 @@ line_out history line = flat_map reply_text (line_replies history line)
 abbrev pub line_refused : List Entry → Line → Bool
 line_refused history line = list_any is_refused (line_replies history line)
 
--- the new history has the line's entries more
+-- the new history has all of the line's entries more
 abbrev pub TakesLine : Line → List Entry → List Entry → Type 0
 TakesLine line old new = new ≡ old ++ line_entries (replay old) line
 
-abbrev pub IsCall : Line → Type 0
-IsCall line = (call : Call) × (line ≡ CallLine call)
+-- the new history has the first n of the line's entries more
+abbrev pub TakesPart : Line → ℕ → List Entry → List Entry → Type 0
+TakesPart line n old new = new ≡ old ++ take n (line_entries (replay old) line)
 
 -- what a line did to the history and to the output, by its result: whether it was refused, or how the run ends
 abbrev pub DoesLine : Result Bool Ending → Line → List Entry → List Entry → Option (List ℕ) → Option (List ℕ) → Type 0
 DoesLine (Ok refused) line old new out out_after = TakesLine line old new × Appends out out_after (line_out old line) × (refused ≡ line_refused old line)
 DoesLine (Err OutFault) line old new out out_after = TakesLine line old new × AppendsPrefix out out_after (line_out old line)
-DoesLine (Err NoMemory) line old new out out_after = ((new ≡ old) ⊎ TakesLine line old new) × (out_after ≡ out)
-DoesLine (Err Full) line old new out out_after = (new ≡ old) × (length old ≡ most_entries) × IsCall line × (out_after ≡ out)
+DoesLine (Err NoMemory) line old new out out_after = (n : ℕ) × TakesPart line n old new × (out_after ≡ out)
+DoesLine (Err Full) line old new out out_after =
+    (n : ℕ) × TakesPart line n old new × (n < length (line_entries (replay old) line)) × (length new ≡ most_entries) × (out_after ≡ out)
 DoesLine (Err Done) line old new out out_after = ⊥
 DoesLine (Err Refused) line old new out out_after = ⊥
 DoesLine (Err ReadFault) line old new out out_after = ⊥
@@ -133,6 +135,28 @@ TellsEnding before after out = (after ≡ before) × (out.after ≡ out.before) 
 abbrev pub line_runs : Line → Bool
 line_runs Blank = true
 line_runs (CallLine call) = not (is_halt call)
+line_runs (SettleLine budget) = true
+
+-- A settle line's duties.
+
+-- of the duties that the settle test names, the first were taken, and these are left
+pub record Settling (budget left : ℕ) (old now : List Entry) : Type 0 where
+  pub taken : List Entry
+  pub history : now ≡ old ++ taken
+  pub whole : settle_entries budget (replay old) ≡ taken ++ settle_entries left (replay now)
+
+-- how the run ends where not all of them were taken
+abbrev pub StopsSettling : Ending → ℕ → List Entry → List Entry → Type 0
+StopsSettling NoMemory budget old new = (n : ℕ) × (new ≡ old ++ take n (settle_entries budget (replay old)))
+StopsSettling Full budget old new =
+    (n : ℕ) × (new ≡ old ++ take n (settle_entries budget (replay old))) × (n < length (settle_entries budget (replay old))) × (length new ≡ most_entries)
+StopsSettling Done budget old new = ⊥
+StopsSettling Refused budget old new = ⊥
+StopsSettling ReadFault budget old new = ⊥
+StopsSettling OutFault budget old new = ⊥
+StopsSettling JournalFault budget old new = ⊥
+StopsSettling (NoMemoryAt number fault) budget old new = ⊥
+StopsSettling (BadLine number fault) budget old new = ⊥
 
 -- what the text of the line with this number says, or how the run ends there
 abbrev pub SaysLine : ℕ → Result Line LineFault → Result Line Ending → Type 0

@@ -1,15 +1,15 @@
 -- What a run promises: one legal history, what it has to do with the script, and what was put of it.
-use Rattle.std.specs.Prelude.{ℕ, ◌+◌, ◌≡◌, ◌⊎◌, ◌≤◌, nat_lt, List, ◌∷◌, ◌++◌, length, true, false, if◌then◌else◌, Option, Some, None, is_some, ⊤}
+use Rattle.std.specs.Prelude.{ℕ, ◌+◌, ◌≡◌, ◌⊎◌, ◌≤◌, ◌<◌, nat_lt, take, List, ◌∷◌, ◌++◌, length, true, false, if◌then◌else◌, Option, Some, None, is_some, ⊤}
 use Rattle.std.specs.Io.KnownBytes.{Consumes}
 use Rattle.swarm_objects.specs.Calls.{most_entries}
-use Rattle.swarm_objects.specs.History.{IsLegal}
-use Rattle.swarm_objects.specs.declared.calls.Call.{Call}
+use Rattle.swarm_objects.specs.History.{IsLegal, replay}
+use Rattle.swarm_objects.specs.World.{World}
+use Rattle.swarm_objects.specs.declared.calls.Call.TheVariants.{Halt}
 use Rattle.swarm_objects.specs.declared.calls.Entry.{Entry}
 use Rattle.swarm_script.specs.declared.Line.{Line}
-use Rattle.swarm_script.specs.declared.Line.TheVariants.{Call as CallLine}
 use Rattle.swarm_top.specs.Lines.{whole_lines}
 use Rattle.swarm_top.specs.Reading.{Reading, reading, reading_of, most_bytes, bad_line}
-use Rattle.swarm_top.specs.Serial.{entries, serial, output, journal, has_refusal}
+use Rattle.swarm_top.specs.Serial.{entry_of, line_entries, entries, serial, output, journal, has_refusal}
 use Rattle.swarm_top.specs.Ends.{End, HasFailed, Puts, PutsPrefix, PutsUnlessFailed}
 use Rattle.swarm_top.specs.declared.faults.Fault.{Fault}
 use Rattle.swarm_top.specs.declared.endings.Ending.{Ending}
@@ -37,21 +37,30 @@ IsOfAll script history = (script.bad ≡ None) × (history ≡ serial script.sai
 abbrev pub IsOfGood : ℕ → Fault → Reading → List Entry → Type 0
 IsOfGood number fault script history = (script.bad ≡ Some (number, fault)) × (history ≡ serial script.said)
 
--- the history is that of some first lines
+-- the first entries that the next line makes
+abbrev pub BeginsNext : World → List Line → List Entry → Type 0
+BeginsNext w [] part = part ≡ []
+BeginsNext w (line ∷ lines) part = (n : ℕ) × (part ≡ take n (line_entries w line))
+
+-- the history is that of some first lines and of what was done of the next one
 pub record IsOfSome (script : Reading) (history : List Entry) : Type 0 where
   pub done : List Line
   pub left : List Line
+  pub part : List Entry
   pub lines : script.said ≡ done ++ left
-  pub serial_is : history ≡ serial done
+  pub next : BeginsNext (replay (entries done)) left part
+  pub history_is : history ≡ (entries done ++ part) ++ entry_of Halt ∷ []
 
--- the history is that of some first lines, it has no room for more, and the next line makes a call
+-- it has no room for more, and the next line makes more
 pub record IsOfFull (script : Reading) (history : List Entry) : Type 0 where
   pub done : List Line
-  pub refused : Call
+  pub next : Line
   pub left : List Line
-  pub lines : script.said ≡ done ++ CallLine refused ∷ left
-  pub serial_is : history ≡ serial done
-  pub count : length (entries done) ≡ most_entries
+  pub part : ℕ
+  pub lines : script.said ≡ done ++ next ∷ left
+  pub more : part < length (line_entries (replay (entries done)) next)
+  pub history_is : history ≡ (entries done ++ take part (line_entries (replay (entries done)) next)) ++ entry_of Halt ∷ []
+  pub count : length (entries done ++ take part (line_entries (replay (entries done)) next)) ≡ most_entries
 
 -- the history is that of the lines whose newline stands in the bytes that were taken
 pub record IsOfTaken (input left : List ℕ) (history : List Entry) : Type 0 where

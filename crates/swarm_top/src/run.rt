@@ -39,6 +39,17 @@ impl Model for Run {
     ghost invariant = { IsRunning };
 }
 
+// Answers a call, that of the settle test too.
+fn answer(plain: &mut Plain, call: &Call) -> Reply
+    requires { IsSmall (world_of plain.old) }
+    ensures { Meets (outcome (world_of plain.old) call.now) (world_of plain.old) result (world_of plain.new) }
+{
+    match call {
+        Call::Settle(budget) => settle_call(plain, *budget),
+        _ => plain.call(call),
+    }
+}
+
 impl Run {
     /// The empty history, with room for Halt.
     pub fn new(alloc: Global) -> Result<Run, AllocError>
@@ -65,7 +76,7 @@ impl Run {
             return Err(Unanswered::NoMemory);
         };
         let before = self.plain.entries;
-        let reply = self.plain.call(&call);
+        let reply = answer(&mut self.plain, &call);
         if self.plain.entries == before {
             return Err(Unanswered::NoMemory);
         }
@@ -75,6 +86,39 @@ impl Run {
         };
         match self.history.push(entry) {
             Ok(()) => Ok(reply),
+            Err(_) => unreachable!(),
+        }
+    }
+
+    /// Whether the world has settled, and what is to be done if it hasn't.
+    pub fn settle(&self) -> Result<Settle, NoMemory>
+        ensures { IfOk result (λ answer. answer ≡ settle_answer (replay self.now)) }
+    {
+        settle(&self.plain)
+    }
+
+    /// Does the duty that the settle test names, as caller 0, or says why it could not.
+    pub fn turn(&mut self, duty: Duty) -> Result<(), Unanswered>
+        requires { settle_answer (replay self.old) ≡ Settle.Busy duty }
+        ensures ok { OnOk result (AppendsDuty self.old duty self.new) }
+        ensures err { IfErr result (λ cause. AppendsNothing cause self.old self.new) }
+    {
+        if self.plain.entries >= HISTORY {
+            return Err(Unanswered::Full);
+        }
+        // an entry and Halt
+        let Ok(()) = self.history.reserve(2) else {
+            return Err(Unanswered::NoMemory);
+        };
+        let Ok(()) = do_duty(&mut self.plain, &duty) else {
+            return Err(Unanswered::NoMemory);
+        };
+        let entry = Entry {
+            by: 0,
+            what: What::Duty(duty),
+        };
+        match self.history.push(entry) {
+            Ok(()) => Ok(()),
             Err(_) => unreachable!(),
         }
     }

@@ -1,13 +1,14 @@
 // A script's lines, each called and answered.
-ghost use Rattle.std.specs.Prelude.{◌≡◌, [], ◌≤◌, true, false, IfOk, OnOk, IfErr, Ok, Err};
+ghost use Rattle.std.specs.Prelude.{◌≡◌, [], ◌++◌, ◌≤◌, true, false, IfOk, OnOk, IfErr, Ok, Err};
 ghost use Rattle.std.specs.Io.KnownBytes.{Appends};
 ghost use Rattle.swarm_objects.specs.Calls.{is_halt};
+ghost use Rattle.swarm_objects.specs.History.{replay};
 ghost use Rattle.swarm_objects.specs.Outside.{Rose, PutsPiece, HasCause};
 ghost use Rattle.swarm_script.specs.Journal.{call_has_text, line_has_text};
 ghost use Rattle.swarm_top.specs.Reading.{bad_line, meaning_at, in_text};
-ghost use Rattle.swarm_top.specs.Serial.{is_refused};
+ghost use Rattle.swarm_top.specs.Serial.{is_refused, settle_entries};
 ghost use Rattle.swarm_top.specs.Ends.{end_of};
-ghost use Rattle.swarm_top.specs.Parts.{ending_of, whole_ending, DoesLine, IsRead, TellsEnding, SaysLine, line_runs};
+ghost use Rattle.swarm_top.specs.Parts.{StopsSettling, ending_of, whole_ending, DoesLine, IsRead, TellsEnding, SaysLine, line_runs};
 ghost use Rattle.swarm_script.specs.Script.{meaning_of};
 
 use crate::endings::Ending;
@@ -15,7 +16,7 @@ use crate::faults::{Fault, bad_line};
 use crate::input::{Input, ReadFault};
 use crate::run::{Run, Unanswered};
 use std::alloc::Global;
-use swarm_objects::{Call, Failed, Reply, Sink, Source};
+use swarm_objects::{Call, Failed, NoMemory, Reply, Settle, Sink, Source};
 use swarm_print::reply_text;
 use swarm_script::{Line, LineFault, read_line};
 
@@ -81,6 +82,39 @@ fn answer<O: Sink>(alloc: Global, run: &mut Run, out: &mut O, call: Call) -> Res
     }
 }
 
+// Takes the duties that the settle test names, one after the other, until it names none or so many are taken.
+fn take_duties(run: &mut Run, budget: u64) -> Result<(), Ending>
+    ensures ok { OnOk result (run.new ≡ run.old ++ settle_entries budget (replay run.old)) }
+    ensures err { IfErr result (λ ending. StopsSettling ending budget run.old run.new) }
+{
+    for _ in 0..budget {
+        let duty = match run.settle() {
+            Ok(Settle::Busy(duty)) => duty,
+            Ok(Settle::Settled) => return Ok(()),
+            Err(NoMemory) => return Err(Ending::NoMemory),
+        };
+        match run.turn(duty) {
+            Ok(()) => {}
+            Err(Unanswered::Full) => return Err(Ending::Full),
+            Err(Unanswered::NoMemory) => return Err(Ending::NoMemory),
+        }
+    }
+    Ok(())
+}
+
+// Does a settle line: the duties, and then the call that asks.
+fn settle<O: Sink>(alloc: Global, run: &mut Run, out: &mut O, budget: u64) -> Result<bool, Ending>
+    requires text { call_has_text (Call.Settle budget) ≡ true }
+    ensures line { DoesLine result (Line.Settle budget) run.old run.new (O.written out.old) (O.written out.new) }
+    ensures later { O.faults out.old ≤ O.faults out.new }
+    ensures cause { result ≡ Err Ending.OutFault → Rose (O.faults out.old) (O.faults out.new) }
+{
+    match take_duties(run, budget) {
+        Ok(()) => answer(alloc, run, out, Call::Settle(budget)),
+        Err(ending) => Err(ending),
+    }
+}
+
 // Does what a line says. Says whether a call of it was refused, or how the run ends.
 fn take_line<O: Sink>(alloc: Global, run: &mut Run, out: &mut O, said: Line) -> Result<bool, Ending>
     requires running { line_runs said ≡ true }
@@ -92,6 +126,7 @@ fn take_line<O: Sink>(alloc: Global, run: &mut Run, out: &mut O, said: Line) -> 
     match said {
         Line::Blank => Ok(false),
         Line::Call(call) => answer(alloc, run, out, call),
+        Line::Settle(budget) => settle(alloc, run, out, budget),
     }
 }
 

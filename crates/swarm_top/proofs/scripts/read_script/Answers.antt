@@ -82,7 +82,7 @@ returns-in-Err-take_line g c =
     let does = c.in-Err-take_line.ensures.line in
     is_read _ ending _ _ _ _ _ _ _ _ after refl
     (line_source ending said _ run after number input c.next_line.new.self _ _ line _ _ does kept.reached gives means c.in-Ok-Some.ensures.few)
-    (line_some ending said _ run after number input c.next_line.new.self _ _ line _ _ does kept.reached gives means c.in-Ok-Some.ensures.few)
+    (line_some ending said _ _ run after _ _ does (line_source ending said _ run after number input c.next_line.new.self _ _ line _ _ does kept.reached gives means c.in-Ok-Some.ensures.few))
     (line_answers ending said run after _ _ _ _ _ _ does kept.out kept.later (λ e. c.in-Err-take_line.ensures.cause (ap (λ f. Err f) e)))
     (takes_line _ run number input c.next_line.new.self _ _ line kept.reached gives c.in-Ok-Some.ensures.few)
     (λ e. absurd {0} (line_cause ending said run after _ _ does e))

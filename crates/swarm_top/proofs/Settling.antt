@@ -1,0 +1,230 @@
+-- A settle line: its duties, and then the call that asks.
+use Rattle.std.proofs.Common.{◌≡◌, ℕ, zero, suc, ◌+◌, ◌-◌, ◌≤◌, ◌<◌, List, [], ◌∷◌, ◌++◌, length, take, Bool, true, false, ◌||◌, refl, Option, Result, Ok, Err, sym, ◌∙◌, ap, subst, append_assoc, arith}
+use Rattle.std.specs.List.{flat_map, list_any}
+use Rattle.std.specs.Io.KnownBytes.{Appends}
+use Rattle.std.proofs.lemmas.Grind.{flat_map-append}
+use Rattle.std.proofs.lemmas.List.{append-nil, length-append, take-append-le, take_all, length-take}
+use Rattle.std.proofs.lemmas.List.Folds.{list_any-append}
+use Rattle.swarm_objects.specs.World.{World, empty_world}
+use Rattle.swarm_objects.specs.Calls.{most_entries}
+use Rattle.swarm_objects.specs.Duties.{settle_answer}
+use Rattle.swarm_objects.specs.History.{replay, replay_from, replies_from, step_world}
+use Rattle.swarm_objects.specs.Outside.{AppendsPrefix}
+use Rattle.swarm_objects.specs.declared.calls.Call.{Call}
+use Rattle.swarm_objects.specs.declared.calls.Call.TheVariants.{Settle}
+use Rattle.swarm_objects.specs.declared.calls.Entry.{Entry}
+use Rattle.swarm_objects.specs.declared.duties.Duty.{Duty}
+use Rattle.swarm_objects.specs.declared.duties.Settle.{Settle as Answer}
+use Rattle.swarm_objects.specs.declared.duties.Settle.TheVariants.{Busy, Settled}
+use Rattle.swarm_objects.proofs.Histories.{replay-snoc, replay-append}
+use Rattle.swarm_print.specs.Texts.{reply_text}
+use Rattle.swarm_script.specs.declared.Line.{Line}
+use Rattle.swarm_script.specs.declared.Line.TheVariants.{Blank, Call as CallLine, Settle as SettleLine}
+use Rattle.swarm_top.specs.Serial.{entry_of, duty_entry, settle_entries, line_entries, is_refused, output, has_refusal}
+use Rattle.swarm_top.specs.Parts.{TakesLine, TakesPart, DoesLine, line_out, line_refused, Settling, StopsSettling}
+use Rattle.swarm_top.specs.declared.endings.Ending.{Ending}
+use Rattle.swarm_top.specs.declared.endings.Ending.TheVariants.{Done, Refused, ReadFault, OutFault, JournalFault, NoMemory, NoMemoryAt, BadLine, Full}
+use Rattle.swarm_top.proofs.Readings.{replies-append}
+
+-- Duties put nothing out, and none is refused.
+
+settle_step : (w : World) (n : ℕ) (answer : Answer) → settle_answer w ≡ answer → settle_entries (suc n) w ≡ elim answer [ Busy duty ↦ duty_entry duty ∷ settle_entries n (step_world w (duty_entry duty)) | Settled ↦ [] ]
+settle_step w n answer e = ap (λ (a : Answer). elim a [ Busy duty ↦ duty_entry duty ∷ settle_entries n (step_world w (duty_entry duty)) | Settled ↦ [] ]) e
+
+pub busy_step : (w : World) (n : ℕ) (duty : Duty) → settle_answer w ≡ Busy duty → settle_entries (suc n) w ≡ duty_entry duty ∷ settle_entries n (step_world w (duty_entry duty))
+busy_step w n duty e = settle_step w n (Busy duty) e
+
+pub settled_step : (w : World) (n : ℕ) → settle_answer w ≡ Settled → settle_entries n w ≡ []
+settled_step w zero e = refl
+settled_step w (suc n) e = settle_step w n Settled e
+
+silent_next : (k n : ℕ) (w : World) (answer : Answer) → settle_answer w ≡ answer → ((v : World) → flat_map reply_text (replies_from v (take k (settle_entries n v))) ≡ []) →
+    flat_map reply_text (replies_from w (take (suc k) (settle_entries (suc n) w))) ≡ []
+silent_next k n w (Busy duty) e rest = ap (λ (es : List Entry). flat_map reply_text (replies_from w (take (suc k) es))) (busy_step w n duty e) ∙ rest (step_world w (duty_entry duty))
+silent_next k n w Settled e rest = ap (λ (es : List Entry). flat_map reply_text (replies_from w (take (suc k) es))) (settled_step w (suc n) e)
+
+silent : (k n : ℕ) (w : World) → flat_map reply_text (replies_from w (take k (settle_entries n w))) ≡ []
+silent zero n w = refl
+silent (suc k) zero w = refl
+silent (suc k) (suc n) w = silent_next k n w (settle_answer w) refl (λ v. silent k n v)
+
+unrefused_next : (n : ℕ) (w : World) (answer : Answer) → settle_answer w ≡ answer → ((v : World) → list_any is_refused (replies_from v (settle_entries n v)) ≡ false) →
+    list_any is_refused (replies_from w (settle_entries (suc n) w)) ≡ false
+unrefused_next n w (Busy duty) e rest = ap (λ (es : List Entry). list_any is_refused (replies_from w es)) (busy_step w n duty e) ∙ rest (step_world w (duty_entry duty))
+unrefused_next n w Settled e rest = ap (λ (es : List Entry). list_any is_refused (replies_from w es)) (settled_step w (suc n) e)
+
+unrefused : (n : ℕ) (w : World) → list_any is_refused (replies_from w (settle_entries n w)) ≡ false
+unrefused zero w = refl
+unrefused (suc n) w = unrefused_next n w (settle_answer w) refl (λ v. unrefused n v)
+
+silent_all : (n : ℕ) (w : World) → flat_map reply_text (replies_from w (settle_entries n w)) ≡ []
+silent_all n w =
+    let es = settle_entries n w in
+    ap (λ (l : List Entry). flat_map reply_text (replies_from w l)) (sym (take_all (length es) es (omega arith))) ∙ silent (length es) n w
+
+-- less than all of a line's entries puts nothing out
+pub part_silent : (w : World) (line : Line) (k : ℕ) → k < length (line_entries w line) → flat_map reply_text (replies_from w (take k (line_entries w line))) ≡ []
+part_silent w Blank k inside = absurd (omega arith)
+part_silent w (CallLine call) k inside =
+    let none : k ≡ 0 = omega arith in
+    ap (λ (i : ℕ). flat_map reply_text (replies_from w (take i (entry_of call ∷ [])))) none
+part_silent w (SettleLine budget) k inside =
+    let es = settle_entries budget w in
+    let within : k ≤ length es = omega (arith, length-append es (entry_of (Settle budget) ∷ [])) in
+    ap (λ (l : List Entry). flat_map reply_text (replies_from w l)) (take-append-le k es (entry_of (Settle budget) ∷ []) within) ∙ silent k budget w
+
+-- Taking duties.
+
+pub settling_start : (budget : ℕ) (H : List Entry) → Settling budget budget H H
+settling_start budget H = record { taken = []; history = sym (append-nil H); whole = refl }
+
+pub settling_more : (budget left : ℕ) (old now new : List Entry) (duty : Duty) → Settling budget (suc left) old now → settle_answer (replay now) ≡ Busy duty → new ≡ now ++ duty_entry duty ∷ [] → Settling budget left old new
+settling_more budget left old now new duty s busy e = record {
+  taken = s.taken ++ duty_entry duty ∷ [];
+  history = e ∙ ap (λ (l : List Entry). l ++ duty_entry duty ∷ []) s.history ∙ append_assoc old s.taken (duty_entry duty ∷ []);
+  whole = s.whole ∙ ap (λ (l : List Entry). s.taken ++ l) (busy_step (replay now) left duty busy) ∙
+      ap (λ (w : World). s.taken ++ duty_entry duty ∷ settle_entries left w) (sym (ap replay e ∙ replay-snoc empty_world now (duty_entry duty))) ∙
+      sym (append_assoc s.taken (duty_entry duty ∷ []) (settle_entries left (replay new)));
+}
+
+all_taken : (budget left : ℕ) (old now : List Entry) → Settling budget left old now → settle_entries left (replay now) ≡ [] → now ≡ old ++ settle_entries budget (replay old)
+all_taken budget left old now s none = s.history ∙ ap (λ (l : List Entry). old ++ l) (sym (s.whole ∙ ap (λ (l : List Entry). s.taken ++ l) none ∙ append-nil s.taken))
+
+pub settling_settled : (budget left : ℕ) (old now : List Entry) → Settling budget left old now → settle_answer (replay now) ≡ Settled → now ≡ old ++ settle_entries budget (replay old)
+settling_settled budget left old now s e = all_taken budget left old now s (settled_step (replay now) left e)
+
+pub settling_end : (budget : ℕ) (old now : List Entry) → Settling budget 0 old now → now ≡ old ++ settle_entries budget (replay old)
+settling_end budget old now s = all_taken budget 0 old now s refl
+
+taken_part : (budget left : ℕ) (old now : List Entry) → (s : Settling budget left old now) → s.taken ≡ take (length s.taken) (settle_entries budget (replay old))
+taken_part budget left old now s =
+    sym (ap (take (length s.taken)) s.whole ∙ take-append-le (length s.taken) s.taken (settle_entries left (replay now)) (omega arith) ∙ take_all (length s.taken) s.taken (omega arith))
+
+pub settling_no_memory : (budget left : ℕ) (old now : List Entry) → Settling budget left old now → StopsSettling NoMemory budget old now
+settling_no_memory budget left old now s = (length s.taken, s.history ∙ ap (λ (l : List Entry). old ++ l) (taken_part budget left old now s))
+
+pub settling_full : (budget left : ℕ) (old now : List Entry) (duty : Duty) → Settling budget (suc left) old now → settle_answer (replay now) ≡ Busy duty → length now ≡ most_entries → StopsSettling Full budget old now
+settling_full budget left old now duty s busy count =
+    let one = ap (λ (l : List Entry). length l) (s.whole ∙ ap (λ (l : List Entry). s.taken ++ l) (busy_step (replay now) left duty busy)) in (
+      length s.taken,
+      s.history ∙ ap (λ (l : List Entry). old ++ l) (taken_part budget (suc left) old now s),
+      omega (arith, one, length-append s.taken (duty_entry duty ∷ settle_entries left (step_world (replay now) (duty_entry duty)))),
+      count,
+    )
+
+-- The whole line.
+
+part_of_line : (budget k : ℕ) (w : World) → k ≤ length (settle_entries budget w) → take k (line_entries w (SettleLine budget)) ≡ take k (settle_entries budget w)
+part_of_line budget k w within = take-append-le k (settle_entries budget w) (entry_of (Settle budget) ∷ []) within
+
+line_end : (budget : ℕ) (w : World) → length (line_entries w (SettleLine budget)) ≡ length (settle_entries budget w) + 1
+line_end budget w = length-append (settle_entries budget w) (entry_of (Settle budget) ∷ [])
+
+take_same : (k : ℕ) (l : List Entry) → take (length (take k l)) l ≡ take k l
+take_same zero l = refl
+take_same (suc k) [] = refl
+take_same (suc k) (e ∷ l) = ap (λ (es : List Entry). e ∷ es) (take_same k l)
+
+take_min : (k : ℕ) (l : List Entry) → (n : ℕ) × (n ≤ length l) × (take k l ≡ take n l)
+take_min k l = (length (take k l), omega (arith, length-take k l), sym (take_same k l))
+
+-- the line ends within its duties
+pub stops_line : (ending : Ending) (budget : ℕ) (old new : List Entry) (out : Option (List ℕ)) → StopsSettling ending budget old new → DoesLine (Err ending) (SettleLine budget) old new out out
+stops_line NoMemory budget old new out s =
+    let least = take_min s.0 (settle_entries budget (replay old)) in (
+      least.0,
+      s.1 ∙ ap (λ (l : List Entry). old ++ l) (least.2 ∙ sym (part_of_line budget least.0 (replay old) least.1)),
+      refl,
+    )
+stops_line Full budget old new out s =
+    let inside : s.0 ≤ length (settle_entries budget (replay old)) = omega (arith, s.2) in (
+      s.0,
+      s.1 ∙ ap (λ (l : List Entry). old ++ l) (sym (part_of_line budget s.0 (replay old) inside)),
+      omega (arith, s.2, line_end budget (replay old)),
+      s.3,
+      refl,
+    )
+stops_line Done budget old new out s = absurd s
+stops_line Refused budget old new out s = absurd s
+stops_line ReadFault budget old new out s = absurd s
+stops_line OutFault budget old new out s = absurd s
+stops_line JournalFault budget old new out s = absurd s
+stops_line (NoMemoryAt number fault) budget old new out s = absurd s
+stops_line (BadLine number fault) budget old new out s = absurd s
+
+-- the call after the duties
+
+call_after : (budget : ℕ) (old mid new : List Entry) → mid ≡ old ++ settle_entries budget (replay old) → TakesLine (CallLine (Settle budget)) mid new → TakesLine (SettleLine budget) old new
+call_after budget old mid new duties call =
+    call ∙ ap (λ (l : List Entry). l ++ entry_of (Settle budget) ∷ []) duties ∙ append_assoc old (settle_entries budget (replay old)) (entry_of (Settle budget) ∷ [])
+
+replies_after : (budget : ℕ) (old mid : List Entry) → mid ≡ old ++ settle_entries budget (replay old) → replay_from (replay old) (settle_entries budget (replay old)) ≡ replay mid
+replies_after budget old mid duties = sym (ap replay duties ∙ replay-append empty_world old (settle_entries budget (replay old)))
+
+out_after : (budget : ℕ) (old mid : List Entry) → mid ≡ old ++ settle_entries budget (replay old) → line_out old (SettleLine budget) ≡ line_out mid (CallLine (Settle budget))
+out_after budget old mid duties =
+    let es = settle_entries budget (replay old) in
+    ap (flat_map reply_text) (replies-append (replay old) es (entry_of (Settle budget) ∷ [])) ∙
+    flat_map-append reply_text (replies_from (replay old) es) (replies_from (replay_from (replay old) es) (entry_of (Settle budget) ∷ [])) ∙
+    ap (λ (l : List ℕ). l ++ flat_map reply_text (replies_from (replay_from (replay old) es) (entry_of (Settle budget) ∷ []))) (silent_all budget (replay old)) ∙
+    ap (λ (w : World). flat_map reply_text (replies_from w (entry_of (Settle budget) ∷ []))) (replies_after budget old mid duties)
+
+false_or : (a b : Bool) → a ≡ false → (a || b) ≡ b
+false_or true b e = cc
+false_or false b e = refl
+
+refused_after : (budget : ℕ) (old mid : List Entry) → mid ≡ old ++ settle_entries budget (replay old) → line_refused old (SettleLine budget) ≡ line_refused mid (CallLine (Settle budget))
+refused_after budget old mid duties =
+    let es = settle_entries budget (replay old) in
+    ap (list_any is_refused) (replies-append (replay old) es (entry_of (Settle budget) ∷ [])) ∙
+    list_any-append is_refused (replies_from (replay old) es) (replies_from (replay_from (replay old) es) (entry_of (Settle budget) ∷ [])) ∙
+    false_or (list_any is_refused (replies_from (replay old) es)) (list_any is_refused (replies_from (replay_from (replay old) es) (entry_of (Settle budget) ∷ []))) (unrefused budget (replay old)) ∙
+    ap (λ (w : World). list_any is_refused (replies_from w (entry_of (Settle budget) ∷ []))) (replies_after budget old mid duties)
+
+take_past : (es : List Entry) (e : Entry) (k : ℕ) → (n : ℕ) × (es ++ take k (e ∷ []) ≡ take n (es ++ e ∷ [])) × (n ≤ length es + 1) × (k < 1 → n < length es + 1)
+take_past es e zero = (
+  length es,
+  append-nil es ∙ sym (take-append-le (length es) es (e ∷ []) (omega arith) ∙ take_all (length es) es (omega arith)),
+  omega arith,
+  λ h. omega arith,
+)
+take_past es e (suc k) = (
+  length es + 1,
+  ap (λ (l : List Entry). es ++ l) (take_all (suc k) (e ∷ []) (omega arith)) ∙ sym (take_all (length es + 1) (es ++ e ∷ []) (omega (arith, length-append es (e ∷ [])))),
+  omega arith,
+  λ h. absurd {0} (omega arith),
+)
+
+pub whole_line : (r : Result Bool Ending) (budget : ℕ) (old mid new : List Entry) (out out' : Option (List ℕ)) → mid ≡ old ++ settle_entries budget (replay old) → DoesLine r (CallLine (Settle budget)) mid new out out' →
+    DoesLine r (SettleLine budget) old new out out'
+whole_line (Ok refused) budget old mid new out out' duties does = (
+  call_after budget old mid new duties does.0,
+  subst (Appends out out') (sym (out_after budget old mid duties)) does.1,
+  does.2 ∙ sym (refused_after budget old mid duties),
+)
+whole_line (Err OutFault) budget old mid new out out' duties does = (
+  call_after budget old mid new duties does.0,
+  subst (AppendsPrefix out out') (sym (out_after budget old mid duties)) does.1,
+)
+whole_line (Err NoMemory) budget old mid new out out' duties does =
+    let past = take_past (settle_entries budget (replay old)) (entry_of (Settle budget)) does.0 in (
+      past.0,
+      does.1 ∙ ap (λ (l : List Entry). l ++ take does.0 (entry_of (Settle budget) ∷ [])) duties ∙ append_assoc old (settle_entries budget (replay old)) (take does.0 (entry_of (Settle budget) ∷ [])) ∙
+          ap (λ (l : List Entry). old ++ l) past.1,
+      does.2,
+    )
+whole_line (Err Full) budget old mid new out out' duties does =
+    let past = take_past (settle_entries budget (replay old)) (entry_of (Settle budget)) does.0 in (
+      past.0,
+      does.1 ∙ ap (λ (l : List Entry). l ++ take does.0 (entry_of (Settle budget) ∷ [])) duties ∙ append_assoc old (settle_entries budget (replay old)) (take does.0 (entry_of (Settle budget) ∷ [])) ∙
+          ap (λ (l : List Entry). old ++ l) past.1,
+      omega (arith, past.3 does.2, line_end budget (replay old)),
+      does.3,
+      does.4,
+    )
+whole_line (Err Done) budget old mid new out out' duties does = absurd does
+whole_line (Err Refused) budget old mid new out out' duties does = absurd does
+whole_line (Err ReadFault) budget old mid new out out' duties does = absurd does
+whole_line (Err JournalFault) budget old mid new out out' duties does = absurd does
+whole_line (Err (NoMemoryAt number fault)) budget old mid new out out' duties does = absurd does
+whole_line (Err (BadLine number fault)) budget old mid new out out' duties does = absurd does
