@@ -1,12 +1,16 @@
 -- What is put for the lines of a script.
-use Rattle.std.proofs.Common.{◌≡◌, inl, inr, ℕ, ◌≤◌, List, ◌++◌, length, take, Bool, true, false, ◌||◌, refl, Option, Result, Ok, Err, sym, ◌∙◌, ap, subst, arith, ◌+◌}
+use Rattle.std.proofs.Common.{◌≡◌, inl, inr, ℕ, ◌≤◌, List, ◌∷◌, ◌++◌, length, take, Bool, true, false, ◌||◌, refl, Option, Some, None, Result, Ok, Err, sym, ◌∙◌, ap, subst, arith, ◌+◌}
 use Rattle.std.specs.Io.KnownBytes.{Appends}
 use Rattle.swarm_objects.specs.Outside.{Rose, AppendsPrefix}
 use Rattle.swarm_objects.specs.declared.calls.Entry.{Entry}
+use Rattle.std.specs.List.{flat_map}
+use Rattle.std.proofs.lemmas.List.{append-nil}
+use Rattle.swarm_objects.specs.History.{replay, replies_from}
+use Rattle.swarm_print.specs.Texts.{reply_text}
 use Rattle.swarm_script.specs.Script.{meaning_of}
 use Rattle.swarm_script.specs.declared.Line.{Line}
 use Rattle.swarm_script.specs.declared.LineFault.{LineFault}
-use Rattle.swarm_top.specs.Serial.{output, has_refusal}
+use Rattle.swarm_top.specs.Serial.{entries, line_entries, output, has_refusal}
 use Rattle.swarm_top.specs.Ends.{end_of}
 use Rattle.swarm_top.specs.Held.{Held, GivesLine}
 use Rattle.swarm_top.specs.Theorem.{IsOfSource}

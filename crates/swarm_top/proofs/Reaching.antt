@@ -6,6 +6,10 @@ use Rattle.swarm_script.specs.declared.Line.{Line}
 use Rattle.swarm_top.specs.Lines.{is_newline, onto_line, lines_of, bytes_of, has_newline, whole_lines}
 use Rattle.swarm_top.specs.Reading.{Reading, reading, reading_of, reading_at, read_on, meaning_at}
 use Rattle.swarm_top.specs.Held.{Held, has_newline_in}
+use Rattle.swarm_objects.specs.World.{World}
+use Rattle.swarm_objects.specs.History.{replay}
+use Rattle.swarm_top.specs.Serial.{entries, line_entries}
+use Rattle.swarm_top.specs.Theorem.{IsOfSome, BeginsNext}
 use Rattle.swarm_top.specs.Parts.{IsWhole, Reached, ReachedBy, with_halt, IsOfSomeSource}
 use Rattle.swarm_top.specs.declared.faults.Fault.{Fault}
 use Rattle.swarm_top.specs.declared.input.ScriptLine.{ScriptLine}

@@ -228,3 +228,21 @@ whole_line (Err ReadFault) budget old mid new out out' duties does = absurd does
 whole_line (Err JournalFault) budget old mid new out out' duties does = absurd does
 whole_line (Err (NoMemoryAt number fault)) budget old mid new out out' duties does = absurd does
 whole_line (Err (BadLine number fault)) budget old mid new out out' duties does = absurd does
+
+one_less : (budget counter : ℕ) → counter < budget → budget - counter ≡ suc (budget - (counter + 1))
+one_less budget counter inside = omega arith
+
+pub settling_next : (budget counter : ℕ) (old now : List Entry) → counter < budget → Settling budget (budget - counter) old now → Settling budget (suc (budget - (counter + 1))) old now
+settling_next budget counter old now inside s = subst (λ n. Settling budget n old now) (one_less budget counter inside) s
+
+none_left : (budget counter : ℕ) → budget ≤ counter → budget - counter ≡ 0
+none_left budget counter past = omega arith
+
+pub settling_past : (budget counter : ℕ) (old now : List Entry) → budget ≤ counter → Settling budget (budget - counter) old now → now ≡ old ++ settle_entries budget (replay old)
+settling_past budget counter old now past s = settling_end budget old now (subst (λ n. Settling budget n old now) (none_left budget counter past) s)
+
+none_yet : (budget : ℕ) → budget ≡ budget - 0
+none_yet budget = omega arith
+
+pub settling_begins : (budget : ℕ) (H : List Entry) → Settling budget (budget - 0) H H
+settling_begins budget H = subst (λ n. Settling budget n H H) (none_yet budget) (settling_start budget H)

@@ -1,5 +1,5 @@
 -- What a run promises: one legal history, what it has to do with the script, and what was put of it.
-use Rattle.std.specs.Prelude.{ℕ, ◌+◌, ◌≡◌, ◌⊎◌, ◌≤◌, ◌<◌, nat_lt, take, List, ◌∷◌, ◌++◌, length, true, false, if◌then◌else◌, Option, Some, None, is_some, ⊤}
+use Rattle.std.specs.Prelude.{ℕ, ◌+◌, ◌≡◌, ◌⊎◌, ◌≤◌, ◌<◌, nat_lt, take, List, [], ◌∷◌, ◌++◌, length, true, false, if◌then◌else◌, Option, Some, None, is_some, ⊤}
 use Rattle.std.specs.Io.KnownBytes.{Consumes}
 use Rattle.swarm_objects.specs.Calls.{most_entries}
 use Rattle.swarm_objects.specs.History.{IsLegal, replay}

