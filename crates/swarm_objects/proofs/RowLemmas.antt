@@ -1,9 +1,11 @@
 -- What the words on rows do to one another.
-use Rattle.std.proofs.Common.{◌≡◌, ◌≢◌, ℕ, ◌+◌, ◌<◌, ◌≤◌, Bool, true, false, not, cond, eqb, ltb, ◌⊎◌, inl, inr, List, [], ◌∷◌, ◌++◌, length, get_or, drop, add-one, zero, suc, Option, Some, None, refl, sym, ap, ◌∙◌, subst, arith, rules}
+use Rattle.std.proofs.Common.{◌≡◌, ◌≢◌, ℕ, ◌+◌, ◌<◌, ◌≤◌, Bool, true, false, not, cond, eqb, ltb, ◌⊎◌, inl, inr, List, [], ◌∷◌, ◌++◌, length, get_or, take, drop, add-one, append-nil, zero, suc, Option, Some, None, refl, sym, ap, ◌∙◌, subst, arith, rules}
 use Rattle.std.specs.Prelude.{map, filter, find, sum_by, flat_map, ⊤}
 use Rattle.std.proofs.lemmas.Bool.Decides.{nat_tests}
 use Rattle.std.proofs.lemmas.List.Sums.{sum_by-cons}
 use Rattle.std.specs.Option.{option_map}
+use Rattle.std.proofs.lemmas.List.{take_all, drop_all}
+use Rattle.swarm_objects.specs.Lends.{instead}
 use Rattle.swarm_objects.specs.Rows.{row_at, has_row, change_row, put_row, drop_row, RisesFrom, IsBelow, Has, row_above, rows_above, first_of}
 
 -- membership
@@ -58,6 +60,12 @@ pub Has-flat_map : {X Y : Type 0} (f : X → List Y) (xs : List X) (x : X) (y : 
 Has-flat_map f [] x y h k = absurd h
 Has-flat_map f (z ∷ xs) x y (inl e) k = Has-append_left (f z) (flat_map f xs) y (subst (λ w. Has (f w) y) (sym e) k)
 Has-flat_map f (z ∷ xs) x y (inr h) k = Has-append_right (f z) (flat_map f xs) y (Has-flat_map f xs x y h k)
+
+-- items in the place of as many others
+
+pub instead_is : {X : Type 0} (old new : List X) → length new ≡ length old → instead old new ≡ new
+instead_is old new same =
+    ap (λ rest. take (length old) (new ++ rest)) (drop_all (length new) old (omega (arith, same))) ∙ take_all (length old) (new ++ []) (omega (arith, ap length (append-nil new))) ∙ append-nil new
 
 -- rows by number
 

@@ -35,6 +35,9 @@ is_new t = rank t.state == rank state.New
 abbrev pub is_pending : Task → Bool
 is_pending t = rank t.state == rank state.Pending
 
+abbrev pub is_of : ℕ → Task → Bool
+is_of service t = t.service == service
+
 abbrev pub is_on : ℕ → Task → Bool
 is_on node t = option_eq same_number t.node (Some node)
 

@@ -1,22 +1,23 @@
 // The control plane by plain lists and whole scans.
 #![tactic(auto)]
 
-ghost use Rattle.std.specs.Prelude.{◌≡◌, [], ◌∷◌, ◌⊎◌, ◌+◌, ◌^◌, ◌<◌, ◌≤◌, length, map, IfOk, IfErr, OnErr, Ok, Err};
+mod creates;
+mod lists;
+mod reads;
+
+ghost use Rattle.std.specs.Prelude.{◌≡◌, [], ◌∷◌, ◌⊎◌, ◌+◌, ◌^◌, ◌<◌, ◌≤◌, false, length, IfOk, IfErr, OnErr, Ok, Err};
 ghost use Rattle.swarm_objects.specs.World.{empty_world, IsSmall};
-ghost use Rattle.swarm_objects.specs.Calls.{node_named, new_node, shown, apply_op, apply_ops, call_outcome, outcome};
+ghost use Rattle.swarm_objects.specs.Calls.{apply_op, apply_ops, call_outcome, is_settle, outcome};
 ghost use Rattle.swarm_plain.specs.Plain.{world_of, Meets, Gives};
 
 use std::alloc::Global;
 use swarm_objects::{
-    Call, Duplicate, Id, Kind, List, Ms, Name, NoMemory, Node, NodeDraft, NodeShown, NodeState, Op,
-    Query, Refusal, Reply, Version, ViewReply,
+    Attempt, Call, Duplicate, Id, List, Ms, Network, NoMemory, Node, NodeSession, Op, Query,
+    Refusal, Reply, Service, Settings, Task, Version,
 };
 
 /// The most entries of a history, not counting Halt.
 pub const HISTORY: u64 = 300_000;
-
-/// The most nodes.
-const NODES: usize = 1_000;
 
 /// The most operations of a transaction.
 const OPS: usize = 200;
@@ -25,76 +26,21 @@ const OPS: usize = 200;
 /// every look-up is a scan.
 #[derive(Drop)]
 pub struct Plain {
-    alloc: Global,
+    pub alloc: Global,
     /// How many entries made this world.
     pub entries: u64,
     pub clock: Ms,
     /// The id of the next object.
     pub next_id: Id,
     pub nodes: List<Node>,
+    pub services: List<Service>,
+    pub tasks: List<Task>,
+    pub networks: List<Network>,
+    pub attempts: List<Attempt>,
+    /// At most one of each node, by rising node.
+    pub sessions: List<NodeSession>,
+    pub settings: Settings,
     pub halted: bool,
-}
-
-// The node with this name.
-fn find_named(nodes: &[Node], name: &Name) -> Option<Id>
-    ensures { result ≡ node_named name.now nodes.now }
-{
-    for node in nodes {
-        if node.name.as_str() == name.as_str() {
-            return Some(node.id);
-        }
-    }
-    None
-}
-
-// The row of a node that joins.
-fn make_node(
-    alloc: Global,
-    version: Version,
-    id: Id,
-    name: &Name,
-    draft: &NodeDraft,
-) -> Result<Node, NoMemory>
-    ensures { IfOk result (λ node. node ≡ new_node version id name.now draft.now) }
-{
-    Ok(Node {
-        id,
-        version,
-        name: name.duplicate(alloc)?,
-        labels: draft.labels.duplicate(alloc)?,
-        role: draft.role,
-        availability: draft.availability,
-        state: NodeState::Unknown,
-        down_since: 0,
-        cpu: draft.cpu,
-        mem: draft.mem,
-        os: draft.os.duplicate(alloc)?,
-        arch: draft.arch.duplicate(alloc)?,
-        engine: draft.engine.duplicate(alloc)?,
-        remote: draft.remote,
-    })
-}
-
-// What a list shows of these nodes.
-fn show_nodes(alloc: Global, nodes: &[Node]) -> Result<List<NodeShown>, NoMemory>
-    ensures { IfOk result (λ rows. rows ≡ map shown nodes.now) }
-{
-    let mut rows = List::new(alloc);
-    for node in nodes {
-        let row = NodeShown {
-            id: node.id,
-            name: node.name.duplicate(alloc)?,
-            state: node.state,
-            availability: node.availability,
-            role: node.role,
-            cpu: node.cpu,
-            mem: node.mem,
-        };
-        if rows.push(row).is_err() {
-            return Err(NoMemory);
-        }
-    }
-    Ok(rows)
 }
 
 impl Plain {
@@ -108,6 +54,12 @@ impl Plain {
             clock: 0,
             next_id: 1,
             nodes: List::new(alloc),
+            services: List::new(alloc),
+            tasks: List::new(alloc),
+            networks: List::new(alloc),
+            attempts: List::new(alloc),
+            sessions: List::new(alloc),
+            settings: Settings::usual(),
             halted: false,
         }
     }
@@ -121,39 +73,14 @@ impl Plain {
             clock: self.clock,
             next_id: self.next_id,
             nodes: self.nodes.duplicate(self.alloc)?,
+            services: self.services.duplicate(self.alloc)?,
+            tasks: self.tasks.duplicate(self.alloc)?,
+            networks: self.networks.duplicate(self.alloc)?,
+            attempts: self.attempts.duplicate(self.alloc)?,
+            sessions: self.sessions.duplicate(self.alloc)?,
+            settings: self.settings,
             halted: self.halted,
         })
-    }
-
-    fn create_node(
-        &mut self,
-        version: Version,
-        name: &Name,
-        draft: &NodeDraft,
-    ) -> Result<Id, Refusal>
-        requires { self.old.next_id + 1 < 2 ^ 64 }
-        ensures ok { IfOk result (λ id. apply_op version (world_of self.old) (Op.CreateNode name.now draft.now) ≡ Ok (world_of self.new, id)) }
-        ensures err { IfErr result (λ refusal. (refusal ≡ Refusal.NoMemory) ⊎ (apply_op version (world_of self.old) (Op.CreateNode name.now draft.now) ≡ Err refusal)) }
-        ensures kept { OnErr result (world_of self.new ≡ world_of self.old) }
-        ensures ids { self.new.next_id ≤ self.old.next_id + 1 }
-        ensures entries { self.new.entries ≡ self.old.entries }
-    {
-        if let Some(id) = find_named(self.nodes.as_slice(), name) {
-            return Err(Refusal::NameTaken(id));
-        }
-        let count = self.nodes.as_slice().len();
-        if count >= NODES {
-            return Err(Refusal::TooMany(Kind::Node, count as u64));
-        }
-        let id = self.next_id;
-        let Ok(node) = make_node(self.alloc, version, id, name, draft) else {
-            return Err(Refusal::NoMemory);
-        };
-        if self.nodes.push(node).is_err() {
-            return Err(Refusal::NoMemory);
-        }
-        self.next_id += 1;
-        Ok(id)
     }
 
     // Does one operation of the entry with this number, and gives the id of its object. A refusal changes nothing.
@@ -167,6 +94,7 @@ impl Plain {
     {
         match op {
             Op::CreateNode(name, draft) => self.create_node(version, name, draft),
+            Op::CreateService(name, draft) => self.create_service(version, name, draft),
         }
     }
 
@@ -267,21 +195,20 @@ impl Plain {
         requires { IsSmall (world_of self.old) }
         ensures { Meets (call_outcome (world_of self.old) (Call.View query)) (world_of self.old) result (world_of self.new) }
     {
-        match query {
-            Query::ListNodes => match show_nodes(self.alloc, self.nodes.as_slice()) {
-                Ok(rows) => {
-                    self.entries += 1;
-                    Reply::View(ViewReply::Nodes(rows))
-                }
-                Err(NoMemory) => Reply::Refused(Refusal::NoMemory),
-            },
+        match self.answer(query) {
+            Ok(answer) => {
+                self.entries += 1;
+                Reply::View(answer)
+            }
+            Err(NoMemory) => Reply::Refused(Refusal::NoMemory),
         }
     }
 
-    /// Answers the call. A call that becomes an entry counts as one, also where it is refused; `Halted`, `Full` and
+    /// Answers the call, which isn't the settle test. A call that becomes an entry counts as one, also where it is refused; `Halted`, `Full` and
     /// `NoMemory` change nothing at all. `Halt` takes no memory.
     pub fn call(&mut self, call: &Call) -> Reply
-        requires { IsSmall (world_of self.old) }
+        requires small { IsSmall (world_of self.old) }
+        requires other { is_settle call.now ≡ false }
         ensures reply { Meets (outcome (world_of self.old) call.now) (world_of self.old) result (world_of self.new) }
         ensures halt { call.now ≡ Call.Halt → Gives (outcome (world_of self.old) Call.Halt) result (world_of self.new) }
     {
@@ -297,6 +224,7 @@ impl Plain {
             _ if self.entries >= HISTORY => Reply::Refused(Refusal::Full(self.entries)),
             Call::Txn(ops) => self.txn(ops.as_slice()),
             Call::View(query) => self.view(*query),
+            Call::Settle(_) => unreachable!(),
         }
     }
 }
