@@ -12,6 +12,7 @@ ghost use Rattle.swarm_top.specs.Kept.{AppendsCall, AppendsDuty, AppendsNothing}
 
 use std::alloc::{AllocError, Global};
 use std::marker::Model;
+use swarm_duties::{do_duty, settle, settle_call};
 use swarm_objects::{Call, Duty, Entry, NoMemory, Reply, Settle, What};
 use swarm_plain::{HISTORY, Plain};
 
@@ -26,6 +27,7 @@ pub enum Unanswered {
 /// A world that runs, with its history. Contracts see the history.
 #[derive(Drop)]
 pub struct Run {
+    alloc: Global,
     plain: Plain,
     history: Vec<Entry>,
 }
@@ -43,12 +45,12 @@ impl Model for Run {
 }
 
 // Answers a call, that of the settle test too.
-fn answer(plain: &mut Plain, call: &Call) -> Reply
+fn answer(alloc: Global, plain: &mut Plain, call: &Call) -> Reply
     requires { IsSmall (world_of plain.old) }
     ensures { Meets (outcome (world_of plain.old) call.now) (world_of plain.old) result (world_of plain.new) }
 {
     match call {
-        Call::Settle(_) => Reply::Refused(swarm_objects::Refusal::NoMemory),
+        Call::Settle(budget) => settle_call(alloc, plain, *budget),
         _ => plain.call(call),
     }
 }
@@ -59,6 +61,7 @@ impl Run {
         ensures { IfOk result (λ run. run ≡ []) }
     {
         Ok(Run {
+            alloc,
             plain: Plain::new(alloc),
             history: Vec::with_capacity(alloc, 1)?,
         })
@@ -79,7 +82,7 @@ impl Run {
             return Err(Unanswered::NoMemory);
         };
         let before = self.plain.entries;
-        let reply = answer(&mut self.plain, &call);
+        let reply = answer(self.alloc, &mut self.plain, &call);
         if self.plain.entries == before {
             return Err(Unanswered::NoMemory);
         }
@@ -97,7 +100,7 @@ impl Run {
     pub fn settle(&self) -> Result<Settle, NoMemory>
         ensures { IfOk result (λ answer. answer ≡ settle_answer (replay self.now)) }
     {
-        Err(NoMemory)
+        settle(self.alloc, &self.plain)
     }
 
     /// Does the duty that the settle test names, as caller 0, or says why it could not.
@@ -106,8 +109,24 @@ impl Run {
         ensures ok { OnOk result (AppendsDuty self.old duty self.new) }
         ensures err { IfErr result (λ cause. AppendsNothing cause self.old self.new) }
     {
-        let _ = duty;
-        Err(Unanswered::NoMemory)
+        if self.plain.entries >= HISTORY {
+            return Err(Unanswered::Full);
+        }
+        // an entry and Halt
+        let Ok(()) = self.history.reserve(2) else {
+            return Err(Unanswered::NoMemory);
+        };
+        let Ok(()) = do_duty(self.alloc, &mut self.plain, &duty) else {
+            return Err(Unanswered::NoMemory);
+        };
+        let entry = Entry {
+            by: 0,
+            what: What::Duty(duty),
+        };
+        match self.history.push(entry) {
+            Ok(()) => Ok(()),
+            Err(_) => unreachable!(),
+        }
     }
 
     /// Appends Halt, and gives the whole history. It takes no memory.
@@ -119,6 +138,7 @@ impl Run {
         let Run {
             mut plain,
             mut history,
+            ..
         } = self;
         plain.call(&Call::Halt);
         let entry = Entry {

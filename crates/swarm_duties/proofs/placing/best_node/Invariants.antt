@@ -1,0 +1,12 @@
+use Rattle.std.proofs.Common.{◌≡◌, drop}
+use Rattle.std.specs.Option.{option_copied}
+use Rattle.std.specs.Prelude.{filter}
+use Rattle.swarm_objects.specs.Rows.{least_by}
+use Rattle.swarm_objects.specs.Scheduler.{admits, best_node, node_cmp}
+use Rattle.swarm_plain.specs.Plain.{world_of}
+use Rattle.swarm_duties.proofs.placing.best_node.Given as goal
+
+abbrev pub invariant-loop-node : goal.invariant-loop-node
+invariant-loop-node l =
+    let t = (world_of l.plain).tables in
+    least_by (node_cmp t l.task.service) (option_copied l.best) (filter (admits t l.task) (drop l.node-index l.node-items)) ≡ best_node t l.task

@@ -1,0 +1,204 @@
+// Doing the duties.
+ghost use Rattle.std.specs.Prelude.{◌≡◌, ◌+◌, true, IfOk, OnOk, OnErr};
+ghost use Rattle.swarm_objects.specs.Duties.{is_due};
+ghost use Rattle.swarm_objects.specs.Effects.{
+    addressed, bound_node as bound_node_of, effect, explained, goal_of as goal_of_mode, new_session as new_session_of, new_task as new_task_of, placed,
+};
+ghost use Rattle.swarm_objects.specs.History.{duty_outcome};
+ghost use Rattle.swarm_objects.specs.Rows.{change_row, node_id, task_id};
+ghost use Rattle.swarm_objects.specs.World.{IsSmall};
+ghost use Rattle.swarm_duties.specs.Clusters.{tables_of};
+ghost use Rattle.swarm_plain.specs.Plain.{world_of};
+
+use crate::filters::{Cluster, refusal_counts};
+use crate::keyed::with_row;
+use crate::words::service_at;
+use std::alloc::Global;
+use swarm_objects::{
+    Desired, Duplicate, Duty, Id, List, Mode, Ms, NoMemory, Node, NodeSession, NodeState, Note, Place,
+    Service, Session, Task, TaskState, Version, add,
+};
+use swarm_plain::Plain;
+
+// What a task of a service with this mode is to reach.
+fn goal_of(mode: Mode) -> Desired
+    ensures { result ≡ goal_of_mode mode }
+{
+    match mode {
+        Mode::Replicated(_) | Mode::Global => Desired::Running,
+        Mode::Job { .. } => Desired::Complete,
+    }
+}
+
+// The node that a task has from the start, where its place is a node.
+fn bound_node(place: Place) -> Option<Id>
+    ensures { result ≡ bound_node_of place }
+{
+    match place {
+        Place::Slot(_) => None,
+        Place::On(node) => Some(node),
+    }
+}
+
+// A task of the service that the next entry makes.
+fn new_task(
+    alloc: Global,
+    plain: &Plain,
+    service: &Service,
+    place: Place,
+    desired: Desired,
+) -> Result<Task, NoMemory>
+    requires { IsSmall (world_of plain.now) }
+    ensures { IfOk result (λ task. task ≡ new_task_of (plain.now.entries + 1) (world_of plain.now).tables service.now place desired) }
+{
+    Ok(Task {
+        id: plain.next_id,
+        version: plain.entries + 1,
+        service: service.id,
+        place,
+        iteration: service.iteration,
+        template: service.spec.template.duplicate(alloc)?,
+        born: service.template_version,
+        goal: goal_of(service.spec.mode),
+        node: bound_node(place),
+        state: TaskState::New,
+        since: plain.clock,
+        desired,
+        created: plain.clock,
+        raise_at: plain.clock,
+        addresses: List::new(alloc),
+        note: Note::Empty,
+        closed: None,
+    })
+}
+
+// The service gets a new task in this slot.
+fn create_task(alloc: Global, plain: &mut Plain, service: Id, slot: u64) -> Result<(), NoMemory>
+    requires { IsSmall (world_of plain.old) }
+    ensures ok { OnOk result (world_of plain.new ≡ effect (world_of plain.old) (Duty.ReplicatedCreate service slot)) }
+    ensures err { OnErr result (world_of plain.new ≡ world_of plain.old) }
+{
+    if let Some(service) = service_at(plain.services.as_slice(), service) {
+        let task = new_task(alloc, plain, service, Place::Slot(slot), Desired::Running)?;
+        add(&mut plain.tasks, task)?;
+        plain.next_id += 1;
+    }
+    plain.entries += 1;
+    Ok(())
+}
+
+// The task with this id is PENDING now, and its note is empty.
+fn address(tasks: &mut [Task], version: Version, now: Ms, id: Id)
+    ensures { tasks.new ≡ change_row task_id id (addressed version now) tasks.old }
+{
+    for task in tasks.iter_mut() {
+        if task.id == id {
+            task.version = version;
+            task.state = TaskState::Pending;
+            task.since = now;
+            task.note = Note::Empty;
+        }
+    }
+}
+
+// The task with this id is ASSIGNED to the node now, and its note is empty.
+fn place(tasks: &mut [Task], version: Version, now: Ms, id: Id, node: Id)
+    ensures { tasks.new ≡ change_row task_id id (placed version now node) tasks.old }
+{
+    for task in tasks.iter_mut() {
+        if task.id == id {
+            task.version = version;
+            task.state = TaskState::Assigned;
+            task.since = now;
+            task.node = Some(node);
+            task.note = Note::Empty;
+        }
+    }
+}
+
+// The note of the task with this id says for each filter how many nodes it refuses.
+fn explain(tasks: &mut [Task], version: Version, cluster: &Cluster, id: Id)
+    ensures { tasks.new ≡ change_row task_id id (explained version (tables_of cluster.now)) tasks.old }
+{
+    for task in tasks.iter_mut() {
+        if task.id == id {
+            let counts = refusal_counts(cluster, task);
+            task.version = version;
+            task.note = Note::Filters(counts);
+        }
+    }
+}
+
+// The node with this id is READY.
+fn set_ready(nodes: &mut [Node], version: Version, id: Id)
+    ensures { nodes.new ≡ change_row node_id id (λ node. record node { version = version; state = NodeState.Ready }) nodes.old }
+{
+    for node in nodes.iter_mut() {
+        if node.id == id {
+            node.version = version;
+            node.state = NodeState::Ready;
+        }
+    }
+}
+
+// A session of the node, which lasts for three beats.
+fn new_session(plain: &Plain, node: Id) -> NodeSession
+    requires { IsSmall (world_of plain.now) }
+    ensures { result ≡ new_session_of (world_of plain.now).tables node }
+{
+    NodeSession {
+        node,
+        session: Session {
+            id: plain.next_id,
+            deadline: plain.clock + 3 * plain.settings.heartbeat,
+            beat: plain.clock,
+        },
+    }
+}
+
+// The node's agent opens a session.
+fn register(alloc: Global, plain: &mut Plain, node: Id) -> Result<(), NoMemory>
+    requires { IsSmall (world_of plain.old) }
+    ensures ok { OnOk result (world_of plain.new ≡ effect (world_of plain.old) (Duty.Register node)) }
+    ensures err { OnErr result (world_of plain.new ≡ world_of plain.old) }
+{
+    let session = new_session(plain, node);
+    plain.sessions = with_row(alloc, plain.sessions.as_slice(), session)?;
+    plain.next_id += 1;
+    plain.entries += 1;
+    set_ready(plain.nodes.as_mut_slice(), plain.entries, node);
+    Ok(())
+}
+
+/// Does a duty, as an entry. Want of memory changes nothing.
+pub fn do_duty(alloc: Global, plain: &mut Plain, duty: &Duty) -> Result<(), NoMemory>
+    requires small { IsSmall (world_of plain.old) }
+    requires due { is_due (world_of plain.old).tables duty.now ≡ true }
+    ensures ok { OnOk result (world_of plain.new ≡ (duty_outcome (world_of plain.old) duty.now).after) }
+    ensures err { OnErr result (world_of plain.new ≡ world_of plain.old) }
+{
+    match *duty {
+        Duty::ReplicatedCreate(service, slot) => create_task(alloc, plain, service, slot),
+        Duty::Register(node) => register(alloc, plain, node),
+        Duty::Address(task) => {
+            plain.entries += 1;
+            address(plain.tasks.as_mut_slice(), plain.entries, plain.clock, task);
+            Ok(())
+        }
+        Duty::Place(task, node) => {
+            plain.entries += 1;
+            place(plain.tasks.as_mut_slice(), plain.entries, plain.clock, task, node);
+            Ok(())
+        }
+        Duty::Explain(task) => {
+            plain.entries += 1;
+            let cluster = Cluster {
+                now: plain.clock,
+                nodes: plain.nodes.as_slice(),
+                sessions: plain.sessions.as_slice(),
+            };
+            explain(plain.tasks.as_mut_slice(), plain.entries, &cluster, task);
+            Ok(())
+        }
+    }
+}

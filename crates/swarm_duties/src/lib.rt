@@ -1,0 +1,15 @@
+// What the control loops have to do, by whole scans over the plain world, and the doing of it.
+#![tactic(auto)]
+
+mod agents;
+mod allocator;
+mod effects;
+mod filters;
+mod keyed;
+mod placing;
+mod replicated;
+mod settling;
+mod words;
+
+pub use effects::do_duty;
+pub use settling::{duties, settle, settle_call};

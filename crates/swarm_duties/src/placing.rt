@@ -1,0 +1,123 @@
+// The scheduler's duties.
+ghost use Rattle.std.specs.Prelude.{◌≡◌, filter, None, IfOk, [], option_to_list};
+ghost use Rattle.std.specs.Option.{option_copied};
+ghost use Rattle.swarm_objects.specs.Rows.{keep_least, least_by};
+ghost use Rattle.swarm_objects.specs.Scheduler.{
+    best_node as best_node_of, here as here_of, load as load_of, node_cmp, says_counts as note_says_counts, schedule as schedule_of, scheduler,
+};
+ghost use Rattle.swarm_plain.specs.Plain.{world_of};
+
+use crate::filters::{admits, cluster_of, refusal_counts};
+use crate::words::{is_live, is_on, is_pending, is_placed, is_wanted};
+use std::alloc::Global;
+use std::cmp::Ordering;
+use swarm_objects::{Duty, Id, List, NoMemory, Node, Note, Task, add};
+use swarm_plain::Plain;
+
+// The service's live tasks from ASSIGNED to RUNNING on the node.
+fn here(plain: &Plain, node: Id, service: Id) -> usize
+    ensures { result ≡ here_of (world_of plain.now).tables node service }
+{
+    plain
+        .tasks
+        .as_slice()
+        .iter()
+        .filter(|task| {
+            task.service == service && is_live(task) && is_placed(task) && is_on(node, task)
+        })
+        .count()
+}
+
+// Those of all services.
+fn load(plain: &Plain, node: Id) -> usize
+    ensures { result ≡ load_of (world_of plain.now).tables node }
+{
+    plain
+        .tasks
+        .as_slice()
+        .iter()
+        .filter(|task| is_live(task) && is_placed(task) && is_on(node, task))
+        .count()
+}
+
+// Which of two nodes comes first for a task of the service.
+fn compare(plain: &Plain, service: Id, a: &Node, b: &Node) -> Ordering
+    ensures { result ≡ node_cmp (world_of plain.now).tables service a.now b.now }
+{
+    here(plain, a.id, service)
+        .cmp(&here(plain, b.id, service))
+        .then(load(plain, a.id).cmp(&load(plain, b.id)))
+        .then(a.id.cmp(&b.id))
+}
+
+// The best node so far, or the other one where it comes before.
+fn better<'a>(
+    plain: &Plain,
+    service: Id,
+    best: Option<&'a Node>,
+    node: &'a Node,
+) -> Option<&'a Node>
+    ensures { option_copied result ≡ keep_least (node_cmp (world_of plain.now).tables service) (option_copied best.entry) node.now }
+{
+    match best {
+        None => Some(node),
+        Some(held) => {
+            if compare(plain, service, node, held) == Ordering::Less {
+                Some(node)
+            } else {
+                Some(held)
+            }
+        }
+    }
+}
+
+// The best of the nodes that admit the task.
+fn best_node<'a>(plain: &'a Plain, task: &Task) -> Option<&'a Node>
+    ensures { option_copied result ≡ best_node_of (world_of plain.now).tables task.now }
+{
+    let cluster = cluster_of(plain);
+    let mut best = None;
+    for node in plain.nodes.as_slice() {
+        if admits(&cluster, task, node) {
+            best = better(plain, task.service, best, node);
+        }
+    }
+    best
+}
+
+// The note says these counts.
+fn says_counts(counts: &[u64; 6], note: Note) -> bool
+    ensures { result ≡ note_says_counts counts.now note }
+{
+    match note {
+        Note::Filters(noted) => noted == *counts,
+        _ => false,
+    }
+}
+
+// What there is to do about the task: it goes to the best node; where no node admits it, its note says why.
+fn schedule(plain: &Plain, task: &Task) -> Option<Duty>
+    ensures { option_to_list result ≡ schedule_of (world_of plain.now).tables task.now }
+{
+    if !is_pending(task) || !is_wanted(task) {
+        return None;
+    }
+    match best_node(plain, task) {
+        Some(node) => Some(Duty::Place(task.id, node.id)),
+        None if says_counts(&refusal_counts(&cluster_of(plain), task), task.note) => None,
+        None => Some(Duty::Explain(task.id)),
+    }
+}
+
+/// The tasks that are to be placed, or whose notes are to say why they are not.
+pub fn scheduler_duties(alloc: Global, plain: &Plain) -> Result<List<Duty>, NoMemory>
+    ensures { IfOk result (λ duties. duties ≡ scheduler (world_of plain.now).tables) }
+{
+    let mut duties = List::new(alloc);
+    for task in plain.tasks.as_slice() {
+        if let Some(duty) = schedule(plain, task) {
+            add(&mut duties, duty)?;
+        }
+    }
+    Ok(duties)
+}

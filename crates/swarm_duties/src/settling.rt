@@ -1,0 +1,80 @@
+// The duties of each control loop, and the settle test on them.
+ghost use Rattle.std.specs.Prelude.{◌≡◌, IfOk};
+ghost use Rattle.swarm_objects.specs.Calls.{outcome};
+ghost use Rattle.swarm_objects.specs.Duties.{duties as duties_of, settle_answer};
+ghost use Rattle.swarm_objects.specs.World.{IsSmall};
+ghost use Rattle.swarm_plain.specs.Plain.{world_of, Meets};
+
+use crate::agents::agent_duties;
+use crate::allocator::allocator_duties;
+use crate::placing::scheduler_duties;
+use crate::replicated::replicated_duties;
+use std::alloc::Global;
+use swarm_objects::{Call, Duty, List, NoMemory, Refusal, Reply, Role, Settle};
+use swarm_plain::{HISTORY, Plain};
+
+// The control loops, in their order.
+const ROLES: [Role; 11] = [
+    Role::Dispatcher,
+    Role::Enforcer,
+    Role::Restart,
+    Role::Update,
+    Role::Replicated,
+    Role::Global,
+    Role::Job,
+    Role::Allocator,
+    Role::Scheduler,
+    Role::Reaper,
+    Role::Agents,
+];
+
+/// What the control loop has to do, in order.
+pub fn duties(alloc: Global, plain: &Plain, role: Role) -> Result<List<Duty>, NoMemory>
+    ensures { IfOk result (λ duties. duties ≡ duties_of role (world_of plain.now).tables) }
+{
+    match role {
+        Role::Replicated => replicated_duties(alloc, plain),
+        Role::Allocator => allocator_duties(alloc, plain),
+        Role::Scheduler => scheduler_duties(alloc, plain),
+        Role::Agents => agent_duties(alloc, plain),
+        Role::Dispatcher
+        | Role::Enforcer
+        | Role::Restart
+        | Role::Update
+        | Role::Global
+        | Role::Job
+        | Role::Reaper => Ok(List::new(alloc)),
+    }
+}
+
+/// The first duty of the first control loop that has one.
+pub fn settle(alloc: Global, plain: &Plain) -> Result<Settle, NoMemory>
+    ensures { IfOk result (λ answer. answer ≡ settle_answer (world_of plain.now)) }
+{
+    for role in &ROLES {
+        if let Some(duty) = duties(alloc, plain, *role)?.as_slice().first() {
+            return Ok(Settle::Busy(*duty));
+        }
+    }
+    Ok(Settle::Settled)
+}
+
+/// Answers the call by which a line with this budget asks whether the world has settled, as an entry.
+pub fn settle_call(alloc: Global, plain: &mut Plain, budget: u64) -> Reply
+    requires { IsSmall (world_of plain.old) }
+    ensures { Meets (outcome (world_of plain.old) (Call.Settle budget)) (world_of plain.old) result (world_of plain.new) }
+{
+    if plain.halted {
+        return Reply::Refused(Refusal::Halted);
+    }
+    if plain.entries >= HISTORY {
+        return Reply::Refused(Refusal::Full(plain.entries));
+    }
+    match settle(alloc, plain) {
+        Ok(answer) => {
+            plain.entries += 1;
+            Reply::Settle(budget, answer)
+        }
+        Err(NoMemory) => Reply::Refused(Refusal::NoMemory),
+    }
+}
