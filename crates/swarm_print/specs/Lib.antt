@@ -1,2 +1,4 @@
 pub mod Words
+pub mod Objects
+pub mod Notes
 pub mod Texts

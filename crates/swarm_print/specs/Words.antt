@@ -1,4 +1,4 @@
--- The words of kinds, roles, availabilities and states: states and availabilities in capitals, the others in small letters.
+-- The words of kinds, roles, rules, availabilities and states: states and availabilities in capitals, the others in small letters.
 use Rattle.std.specs.Prelude.{ℕ, List, codes}
 use Rattle.swarm_objects.specs.declared.nodes.Kind.{Kind}
 use Rattle.swarm_objects.specs.declared.nodes.Kind.TheVariants.{Node, Service, Task, Network, Watcher}
@@ -8,6 +8,12 @@ use Rattle.swarm_objects.specs.declared.nodes.Availability.{Availability}
 use Rattle.swarm_objects.specs.declared.nodes.Availability.TheVariants.{Active, Pause, Drain}
 use Rattle.swarm_objects.specs.declared.nodes.NodeState.{NodeState}
 use Rattle.swarm_objects.specs.declared.nodes.NodeState.TheVariants.{Unknown, Down, Ready, Disconnected}
+use Rattle.swarm_objects.specs.declared.rules.SpecRule.{SpecRule}
+use Rattle.swarm_objects.specs.declared.rules.SpecRule.TheVariants.{Replicas, Concurrent, Time, Reservation, Count, Ports, Spread, Ratio, Resources, Subnet, Settings}
+use Rattle.swarm_objects.specs.declared.tasks.TaskState.{TaskState}
+use Rattle.swarm_objects.specs.declared.tasks.TaskState.TheVariants as State
+use Rattle.swarm_objects.specs.declared.tasks.Desired.{Desired}
+use Rattle.swarm_objects.specs.declared.tasks.Desired.TheVariants as Wanted
 
 abbrev pub kind_word : Kind → List ℕ
 kind_word Node = codes "node"
@@ -30,3 +36,39 @@ state_word Unknown = codes "UNKNOWN"
 state_word Down = codes "DOWN"
 state_word Ready = codes "READY"
 state_word Disconnected = codes "DISCONNECTED"
+
+abbrev pub rule_word : SpecRule → List ℕ
+rule_word Replicas = codes "replicas"
+rule_word Concurrent = codes "concurrent"
+rule_word Time = codes "time"
+rule_word Reservation = codes "reservation"
+rule_word Count = codes "count"
+rule_word Ports = codes "ports"
+rule_word Spread = codes "spread"
+rule_word Ratio = codes "ratio"
+rule_word Resources = codes "resources"
+rule_word Subnet = codes "subnet"
+rule_word Settings = codes "settings"
+
+abbrev pub task_state_word : TaskState → List ℕ
+task_state_word State.New = codes "NEW"
+task_state_word State.Pending = codes "PENDING"
+task_state_word State.Assigned = codes "ASSIGNED"
+task_state_word State.Accepted = codes "ACCEPTED"
+task_state_word State.Preparing = codes "PREPARING"
+task_state_word State.Ready = codes "READY"
+task_state_word State.Starting = codes "STARTING"
+task_state_word State.Running = codes "RUNNING"
+task_state_word State.Complete = codes "COMPLETE"
+task_state_word State.Shutdown = codes "SHUTDOWN"
+task_state_word State.Failed = codes "FAILED"
+task_state_word State.Rejected = codes "REJECTED"
+task_state_word State.Remove = codes "REMOVE"
+task_state_word State.Orphaned = codes "ORPHANED"
+
+abbrev pub desired_word : Desired → List ℕ
+desired_word Wanted.Ready = codes "READY"
+desired_word Wanted.Running = codes "RUNNING"
+desired_word Wanted.Complete = codes "COMPLETE"
+desired_word Wanted.Shutdown = codes "SHUTDOWN"
+desired_word Wanted.Remove = codes "REMOVE"

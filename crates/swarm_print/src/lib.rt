@@ -1,6 +1,7 @@
 // What replies look like.
 #![tactic(auto)]
 
+mod notes;
 mod replies;
 #[cfg(test)]
 mod tests;

@@ -1,8 +1,8 @@
 // Words of listings and refusals.
 ghost use Rattle.std.specs.Prelude.{◌≡◌};
-ghost use Rattle.swarm_print.specs.Words.{kind_word, role_word, availability_word, state_word};
+ghost use Rattle.swarm_print.specs.Words.{kind_word, role_word, availability_word, state_word, rule_word, task_state_word, desired_word};
 
-use swarm_objects::{Availability, Kind, NodeRole, NodeState};
+use swarm_objects::{Availability, Desired, Kind, NodeRole, NodeState, SpecRule, TaskState};
 
 pub fn kind_word(kind: Kind) -> &'static str
     ensures { result.now ≡ kind_word kind }
@@ -43,5 +43,56 @@ pub fn state_word(state: NodeState) -> &'static str
         NodeState::Down => "DOWN",
         NodeState::Ready => "READY",
         NodeState::Disconnected => "DISCONNECTED",
+    }
+}
+
+pub fn rule_word(rule: SpecRule) -> &'static str
+    ensures { result.now ≡ rule_word rule }
+{
+    match rule {
+        SpecRule::Replicas => "replicas",
+        SpecRule::Concurrent => "concurrent",
+        SpecRule::Time => "time",
+        SpecRule::Reservation => "reservation",
+        SpecRule::Count => "count",
+        SpecRule::Ports => "ports",
+        SpecRule::Spread => "spread",
+        SpecRule::Ratio => "ratio",
+        SpecRule::Resources => "resources",
+        SpecRule::Subnet => "subnet",
+        SpecRule::Settings => "settings",
+    }
+}
+
+pub fn task_state_word(state: TaskState) -> &'static str
+    ensures { result.now ≡ task_state_word state }
+{
+    match state {
+        TaskState::New => "NEW",
+        TaskState::Pending => "PENDING",
+        TaskState::Assigned => "ASSIGNED",
+        TaskState::Accepted => "ACCEPTED",
+        TaskState::Preparing => "PREPARING",
+        TaskState::Ready => "READY",
+        TaskState::Starting => "STARTING",
+        TaskState::Running => "RUNNING",
+        TaskState::Complete => "COMPLETE",
+        TaskState::Shutdown => "SHUTDOWN",
+        TaskState::Failed => "FAILED",
+        TaskState::Rejected => "REJECTED",
+        TaskState::Remove => "REMOVE",
+        TaskState::Orphaned => "ORPHANED",
+    }
+}
+
+pub fn desired_word(desired: Desired) -> &'static str
+    ensures { result.now ≡ desired_word desired }
+{
+    match desired {
+        Desired::Ready => "READY",
+        Desired::Running => "RUNNING",
+        Desired::Complete => "COMPLETE",
+        Desired::Shutdown => "SHUTDOWN",
+        Desired::Remove => "REMOVE",
     }
 }
