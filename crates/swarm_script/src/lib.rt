@@ -3,6 +3,8 @@
 
 mod entries;
 mod lines;
+mod numbers;
+mod services;
 #[cfg(test)]
 mod tests;
 mod words;
@@ -17,6 +19,8 @@ pub enum Line {
     /// Nothing: an empty line or a comment.
     Blank,
     Call(Call),
+    /// Settle the world in at most so many turns.
+    Settle(u64),
 }
 
 /// Why a line can't be read. Of the faults of a line the first counts.
