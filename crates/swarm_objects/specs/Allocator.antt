@@ -22,7 +22,7 @@ has_numbered_ports s = list_all (has_number s.numbers) s.spec.ports
 -- the task can get its addresses: its service is there, with a number for each port; no network gives addresses yet, so it
 -- must name none
 abbrev pub wants_address : Tables → Task → Bool
-wants_address t x = is_new x && is_wanted x && is_some_and has_numbered_ports (row_at service_id x.service t.services) && length x.template.networks == 0
+wants_address t x = is_new x.state && is_wanted x && is_some_and has_numbered_ports (row_at service_id x.service t.services) && length x.template.networks == 0
 
 abbrev pub allocator : Tables → List Duty
 allocator t = map (λ x. duty.Address x.id) (filter (wants_address t) t.tasks)

@@ -80,7 +80,7 @@ placing t x (Some n) = duty.Place x.id n.id ∷ []
 placing t x None = if says_counts (refusal_counts t x) x.note then [] else duty.Explain x.id ∷ []
 
 abbrev pub schedule : Tables → Task → List Duty
-schedule t x = if is_pending x && is_wanted x then placing t x (best_node t x) else []
+schedule t x = if is_pending x.state && is_wanted x then placing t x (best_node t x) else []
 
 abbrev pub scheduler : Tables → List Duty
 scheduler t = flat_map (schedule t) t.tasks

@@ -15,6 +15,7 @@ use Rattle.swarm_objects.specs.declared.services.Mode.TheVariants as mode
 use Rattle.swarm_objects.specs.declared.services.Service.{Service}
 use Rattle.swarm_objects.specs.declared.tasks.Desired.TheVariants as desired
 use Rattle.swarm_objects.specs.declared.tasks.Task.{Task}
+use Rattle.swarm_objects.specs.declared.tasks.TaskState.{TaskState}
 use Rattle.swarm_objects.specs.declared.tasks.TaskState.TheVariants as state
 
 -- what is wanted of the task is at most its goal
@@ -29,11 +30,13 @@ is_placed t = nat_le (rank state.Assigned) (rank t.state) && nat_le (rank t.stat
 abbrev pub is_wanted : Task → Bool
 is_wanted t = nat_lt (desired_rank t.desired) (desired_rank desired.Shutdown)
 
-abbrev pub is_new : Task → Bool
-is_new t = rank t.state == rank state.New
+abbrev pub is_new : TaskState → Bool
+is_new state.New = true
+is_new _ = false
 
-abbrev pub is_pending : Task → Bool
-is_pending t = rank t.state == rank state.Pending
+abbrev pub is_pending : TaskState → Bool
+is_pending state.Pending = true
+is_pending _ = false
 
 abbrev pub is_of : ℕ → Task → Bool
 is_of service t = t.service == service

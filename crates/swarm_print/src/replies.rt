@@ -89,7 +89,11 @@ fn put_node_of(text: &mut String, node: &Option<Shown>) -> Result<(), AllocError
     }
 }
 
-fn put_service_place(text: &mut String, service: &Shown, place: &PlaceShown) -> Result<(), AllocError>
+fn put_service_place(
+    text: &mut String,
+    service: &Shown,
+    place: &PlaceShown,
+) -> Result<(), AllocError>
     ensures { OnOk result (string_bytes text.new ≡ string_bytes text.old ++ service_place_text service.now place.now) }
 {
     put_shown(text, service)?;

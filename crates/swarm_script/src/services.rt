@@ -4,8 +4,8 @@ ghost use Rattle.swarm_script.specs.Services.{default_template, default_update, 
 
 use std::alloc::Global;
 use swarm_objects::{
-    Call, Draft, End, FailureAction, List, Mode, Name, NoMemory, Op, RestartCondition, RestartPolicy,
-    ServiceSpec, Template, UpdateConfig, UpdateOrder, Workload,
+    Call, Draft, End, FailureAction, List, Mode, Name, NoMemory, Op, RestartCondition,
+    RestartPolicy, ServiceSpec, Template, UpdateConfig, UpdateOrder, Workload,
 };
 
 // What the tasks are whose fields aren't named.

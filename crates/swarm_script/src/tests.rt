@@ -2,7 +2,7 @@
 use crate::{Line, LineFault, read_line, write_entry};
 use std::alloc::Global;
 use std::test::Fail;
-use swarm_objects::{Call, Entry, What};
+use swarm_objects::{Call, Duty, Entry, What};
 
 #[test]
 fn faults_of_lines(rt: HostRuntime) -> Result<(), Fail> {
@@ -18,9 +18,7 @@ fn faults_of_lines(rt: HostRuntime) -> Result<(), Fail> {
         (b" ", Some(LineFault::Word(1))),
         (b" node join n1", Some(LineFault::Word(1))),
         (b"lis", Some(LineFault::Word(1))),
-        (b"service creat", Some(LineFault::Word(1))),
         (b"halt", Some(LineFault::Word(1))),
-        (b"list tasks", Some(LineFault::Word(2))),
         (b"node  join n1", Some(LineFault::Word(2))),
         (b"node join ", Some(LineFault::Word(3))),
         (b"node join .n1", Some(LineFault::Word(3))),
@@ -31,6 +29,46 @@ fn faults_of_lines(rt: HostRuntime) -> Result<(), Fail> {
         (b"node", Some(LineFault::Cut)),
         (b"node join", Some(LineFault::Cut)),
         (b"list", Some(LineFault::Cut)),
+    ];
+    for (text, fault) in table {
+        assert_eq!(rt; read_line(rt.alloc(), text).err(), fault, "at {text:?}");
+    }
+    Ok(())
+}
+
+#[test]
+fn faults_of_services_and_settle_lines(rt: HostRuntime) -> Result<(), Fail> {
+    let table = [
+        (b"service create web".as_slice(), None),
+        (b"service create web replicas=0", None),
+        (b"service create web replicas=18446744073709551615", None),
+        (b"list tasks", None),
+        (b"settle", None),
+        (b"settle 1", None),
+        (b"settle 100000", None),
+        (b"service creat", Some(LineFault::Word(2))),
+        (b"list task", Some(LineFault::Word(2))),
+        (b"settle 0", Some(LineFault::Word(2))),
+        (b"settle 100001", Some(LineFault::Word(2))),
+        (b"settle 01", Some(LineFault::Word(2))),
+        (b"settle ", Some(LineFault::Word(2))),
+        (b"service create -web", Some(LineFault::Word(3))),
+        (b"list tasks web", Some(LineFault::Word(3))),
+        (b"settle 1 1", Some(LineFault::Word(3))),
+        (b"service create web replicas=+1", Some(LineFault::Word(4))),
+        (b"service create web replicas=01", Some(LineFault::Word(4))),
+        (b"service create web replicas=", Some(LineFault::Word(4))),
+        (
+            b"service create web replicas=18446744073709551616",
+            Some(LineFault::Word(4)),
+        ),
+        (b"service create web replica=1", Some(LineFault::Word(4))),
+        (
+            b"service create web replicas=1 replicas=1",
+            Some(LineFault::Word(5)),
+        ),
+        (b"service", Some(LineFault::Cut)),
+        (b"service create", Some(LineFault::Cut)),
     ];
     for (text, fault) in table {
         assert_eq!(rt; read_line(rt.alloc(), text).err(), fault, "at {text:?}");
@@ -64,30 +102,66 @@ fn lengths_of_lines(rt: HostRuntime) -> Result<(), Fail> {
     Ok(())
 }
 
-// The journal's line of what a script's line says.
-fn journal_line(alloc: Global, by: u64, text: &str) -> Result<Option<Vec<u8>>, Fail> {
-    match read_line(alloc, text.as_bytes())? {
-        Line::Blank => Ok(None),
-        Line::Call(call) => {
-            let entry = Entry {
-                by,
-                what: What::Call(call),
-            };
-            Ok(Some(write_entry(alloc, &entry)?.into_vec()))
-        }
+// The journal's line of caller 16's entry with what a script's line says.
+fn journal_line(alloc: Global, text: &str) -> Result<Option<Vec<u8>>, Fail> {
+    let call = match read_line(alloc, text.as_bytes())? {
+        Line::Blank => return Ok(None),
+        Line::Call(call) => call,
+        Line::Settle(budget) => Call::Settle(budget),
+    };
+    let entry = Entry {
+        by: 16,
+        what: What::Call(call),
+    };
+    Ok(Some(write_entry(alloc, &entry)?.into_vec()))
+}
+
+#[test]
+fn texts_of_calls(rt: HostRuntime) -> Result<(), Fail> {
+    let table = [
+        ("node join n1", Some("16 node join n1\n")),
+        ("service create web", Some("16 service create web\n")),
+        (
+            "service create web replicas=1",
+            Some("16 service create web\n"),
+        ),
+        (
+            "service create web replicas=20",
+            Some("16 service create web replicas=20\n"),
+        ),
+        ("list nodes", Some("16 list nodes\n")),
+        ("list tasks", Some("16 list tasks\n")),
+        ("settle", Some("16 settle\n")),
+        ("settle 100000", Some("16 settle\n")),
+        ("settle 7", Some("16 settle 7\n")),
+        ("# nothing", None),
+    ];
+    for (text, want) in table {
+        let line = journal_line(rt.alloc(), text)?;
+        assert_eq!(rt; line.as_deref(), want.map(|want| want.as_bytes()), "{text}");
     }
+    Ok(())
 }
 
 #[test]
 fn texts_of_entries(rt: HostRuntime) -> Result<(), Fail> {
     let table = [
-        (0, "node join n1", Some("0 node join n1\n")),
-        (16, "list nodes", Some("16 list nodes\n")),
-        (0, "# nothing", None),
+        (
+            Duty::ReplicatedCreate(2, 1),
+            "0 duty replicated create 2 1\n",
+        ),
+        (Duty::Address(3), "0 duty allocator address 3\n"),
+        (Duty::Place(3, 1), "0 duty scheduler place 3 1\n"),
+        (Duty::Explain(3), "0 duty scheduler explain 3\n"),
+        (Duty::Register(1), "0 duty agents register 1\n"),
     ];
-    for (by, text, want) in table {
-        let line = journal_line(rt.alloc(), by, text)?;
-        assert_eq!(rt; line.as_deref(), want.map(|want| want.as_bytes()), "{text}");
+    for (duty, want) in table {
+        let entry = Entry {
+            by: 0,
+            what: What::Duty(duty),
+        };
+        let line = write_entry(rt.alloc(), &entry)?;
+        assert_eq!(rt; line.as_slice(), want.as_bytes());
     }
     let halt = Entry {
         by: 0,
