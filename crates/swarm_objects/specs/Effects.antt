@@ -6,12 +6,14 @@ use Rattle.swarm_objects.specs.World.{World, Tables}
 use Rattle.swarm_objects.specs.declared.agents.NodeSession.{NodeSession}
 use Rattle.swarm_objects.specs.declared.duties.Duty.{Duty}
 use Rattle.swarm_objects.specs.declared.duties.Duty.TheVariants as duty
+use Rattle.swarm_objects.specs.declared.nodes.Node.{Node}
 use Rattle.swarm_objects.specs.declared.nodes.NodeState.TheVariants as node_state
 use Rattle.swarm_objects.specs.declared.services.Mode.{Mode}
 use Rattle.swarm_objects.specs.declared.services.Mode.TheVariants as mode
 use Rattle.swarm_objects.specs.declared.services.Service.{Service}
 use Rattle.swarm_objects.specs.declared.tasks.Desired.{Desired}
 use Rattle.swarm_objects.specs.declared.tasks.Desired.TheVariants as desired
+use Rattle.swarm_objects.specs.declared.tasks.Note.{Note}
 use Rattle.swarm_objects.specs.declared.tasks.Note.TheVariants as note
 use Rattle.swarm_objects.specs.declared.tasks.Place.{Place}
 use Rattle.swarm_objects.specs.declared.tasks.Place.TheVariants.{Slot, On}
@@ -72,8 +74,13 @@ addressed version clock x = record (in_state version clock state.Pending x) { no
 abbrev pub placed : ℕ → ℕ → ℕ → Task → Task
 placed version clock node x = record (in_state version clock state.Assigned x) { node = Some node; note = note.Empty }
 
-abbrev pub explained : ℕ → Tables → Task → Task
-explained version t x = record x { version = version; note = note.Filters (refusal_counts t x) }
+abbrev pub noted : ℕ → Note → Task → Task
+noted version note x = record x { version = version; note = note }
+
+-- the note of the task says why no node admits it, where the task is there
+abbrev pub with_reasons : ℕ → Tables → ℕ → Option Task → Tables
+with_reasons version t id None = t
+with_reasons version t id (Some x) = change_task id (noted version (note.Filters (refusal_counts t x))) t
 
 -- Sessions.
 
@@ -84,10 +91,13 @@ new_session t node = record {
   session = record { id = t.next_id; deadline = t.clock + 3 * t.settings.heartbeat; beat = t.clock };
 }
 
+abbrev pub ready_node : ℕ → Node → Node
+ready_node version n = record n { version = version; state = node_state.Ready }
+
 abbrev pub registered : ℕ → Tables → ℕ → Tables
 registered version t node = record t {
   next_id = t.next_id + 1;
-  nodes = change_row node_id node (λ n. record n { version = version; state = node_state.Ready }) t.nodes;
+  nodes = change_row node_id node (ready_node version) t.nodes;
   sessions = with_row session_node (new_session t node) t.sessions;
 }
 
@@ -103,7 +113,7 @@ abbrev pub after_duty : ℕ → Tables → Duty → Tables
 after_duty version t (duty.ReplicatedCreate s k) = with_new_task version t (Slot k) (row_at service_id s t.services)
 after_duty version t (duty.Address x) = change_task x (addressed version t.clock) t
 after_duty version t (duty.Place x n) = change_task x (placed version t.clock n) t
-after_duty version t (duty.Explain x) = change_task x (explained version t) t
+after_duty version t (duty.Explain x) = with_reasons version t x (row_at task_id x t.tasks)
 after_duty version t (duty.Register n) = registered version t n
 
 -- the world after the duty, which is an entry

@@ -35,9 +35,13 @@ abbrev pub is_refusal : ℕ → Option ℕ → Bool
 is_refusal filter None = false
 is_refusal filter (Some k) = k == filter
 
--- the nodes that the filter with this number refuses the task
+-- the filter with this number refuses the task the node
+abbrev pub refuses : Tables → Task → ℕ → Node → Bool
+refuses t x filter n = is_tested_on x.place n.id && is_refusal filter (refused_by t n)
+
+-- how many nodes it refuses the task
 abbrev pub refusals : Tables → Task → ℕ → ℕ
-refusals t x filter = count_by (λ n. is_tested_on x.place n.id && is_refusal filter (refused_by t n)) t.nodes
+refusals t x filter = count_by (refuses t x filter) t.nodes
 
 -- for each filter, in order
 abbrev pub refusal_counts : Tables → Task → List ℕ
