@@ -1,23 +1,35 @@
 // The allocator's duties.
-ghost use Rattle.std.specs.Prelude.{◌≡◌, IfOk};
+ghost use Rattle.std.specs.Prelude.{◌≡◌, ◌==◌, ◌&&◌, IfOk};
 ghost use Rattle.swarm_objects.specs.Allocator.{
     allocator, has_number as has_a_number, has_numbered_ports as has_all_numbers, wants_address as wants_an_address,
 };
+ghost use Rattle.std.specs.List.{list_any};
+ghost use Rattle.swarm_objects.specs.Same.{same_bool};
 ghost use Rattle.swarm_plain.specs.Plain.{world_of};
 
-use crate::words::{is_new, is_wanted, service_at};
-use std::alloc::Global;
-use swarm_objects::{Duty, List, NoMemory, Port, PortNumber, Service, Task, add};
+use crate::words::is_wanted;
+use swarm_objects::{Duty, List, NoMemory, Port, PortNumber, Rows, Service, Task, TaskState, add};
 use swarm_plain::Plain;
+
+// It is the number of this ingress port.
+fn is_for(given: &PortNumber, port: &Port) -> bool
+    ensures { result ≡ (given.now.target == port.now.target && same_bool given.now.udp port.now.udp) }
+{
+    given.target == port.target && given.udp == port.udp
+}
+
+// A number was given to this ingress port.
+fn was_given(numbers: &[PortNumber], port: &Port) -> bool
+    ensures { result ≡ list_any (λ given. given.target == port.now.target && same_bool given.udp port.now.udp) numbers.now }
+{
+    numbers.iter().any(|given| is_for(given, port))
+}
 
 // The ingress port has a number: its own, or one that it was given.
 fn has_number(numbers: &[PortNumber], port: &Port) -> bool
     ensures { result ≡ has_a_number numbers.now port.now }
 {
-    port.number.is_some()
-        || numbers
-            .iter()
-            .any(|given| given.target == port.target && given.udp == port.udp)
+    port.number.is_some() || was_given(numbers, port)
 }
 
 // Each of the service's ports has a number.
@@ -36,17 +48,17 @@ fn has_numbered_ports(service: &Service) -> bool
 fn wants_address(plain: &Plain, task: &Task) -> bool
     ensures { result ≡ wants_an_address (world_of plain.now).tables task.now }
 {
-    is_new(task)
+    task.state == TaskState::New
         && is_wanted(task)
-        && service_at(plain.services.as_slice(), task.service).is_some_and(has_numbered_ports)
+        && plain.service(task.service).is_some_and(has_numbered_ports)
         && task.template.networks.as_slice().is_empty()
 }
 
 /// The tasks that can get their addresses.
-pub fn allocator_duties(alloc: Global, plain: &Plain) -> Result<List<Duty>, NoMemory>
+pub fn allocator_duties(plain: &Plain) -> Result<List<Duty>, NoMemory>
     ensures { IfOk result (λ duties. duties ≡ allocator (world_of plain.now).tables) }
 {
-    let mut duties = List::new(alloc);
+    let mut duties = List::new(plain.alloc);
     for task in plain.tasks.as_slice() {
         if wants_address(plain, task) {
             add(&mut duties, Duty::Address(task.id))?;

@@ -2,21 +2,17 @@
 ghost use Rattle.std.specs.Prelude.{◌≡◌, ◌+◌, true, IfOk, OnOk, OnErr};
 ghost use Rattle.swarm_objects.specs.Duties.{is_due};
 ghost use Rattle.swarm_objects.specs.Effects.{
-    addressed, bound_node as bound_node_of, effect, explained, goal_of as goal_of_mode, new_session as new_session_of, new_task as new_task_of, placed,
+    addressed, bound_node as bound_node_of, effect, goal_of as goal_of_mode, new_session as new_session_of, new_task as new_task_of, noted, placed, ready_node,
 };
 ghost use Rattle.swarm_objects.specs.History.{duty_outcome};
 ghost use Rattle.swarm_objects.specs.Rows.{change_row, node_id, task_id};
 ghost use Rattle.swarm_objects.specs.World.{IsSmall};
-ghost use Rattle.swarm_duties.specs.Clusters.{tables_of};
 ghost use Rattle.swarm_plain.specs.Plain.{world_of};
 
-use crate::filters::{Cluster, refusal_counts};
-use crate::keyed::with_row;
-use crate::words::service_at;
-use std::alloc::Global;
+use crate::filters::refusal_counts;
 use swarm_objects::{
     Desired, Duplicate, Duty, Id, List, Mode, Ms, NoMemory, Node, NodeSession, NodeState, Note, Place,
-    Service, Session, Task, TaskState, Version, add,
+    Rows, Service, Session, Task, TaskState, Version, add, put_in_order,
 };
 use swarm_plain::Plain;
 
@@ -42,7 +38,6 @@ fn bound_node(place: Place) -> Option<Id>
 
 // A task of the service that the next entry makes.
 fn new_task(
-    alloc: Global,
     plain: &Plain,
     service: &Service,
     place: Place,
@@ -57,7 +52,7 @@ fn new_task(
         service: service.id,
         place,
         iteration: service.iteration,
-        template: service.spec.template.duplicate(alloc)?,
+        template: service.spec.template.duplicate(plain.alloc)?,
         born: service.template_version,
         goal: goal_of(service.spec.mode),
         node: bound_node(place),
@@ -66,20 +61,20 @@ fn new_task(
         desired,
         created: plain.clock,
         raise_at: plain.clock,
-        addresses: List::new(alloc),
+        addresses: List::new(plain.alloc),
         note: Note::Empty,
         closed: None,
     })
 }
 
 // The service gets a new task in this slot.
-fn create_task(alloc: Global, plain: &mut Plain, service: Id, slot: u64) -> Result<(), NoMemory>
+fn create_task(plain: &mut Plain, service: Id, slot: u64) -> Result<(), NoMemory>
     requires { IsSmall (world_of plain.old) }
     ensures ok { OnOk result (world_of plain.new ≡ effect (world_of plain.old) (Duty.ReplicatedCreate service slot)) }
     ensures err { OnErr result (world_of plain.new ≡ world_of plain.old) }
 {
-    if let Some(service) = service_at(plain.services.as_slice(), service) {
-        let task = new_task(alloc, plain, service, Place::Slot(slot), Desired::Running)?;
+    if let Some(service) = plain.service(service) {
+        let task = new_task(plain, service, Place::Slot(slot), Desired::Running)?;
         add(&mut plain.tasks, task)?;
         plain.next_id += 1;
     }
@@ -116,22 +111,21 @@ fn place(tasks: &mut [Task], version: Version, now: Ms, id: Id, node: Id)
     }
 }
 
-// The note of the task with this id says for each filter how many nodes it refuses.
-fn explain(tasks: &mut [Task], version: Version, cluster: &Cluster, id: Id)
-    ensures { tasks.new ≡ change_row task_id id (explained version (tables_of cluster.now)) tasks.old }
+// The note of the task with this id is this one now.
+fn note(tasks: &mut [Task], version: Version, note: Note, id: Id)
+    ensures { tasks.new ≡ change_row task_id id (noted version note) tasks.old }
 {
     for task in tasks.iter_mut() {
         if task.id == id {
-            let counts = refusal_counts(cluster, task);
             task.version = version;
-            task.note = Note::Filters(counts);
+            task.note = note;
         }
     }
 }
 
 // The node with this id is READY.
 fn set_ready(nodes: &mut [Node], version: Version, id: Id)
-    ensures { nodes.new ≡ change_row node_id id (λ node. record node { version = version; state = NodeState.Ready }) nodes.old }
+    ensures { nodes.new ≡ change_row node_id id (ready_node version) nodes.old }
 {
     for node in nodes.iter_mut() {
         if node.id == id {
@@ -157,47 +151,70 @@ fn new_session(plain: &Plain, node: Id) -> NodeSession
 }
 
 // The node's agent opens a session.
-fn register(alloc: Global, plain: &mut Plain, node: Id) -> Result<(), NoMemory>
+fn register(plain: &mut Plain, node: Id) -> Result<(), NoMemory>
     requires { IsSmall (world_of plain.old) }
     ensures ok { OnOk result (world_of plain.new ≡ effect (world_of plain.old) (Duty.Register node)) }
     ensures err { OnErr result (world_of plain.new ≡ world_of plain.old) }
 {
     let session = new_session(plain, node);
-    plain.sessions = with_row(alloc, plain.sessions.as_slice(), session)?;
+    put_in_order(&mut plain.sessions, session)?;
     plain.next_id += 1;
     plain.entries += 1;
     set_ready(plain.nodes.as_mut_slice(), plain.entries, node);
     Ok(())
 }
 
+// The task gets its addresses.
+fn address_task(plain: &mut Plain, task: Id)
+    requires { IsSmall (world_of plain.old) }
+    ensures { world_of plain.new ≡ effect (world_of plain.old) (Duty.Address task) }
+{
+    plain.entries += 1;
+    address(plain.tasks.as_mut_slice(), plain.entries, plain.clock, task);
+}
+
+// The task goes to the node.
+fn place_task(plain: &mut Plain, task: Id, node: Id)
+    requires { IsSmall (world_of plain.old) }
+    ensures { world_of plain.new ≡ effect (world_of plain.old) (Duty.Place task node) }
+{
+    plain.entries += 1;
+    place(plain.tasks.as_mut_slice(), plain.entries, plain.clock, task, node);
+}
+
+// The task's note says why it has no node.
+fn explain_task(plain: &mut Plain, task: Id)
+    requires { IsSmall (world_of plain.old) }
+    ensures { world_of plain.new ≡ effect (world_of plain.old) (Duty.Explain task) }
+{
+    plain.entries += 1;
+    let Some(waiting) = plain.task(task) else {
+        return;
+    };
+    let reasons = Note::Filters(refusal_counts(plain, waiting));
+    note(plain.tasks.as_mut_slice(), plain.entries, reasons, task);
+}
+
 /// Does a duty, as an entry. Want of memory changes nothing.
-pub fn do_duty(alloc: Global, plain: &mut Plain, duty: &Duty) -> Result<(), NoMemory>
+pub fn do_duty(plain: &mut Plain, duty: &Duty) -> Result<(), NoMemory>
     requires small { IsSmall (world_of plain.old) }
     requires due { is_due (world_of plain.old).tables duty.now ≡ true }
     ensures ok { OnOk result (world_of plain.new ≡ (duty_outcome (world_of plain.old) duty.now).after) }
     ensures err { OnErr result (world_of plain.new ≡ world_of plain.old) }
 {
     match *duty {
-        Duty::ReplicatedCreate(service, slot) => create_task(alloc, plain, service, slot),
-        Duty::Register(node) => register(alloc, plain, node),
+        Duty::ReplicatedCreate(service, slot) => create_task(plain, service, slot),
+        Duty::Register(node) => register(plain, node),
         Duty::Address(task) => {
-            plain.entries += 1;
-            address(plain.tasks.as_mut_slice(), plain.entries, plain.clock, task);
+            address_task(plain, task);
             Ok(())
         }
         Duty::Place(task, node) => {
-            plain.entries += 1;
-            place(plain.tasks.as_mut_slice(), plain.entries, plain.clock, task, node);
+            place_task(plain, task, node);
             Ok(())
         }
         Duty::Explain(task) => {
-            plain.entries += 1;
-            let cluster = Cluster {
-                now: plain.clock,
-                nodes: plain.nodes.as_slice(),
-                sessions: plain.sessions.as_slice(),
-            };
-            explain(plain.tasks.as_mut_slice(), plain.entries, &cluster, task);
+            explain_task(plain, task);
             Ok(())
         }
     }

@@ -5,7 +5,6 @@ mod agents;
 mod allocator;
 mod effects;
 mod filters;
-mod keyed;
 mod placing;
 mod replicated;
 mod settling;

@@ -3,15 +3,14 @@ ghost use Rattle.std.specs.Prelude.{◌≡◌, filter, None, IfOk, [], option_to
 ghost use Rattle.std.specs.Option.{option_copied};
 ghost use Rattle.swarm_objects.specs.Rows.{keep_least, least_by};
 ghost use Rattle.swarm_objects.specs.Scheduler.{
-    best_node as best_node_of, here as here_of, load as load_of, node_cmp, says_counts as note_says_counts, schedule as schedule_of, scheduler,
+    best_node as best_node_of, here as here_of, load as load_of, node_cmp, placing, says_counts as note_says_counts, schedule as schedule_of, scheduler,
 };
 ghost use Rattle.swarm_plain.specs.Plain.{world_of};
 
-use crate::filters::{admits, cluster_of, refusal_counts};
-use crate::words::{is_live, is_on, is_pending, is_placed, is_wanted};
-use std::alloc::Global;
+use crate::filters::{admits, refusal_counts};
+use crate::words::{is_live, is_on, is_placed, is_wanted};
 use std::cmp::Ordering;
-use swarm_objects::{Duty, Id, List, NoMemory, Node, Note, Task, add};
+use swarm_objects::{Duty, Id, List, NoMemory, Node, Note, Task, TaskState, add};
 use swarm_plain::Plain;
 
 // The service's live tasks from ASSIGNED to RUNNING on the node.
@@ -75,10 +74,9 @@ fn better<'a>(
 fn best_node<'a>(plain: &'a Plain, task: &Task) -> Option<&'a Node>
     ensures { option_copied result ≡ best_node_of (world_of plain.now).tables task.now }
 {
-    let cluster = cluster_of(plain);
     let mut best = None;
     for node in plain.nodes.as_slice() {
-        if admits(&cluster, task, node) {
+        if admits(plain, task, node) {
             best = better(plain, task.service, best, node);
         }
     }
@@ -95,25 +93,36 @@ fn says_counts(counts: &[u64; 6], note: Note) -> bool
     }
 }
 
+// The note of a task that no node admits is to say why, unless it does.
+fn explanation(plain: &Plain, task: &Task) -> Option<Duty>
+    ensures { option_to_list result ≡ placing (world_of plain.now).tables task.now None }
+{
+    let counts = refusal_counts(plain, task);
+    if says_counts(&counts, task.note) {
+        None
+    } else {
+        Some(Duty::Explain(task.id))
+    }
+}
+
 // What there is to do about the task: it goes to the best node; where no node admits it, its note says why.
 fn schedule(plain: &Plain, task: &Task) -> Option<Duty>
     ensures { option_to_list result ≡ schedule_of (world_of plain.now).tables task.now }
 {
-    if !is_pending(task) || !is_wanted(task) {
+    if task.state != TaskState::Pending || !is_wanted(task) {
         return None;
     }
     match best_node(plain, task) {
         Some(node) => Some(Duty::Place(task.id, node.id)),
-        None if says_counts(&refusal_counts(&cluster_of(plain), task), task.note) => None,
-        None => Some(Duty::Explain(task.id)),
+        None => explanation(plain, task),
     }
 }
 
 /// The tasks that are to be placed, or whose notes are to say why they are not.
-pub fn scheduler_duties(alloc: Global, plain: &Plain) -> Result<List<Duty>, NoMemory>
+pub fn scheduler_duties(plain: &Plain) -> Result<List<Duty>, NoMemory>
     ensures { IfOk result (λ duties. duties ≡ scheduler (world_of plain.now).tables) }
 {
-    let mut duties = List::new(alloc);
+    let mut duties = List::new(plain.alloc);
     for task in plain.tasks.as_slice() {
         if let Some(duty) = schedule(plain, task) {
             add(&mut duties, duty)?;

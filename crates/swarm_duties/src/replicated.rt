@@ -8,10 +8,9 @@ ghost use Rattle.swarm_objects.specs.Replicated.{create_slot as create_slot_duty
 ghost use Rattle.swarm_objects.specs.Rows.{first_gap as first_gap_of};
 ghost use Rattle.swarm_plain.specs.Plain.{world_of};
 
-use crate::keyed::with_row;
 use crate::words::is_live;
 use std::alloc::Global;
-use swarm_objects::{Desired, Duty, List, Mode, NoMemory, Place, Service, Task, add, desired_rank};
+use swarm_objects::{Desired, Duty, List, Mode, NoMemory, Place, Service, Task, add, desired_rank, put_in_order};
 use swarm_plain::Plain;
 
 // The task counts for the service's places: for a job only one of its iteration does.
@@ -71,7 +70,7 @@ fn numbers_of(alloc: Global, service: &Service, tasks: &[Task]) -> Result<List<u
     let mut numbers = List::new(alloc);
     for task in tasks {
         if counts_for(service, task) {
-            numbers = with_row(alloc, numbers.as_slice(), place_number(task.place))?;
+            put_in_order(&mut numbers, place_number(task.place))?;
         }
     }
     Ok(numbers)
@@ -127,12 +126,12 @@ fn create_slot(
 }
 
 /// The replicated services that are to get a task, and the slot of each.
-pub fn replicated_duties(alloc: Global, plain: &Plain) -> Result<List<Duty>, NoMemory>
+pub fn replicated_duties(plain: &Plain) -> Result<List<Duty>, NoMemory>
     ensures { IfOk result (λ duties. duties ≡ replicated (world_of plain.now).tables) }
 {
-    let mut duties = List::new(alloc);
+    let mut duties = List::new(plain.alloc);
     for service in plain.services.as_slice() {
-        if let Some(duty) = create_slot(alloc, service, plain.tasks.as_slice())? {
+        if let Some(duty) = create_slot(plain.alloc, service, plain.tasks.as_slice())? {
             add(&mut duties, duty)?;
         }
     }

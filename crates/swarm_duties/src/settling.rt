@@ -9,7 +9,6 @@ use crate::agents::agent_duties;
 use crate::allocator::allocator_duties;
 use crate::placing::scheduler_duties;
 use crate::replicated::replicated_duties;
-use std::alloc::Global;
 use swarm_objects::{Call, Duty, List, NoMemory, Refusal, Reply, Role, Settle};
 use swarm_plain::{HISTORY, Plain};
 
@@ -29,30 +28,30 @@ const ROLES: [Role; 11] = [
 ];
 
 /// What the control loop has to do, in order.
-pub fn duties(alloc: Global, plain: &Plain, role: Role) -> Result<List<Duty>, NoMemory>
+pub fn duties(plain: &Plain, role: Role) -> Result<List<Duty>, NoMemory>
     ensures { IfOk result (λ duties. duties ≡ duties_of role (world_of plain.now).tables) }
 {
     match role {
-        Role::Replicated => replicated_duties(alloc, plain),
-        Role::Allocator => allocator_duties(alloc, plain),
-        Role::Scheduler => scheduler_duties(alloc, plain),
-        Role::Agents => agent_duties(alloc, plain),
+        Role::Replicated => replicated_duties(plain),
+        Role::Allocator => allocator_duties(plain),
+        Role::Scheduler => scheduler_duties(plain),
+        Role::Agents => agent_duties(plain),
         Role::Dispatcher
         | Role::Enforcer
         | Role::Restart
         | Role::Update
         | Role::Global
         | Role::Job
-        | Role::Reaper => Ok(List::new(alloc)),
+        | Role::Reaper => Ok(List::new(plain.alloc)),
     }
 }
 
 /// The first duty of the first control loop that has one.
-pub fn settle(alloc: Global, plain: &Plain) -> Result<Settle, NoMemory>
+pub fn settle(plain: &Plain) -> Result<Settle, NoMemory>
     ensures { IfOk result (λ answer. answer ≡ settle_answer (world_of plain.now)) }
 {
     for role in &ROLES {
-        if let Some(duty) = duties(alloc, plain, *role)?.as_slice().first() {
+        if let Some(duty) = duties(plain, *role)?.as_slice().first() {
             return Ok(Settle::Busy(*duty));
         }
     }
@@ -60,7 +59,7 @@ pub fn settle(alloc: Global, plain: &Plain) -> Result<Settle, NoMemory>
 }
 
 /// Answers the call by which a line with this budget asks whether the world has settled, as an entry.
-pub fn settle_call(alloc: Global, plain: &mut Plain, budget: u64) -> Reply
+pub fn settle_call(plain: &mut Plain, budget: u64) -> Reply
     requires { IsSmall (world_of plain.old) }
     ensures { Meets (outcome (world_of plain.old) (Call.Settle budget)) (world_of plain.old) result (world_of plain.new) }
 {
@@ -70,7 +69,7 @@ pub fn settle_call(alloc: Global, plain: &mut Plain, budget: u64) -> Reply
     if plain.entries >= HISTORY {
         return Reply::Refused(Refusal::Full(plain.entries));
     }
-    match settle(alloc, plain) {
+    match settle(plain) {
         Ok(answer) => {
             plain.entries += 1;
             Reply::Settle(budget, answer)

@@ -1,13 +1,11 @@
 // Words on a task, a node and a service.
 ghost use Rattle.std.specs.Prelude.{◌≡◌};
-ghost use Rattle.std.specs.Option.{option_copied};
-ghost use Rattle.swarm_objects.specs.Rows.{row_at, service_id};
 ghost use Rattle.swarm_objects.specs.TaskWords.{
-    is_live as is_live_row, is_new as is_new_row, is_on as is_on_row, is_pending as is_pending_row, is_placed as is_placed_row,
+    is_live as is_live_row, is_on as is_on_row, is_placed as is_placed_row,
     is_wanted as is_wanted_row,
 };
 
-use swarm_objects::{Desired, Id, Service, Task, TaskState, desired_rank, rank};
+use swarm_objects::{Desired, Id, Task, TaskState, desired_rank, rank};
 
 /// What is wanted of the task is at most its goal.
 pub fn is_live(task: &Task) -> bool
@@ -30,30 +28,9 @@ pub fn is_wanted(task: &Task) -> bool
     desired_rank(task.desired) < desired_rank(Desired::Shutdown)
 }
 
-/// The task is NEW.
-pub fn is_new(task: &Task) -> bool
-    ensures { result ≡ is_new_row task.now }
-{
-    rank(task.state) == rank(TaskState::New)
-}
-
-/// The task is PENDING.
-pub fn is_pending(task: &Task) -> bool
-    ensures { result ≡ is_pending_row task.now }
-{
-    rank(task.state) == rank(TaskState::Pending)
-}
-
 /// The task has this node.
 pub fn is_on(node: Id, task: &Task) -> bool
     ensures { result ≡ is_on_row node task.now }
 {
     task.node == Some(node)
-}
-
-/// The service with this id.
-pub fn service_at(services: &[Service], id: Id) -> Option<&Service>
-    ensures { option_copied result ≡ row_at service_id id services.now }
-{
-    services.iter().find(|service| service.id == id)
 }
