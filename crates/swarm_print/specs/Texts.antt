@@ -7,7 +7,6 @@ use Rattle.swarm_objects.specs.DutyTexts.{duty_text}
 use Rattle.swarm_objects.specs.declared.duties.Settle.{Settle}
 use Rattle.swarm_objects.specs.declared.duties.Settle.TheVariants.{Busy, Settled}
 use Rattle.swarm_objects.specs.declared.calls.Shown.{Shown}
-use Rattle.swarm_objects.specs.declared.calls.Shown.TheVariants.{Name, Id}
 use Rattle.swarm_objects.specs.declared.calls.PlaceShown.{PlaceShown}
 use Rattle.swarm_objects.specs.declared.calls.PlaceShown.TheVariants.{Slot, On}
 use Rattle.swarm_objects.specs.declared.calls.TaskShown.{TaskShown}

@@ -1,7 +1,6 @@
 -- The reading of a line's words is the grammar's.
 use Rattle.std.proofs.Common.{◌≡◌, ◌⊎◌, inl, inr, ℕ, ◌<◌, ◌≤◌, ◌^◌, List, [], ◌∷◌, ◌++◌, take, drop, codes, decimal, Bool, true, false, cond, refl, Option, Some, None, Err, take-append-drop, append-nil, sym, ◌∙◌, ap, subst, arith, not, Ok}
 use Rattle.std.specs.Str.{bytes_eq}
-use Rattle.std.specs.Int.{is_in_range}
 use Rattle.std.proofs.lemmas.Slice.Eq.{bytes_eq-Decides}
 use Rattle.std.proofs.lemmas.Bool.Decides.{nat_tests}
 use Rattle.swarm_objects.specs.declared.calls.Call.TheVariants.{View}
@@ -16,8 +15,7 @@ use Rattle.swarm_script.specs.declared.LineFault.TheVariants.{Word, Long, Byte}
 use Rattle.swarm_script.specs.declared.Line.{Line}
 use Rattle.swarm_script.specs.declared.Line.TheVariants.{Blank, Call as Called, Settle}
 use Rattle.swarm_script.proofs.Readings.{number_yes, number_only}
-use Rattle.std.specs.Prelude.{MatchBool, Result}
-use Rattle.swarm_script.specs.declared.LineFault.{LineFault}
+use Rattle.std.specs.Prelude.{MatchBool}
 
 -- ## Words
 

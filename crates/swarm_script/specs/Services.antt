@@ -1,7 +1,6 @@
 -- The call of a service that is created.
 use Rattle.std.specs.Prelude.{ℕ, nat_eq, List, [], ◌∷◌, ◌++◌, codes, decimal, Bool, true, false, ◌&&◌}
 use Rattle.swarm_objects.specs.declared.services.Draft.{Draft}
-use Rattle.swarm_objects.specs.declared.services.ServiceSpec.{ServiceSpec}
 use Rattle.swarm_objects.specs.declared.services.Mode.{Mode}
 use Rattle.swarm_objects.specs.declared.services.Mode.TheVariants.{Replicated, Global, Job}
 use Rattle.swarm_objects.specs.declared.services.UpdateConfig.{UpdateConfig}
