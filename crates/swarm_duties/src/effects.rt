@@ -2,7 +2,15 @@
 ghost use Rattle.std.specs.Prelude.{◌≡◌, ◌+◌, true, IfOk, OnOk, OnErr};
 ghost use Rattle.swarm_objects.specs.Duties.{is_due};
 ghost use Rattle.swarm_objects.specs.Effects.{
-    addressed, bound_node as bound_node_of, effect, goal_of as goal_of_mode, new_session as new_session_of, new_task as new_task_of, noted, placed, ready_node,
+  addressed,
+  bound_node as bound_node_of,
+  effect,
+  goal_of as goal_of_mode,
+  new_session as new_session_of,
+  new_task as new_task_of,
+  noted,
+  placed,
+  ready_node,
 };
 ghost use Rattle.swarm_objects.specs.History.{duty_outcome};
 ghost use Rattle.swarm_objects.specs.Rows.{change_row, node_id, task_id};
@@ -11,8 +19,8 @@ ghost use Rattle.swarm_plain.specs.Plain.{world_of};
 
 use crate::filters::refusal_counts;
 use swarm_objects::{
-    Desired, Duplicate, Duty, Id, List, Mode, Ms, NoMemory, Node, NodeSession, NodeState, Note, Place,
-    Rows, Service, Session, Task, TaskState, Version, add, put_in_order,
+    Desired, Duplicate, Duty, Id, List, Mode, Ms, NoMemory, Node, NodeSession, NodeState, Note,
+    Place, Rows, Service, Session, Task, TaskState, Version, add, put_in_order,
 };
 use swarm_plain::Plain;
 
@@ -179,7 +187,13 @@ fn place_task(plain: &mut Plain, task: Id, node: Id)
     ensures { world_of plain.new ≡ effect (world_of plain.old) (Duty.Place task node) }
 {
     plain.entries += 1;
-    place(plain.tasks.as_mut_slice(), plain.entries, plain.clock, task, node);
+    place(
+        plain.tasks.as_mut_slice(),
+        plain.entries,
+        plain.clock,
+        task,
+        node,
+    );
 }
 
 // The task's note says why it has no node.

@@ -3,7 +3,14 @@ ghost use Rattle.std.specs.Prelude.{◌≡◌, filter, None, IfOk, [], option_to
 ghost use Rattle.std.specs.Option.{option_copied};
 ghost use Rattle.swarm_objects.specs.Rows.{keep_least, least_by};
 ghost use Rattle.swarm_objects.specs.Scheduler.{
-    best_node as best_node_of, here as here_of, load as load_of, node_cmp, placing, says_counts as note_says_counts, schedule as schedule_of, scheduler,
+  best_node as best_node_of,
+  here as here_of,
+  load as load_of,
+  node_cmp,
+  placing,
+  says_counts as note_says_counts,
+  schedule as schedule_of,
+  scheduler,
 };
 ghost use Rattle.swarm_plain.specs.Plain.{world_of};
 

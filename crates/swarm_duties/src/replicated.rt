@@ -1,8 +1,13 @@
 // The duties on replicated services.
 ghost use Rattle.std.specs.Prelude.{◌≡◌, length, IfOk, option_to_list};
 ghost use Rattle.swarm_objects.specs.Places.{
-    closes as closes_place, counts_for as counts_for_service, held_slots as held_slots_of, is_held as is_held_place, is_in_place as is_task_in_place,
-    numbers_of as numbers_of_places, place_number as number_of_place,
+  closes as closes_place,
+  counts_for as counts_for_service,
+  held_slots as held_slots_of,
+  is_held as is_held_place,
+  is_in_place as is_task_in_place,
+  numbers_of as numbers_of_places,
+  place_number as number_of_place,
 };
 ghost use Rattle.swarm_objects.specs.Replicated.{create_slot as create_slot_duty, replicated};
 ghost use Rattle.swarm_objects.specs.Rows.{first_gap as first_gap_of};
@@ -10,7 +15,9 @@ ghost use Rattle.swarm_plain.specs.Plain.{world_of};
 
 use crate::words::is_live;
 use std::alloc::Global;
-use swarm_objects::{Desired, Duty, List, Mode, NoMemory, Place, Service, Task, add, desired_rank, put_in_order};
+use swarm_objects::{
+    Desired, Duty, List, Mode, NoMemory, Place, Service, Task, add, desired_rank, put_in_order,
+};
 use swarm_plain::Plain;
 
 // The task counts for the service's places: for a job only one of its iteration does.
@@ -107,11 +114,7 @@ fn first_gap(numbers: &[u64]) -> u64
 }
 
 // A new task for the service, where fewer slots are held than it is to have replicas.
-fn create_slot(
-    alloc: Global,
-    service: &Service,
-    tasks: &[Task],
-) -> Result<Option<Duty>, NoMemory>
+fn create_slot(alloc: Global, service: &Service, tasks: &[Task]) -> Result<Option<Duty>, NoMemory>
     ensures { IfOk result (λ duty. option_to_list duty ≡ create_slot_duty service.now.id (held_slots_of service.now tasks.now) service.now.spec.mode) }
 {
     let Mode::Replicated(replicas) = service.spec.mode else {

@@ -4,15 +4,19 @@ use Rattle.std.specs.List.{list_all}
 use Rattle.std.proofs.lemmas.List.Folds.{list_all-append}
 use Rattle.swarm_objects.specs.World.{World, IsSmall, empty_world}
 use Rattle.swarm_objects.specs.Calls.{Outcome, outcome, call_outcome, is_admitted, is_halt, most_entries}
-use Rattle.swarm_objects.specs.History.{replay, step_reply, IsLegal}
+use Rattle.swarm_objects.specs.History.{replay, step_reply, duty_outcome, may_be_done, IsLegal}
 use Rattle.swarm_objects.specs.declared.calls.Call.{Call}
 use Rattle.swarm_objects.specs.declared.calls.Call.TheVariants.{Halt}
 use Rattle.swarm_objects.specs.declared.calls.Entry.{Entry}
 use Rattle.swarm_objects.specs.declared.calls.Reply.{Reply}
-use Rattle.swarm_objects.proofs.Histories.{IsSmall-replay, entries-replay, entries-running, entries-call, halted-call, admitted, admitted-Halt, outcome-admitted, replay-snoc, IsLegalFrom-snoc}
+use Rattle.swarm_objects.proofs.Histories.{IsSmall-replay, entries-replay, entries-running, entries-call, halted-call, admitted, duty_admitted, admitted-Halt, outcome-admitted, replay-snoc, IsLegalFrom-snoc}
 use Rattle.swarm_plain.specs.Plain.{Meets}
 use Rattle.swarm_script.specs.Journal.{has_text, call_has_text}
-use Rattle.swarm_top.specs.Serial.{entry_of}
+use Rattle.swarm_top.specs.Serial.{entry_of, duty_entry}
+use Rattle.swarm_objects.specs.Duties.{settle_answer, is_due}
+use Rattle.swarm_objects.specs.declared.duties.Duty.{Duty}
+use Rattle.swarm_objects.specs.declared.duties.Settle.TheVariants.{Busy}
+use Rattle.swarm_objects.proofs.DutyLemmas.{due_of_settle}
 
 pub small : (w : World) (H : List Entry) → IsLegal H → w ≡ replay H → IsSmall w
 small w H legal is = subst IsSmall (sym is) (IsSmall-replay H legal)
@@ -70,3 +74,27 @@ and_true false b e h = cc
 
 pub texts-snoc : (H : List Entry) (call : Call) → list_all has_text H ≡ true → call_has_text call ≡ true → list_all has_text (H ++ entry_of call ∷ []) ≡ true
 texts-snoc H call all one = list_all-append has_text H (entry_of call ∷ []) ∙ and_true (list_all has_text H) (call_has_text call) all one
+
+-- A duty that the settle test names.
+
+-- the run after a duty
+pub record Turns (H : List Entry) (duty : Duty) (v : World) : Type 0 where
+  pub legal : IsLegal (H ++ duty_entry duty ∷ [])
+  pub world : v ≡ replay (H ++ duty_entry duty ∷ [])
+  pub running : v.halted ≡ false
+
+pub due : (w : World) (H : List Entry) (duty : Duty) → w ≡ replay H → settle_answer (replay H) ≡ Busy duty → is_due w.tables duty ≡ true
+due w H duty is busy = due_of_settle w duty (ap settle_answer is ∙ busy)
+
+pub turning : (w v : World) (H : List Entry) (duty : Duty) → IsLegal H → w ≡ replay H → w.halted ≡ false → w.entries < 300000 → settle_answer (replay H) ≡ Busy duty → v ≡ (duty_outcome w duty).after →
+    Turns H duty v
+turning w v H duty legal is running few busy went =
+    let may = duty_admitted w duty running few (due w H duty is busy) in
+    record {
+      legal = IsLegalFrom-snoc empty_world H (duty_entry duty) legal (subst (λ (u : World). may_be_done u duty ≡ true) is may);
+      world = went ∙ ap (λ (u : World). (duty_outcome u duty).after) is ∙ sym (replay-snoc empty_world H (duty_entry duty));
+      running = ap (λ (u : World). u.halted) went ∙ running;
+    }
+
+pub texts-duty : (H : List Entry) (duty : Duty) → list_all has_text H ≡ true → list_all has_text (H ++ duty_entry duty ∷ []) ≡ true
+texts-duty H duty all = list_all-append has_text H (duty_entry duty ∷ []) ∙ and_true (list_all has_text H) true all refl

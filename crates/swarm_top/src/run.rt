@@ -27,7 +27,6 @@ pub enum Unanswered {
 /// A world that runs, with its history. Contracts see the history.
 #[derive(Drop)]
 pub struct Run {
-    alloc: Global,
     plain: Plain,
     history: Vec<Entry>,
 }
@@ -45,12 +44,12 @@ impl Model for Run {
 }
 
 // Answers a call, that of the settle test too.
-fn answer(alloc: Global, plain: &mut Plain, call: &Call) -> Reply
+fn answer(plain: &mut Plain, call: &Call) -> Reply
     requires { IsSmall (world_of plain.old) }
     ensures { Meets (outcome (world_of plain.old) call.now) (world_of plain.old) result (world_of plain.new) }
 {
     match call {
-        Call::Settle(budget) => settle_call(alloc, plain, *budget),
+        Call::Settle(budget) => settle_call(plain, *budget),
         _ => plain.call(call),
     }
 }
@@ -61,7 +60,6 @@ impl Run {
         ensures { IfOk result (λ run. run ≡ []) }
     {
         Ok(Run {
-            alloc,
             plain: Plain::new(alloc),
             history: Vec::with_capacity(alloc, 1)?,
         })
@@ -82,7 +80,7 @@ impl Run {
             return Err(Unanswered::NoMemory);
         };
         let before = self.plain.entries;
-        let reply = answer(self.alloc, &mut self.plain, &call);
+        let reply = answer(&mut self.plain, &call);
         if self.plain.entries == before {
             return Err(Unanswered::NoMemory);
         }
@@ -100,7 +98,7 @@ impl Run {
     pub fn settle(&self) -> Result<Settle, NoMemory>
         ensures { IfOk result (λ answer. answer ≡ settle_answer (replay self.now)) }
     {
-        settle(self.alloc, &self.plain)
+        settle(&self.plain)
     }
 
     /// Does the duty that the settle test names, as caller 0, or says why it could not.
@@ -116,7 +114,7 @@ impl Run {
         let Ok(()) = self.history.reserve(2) else {
             return Err(Unanswered::NoMemory);
         };
-        let Ok(()) = do_duty(self.alloc, &mut self.plain, &duty) else {
+        let Ok(()) = do_duty(&mut self.plain, &duty) else {
             return Err(Unanswered::NoMemory);
         };
         let entry = Entry {
@@ -138,7 +136,6 @@ impl Run {
         let Run {
             mut plain,
             mut history,
-            ..
         } = self;
         plain.call(&Call::Halt);
         let entry = Entry {

@@ -1,4 +1,4 @@
-use Rattle.std.proofs.Common.{◌≡◌, ◌<◌, Bool, true, false, take, length, Option, Some, None, sym, ◌∙◌, ap, arith, refl}
+use Rattle.std.proofs.Common.{◌<◌, length, None, sym, ◌∙◌, ap, arith}
 use Rattle.std.specs.Prelude.{filter, ◌||◌}
 use Rattle.std.specs.List.{list_any, last_or}
 use Rattle.std.specs.Option.{option_copied}
@@ -24,12 +24,12 @@ loop-task-preserved c =
     let x = c.task-item.result in
     let lt : c.loop-task.task-index < length tasks = omega arith in
     elim c.if-is_in_place.branch [
-    then-is_in_place+else-is_live w ↦ (let yes' = sym c.is_in_place.ensures ∙ w.if-is_in_place.true in record {
+      | then-is_in_place+else-is_live w ↦ (let yes' = sym c.is_in_place.ensures ∙ w.if-is_in_place.true in record {
         dead = any_still p is_live tasks i x lt c.task-item.is yes' (sym w.is_live.ensures ∙ w.if-is_live.false) c.loop-task.invariant.dead;
         newest = ap option_copied w.newest-is ∙ sym (last_passed p tasks i x lt c.task-item.is yes');
-    })
-    | else-is_in_place w ↦ (let same = none_passed p tasks i x lt c.task-item.is (sym c.is_in_place.ensures ∙ w.if-is_in_place.false) in record {
+      })
+      | else-is_in_place w ↦ (let same = none_passed p tasks i x lt c.task-item.is (sym c.is_in_place.ensures ∙ w.if-is_in_place.false) in record {
         dead = ap (list_any is_live) same ∙ c.loop-task.invariant.dead;
         newest = ap option_copied w.newest-is ∙ c.loop-task.invariant.newest ∙ sym (ap (last_or None) same);
-    })
+      })
     ]

@@ -1,5 +1,5 @@
-use Rattle.std.proofs.Common.{◌≡◌, take, false, None}
-use Rattle.std.specs.List.{list_any, last_or}
+use Rattle.std.proofs.Common.{◌≡◌, take, false}
+use Rattle.std.specs.List.{list_any}
 use Rattle.std.specs.Option.{option_copied}
 use Rattle.swarm_objects.specs.Places.{newest, tasks_of_place}
 use Rattle.swarm_objects.specs.TaskWords.{is_live}
