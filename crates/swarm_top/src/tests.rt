@@ -264,8 +264,10 @@ fn services_settle(rt: HostRuntime) -> Result<(), Fail> {
     assert_eq!(rt; left.out.as_slice(), b"ok 1\nsettled\ntasks 0\n".as_slice());
 
     let script = b"node join n1\nservice create web replicas=2\nsettle\nlist tasks\n";
-    let out = b"ok 1\nok 2\nsettled\ntasks 2\ntask 3 web.1 n1 ASSIGNED RUNNING -\ntask 4 web.2 n1 ASSIGNED RUNNING -\n";
-    let journal = b"swarm journal 1\n0 node join n1\n0 service create web replicas=2\n0 duty replicated create 2 1\n0 duty replicated create 2 2\n0 duty allocator address 3\n0 duty allocator address 4\n0 duty scheduler explain 3\n0 duty scheduler explain 4\n0 duty agents register 1\n0 duty scheduler place 3 1\n0 duty scheduler place 4 1\n0 settle\n0 list tasks\n0 halt\n";
+    let out =
+        b"ok 1\nok 2\nsettled\ntasks 2\ntask 3 web.1 n1 ASSIGNED RUNNING -\ntask 4 web.2 n1 ASSIGNED RUNNING -\n";
+    let journal =
+        b"swarm journal 1\n0 node join n1\n0 service create web replicas=2\n0 duty replicated create 2 1\n0 duty replicated create 2 2\n0 duty allocator address 3\n0 duty allocator address 4\n0 duty scheduler explain 3\n0 duty scheduler explain 4\n0 duty agents register 1\n0 duty scheduler place 3 1\n0 duty scheduler place 4 1\n0 settle\n0 list tasks\n0 halt\n";
     let left = run(&rt, script, &SOUND)?;
     assert_eq!(rt; left.status, 0);
     assert_eq!(rt; left.out.as_slice(), out.as_slice());
@@ -273,6 +275,9 @@ fn services_settle(rt: HostRuntime) -> Result<(), Fail> {
 
     let left = run(&rt, b"service create web\nsettle 2\n", &SOUND)?;
     assert_eq!(rt; left.status, 0);
-    assert_eq!(rt; left.out.as_slice(), b"ok 1\nunsettled 2 scheduler explain 2\n".as_slice());
+    assert_eq!(rt;
+        left.out.as_slice(),
+        b"ok 1\nunsettled 2 scheduler explain 2\n".as_slice()
+    );
     Ok(())
 }
