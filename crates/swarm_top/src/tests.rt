@@ -245,13 +245,12 @@ fn one_node_too_many(rt: HostRuntime) -> Result<(), Fail> {
             .as_slice()
             .ends_with(b"ok 1000\nrefused 19 TooMany node 1000\n")
     );
-    let entries = left
+    let lines = left
         .journal
         .as_slice()
         .iter()
         .filter(|b| **b == b'\n')
-        .count()
-        - 1;
-    assert_eq!(rt; entries, 1_002);
+        .count();
+    assert_eq!(rt; lines, 1_003);
     Ok(())
 }
