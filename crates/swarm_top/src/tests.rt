@@ -256,13 +256,16 @@ fn one_node_too_many(rt: HostRuntime) -> Result<(), Fail> {
 }
 
 #[test]
-fn services_settle(rt: HostRuntime) -> Result<(), Fail> {
-    // no_replicas
+fn no_replicas_settle(rt: HostRuntime) -> Result<(), Fail> {
     let script = b"service create web replicas=0\nsettle\nlist tasks\n";
     let left = run(&rt, script, &SOUND)?;
     assert_eq!(rt; left.status, 0);
     assert_eq!(rt; left.out.as_slice(), b"ok 1\nsettled\ntasks 0\n".as_slice());
+    Ok(())
+}
 
+#[test]
+fn replicas_are_placed(rt: HostRuntime) -> Result<(), Fail> {
     let script = b"node join n1\nservice create web replicas=2\nsettle\nlist tasks\n";
     let out =
         b"ok 1\nok 2\nsettled\ntasks 2\ntask 3 web.1 n1 ASSIGNED RUNNING -\ntask 4 web.2 n1 ASSIGNED RUNNING -\n";
@@ -272,7 +275,11 @@ fn services_settle(rt: HostRuntime) -> Result<(), Fail> {
     assert_eq!(rt; left.status, 0);
     assert_eq!(rt; left.out.as_slice(), out.as_slice());
     assert_eq!(rt; left.journal.as_slice(), journal.as_slice());
+    Ok(())
+}
 
+#[test]
+fn budget_runs_out(rt: HostRuntime) -> Result<(), Fail> {
     let left = run(&rt, b"service create web\nsettle 2\n", &SOUND)?;
     assert_eq!(rt; left.status, 0);
     assert_eq!(rt;
