@@ -3,11 +3,14 @@ use Rattle.std.proofs.Common.{◌≡◌, ℕ, Bool, true, false, cond, eqb, ltb,
 use Rattle.std.specs.Prelude.{flat_map, ◌||◌, ◌&&◌}
 use Rattle.std.specs.List.{list_any}
 use Rattle.std.proofs.lemmas.Bool.Decides.{nat_tests}
+use Rattle.std.proofs.lemmas.Slice.Eq.{bytes_eq-Decides}
+use Rattle.std.specs.Str.{bytes_eq}
+use Rattle.std.specs.Bool.{Decides}
 use Rattle.swarm_objects.proofs.RowLemmas.{Has-flat_map_cases, Has-map_cases}
 use Rattle.std.specs.Prelude.{filter}
 use Rattle.swarm_objects.specs.Agents.{wants_session}
 use Rattle.swarm_objects.specs.Allocator.{wants_address}
-use Rattle.swarm_objects.specs.Duties.{all_duties, duties, is_due, role_of, roles, same_duty, settle_answer, settle_by}
+use Rattle.swarm_objects.specs.Duties.{all_duties, duties, duty_numbers, is_due, kind_place, role_of, roles, same_duty, settle_answer, settle_by}
 use Rattle.swarm_objects.specs.Places.{held_slots}
 use Rattle.swarm_objects.specs.Replicated.{create_slot}
 use Rattle.swarm_objects.specs.Rows.{Has, first_gap, first_of}
@@ -30,19 +33,19 @@ first_has : (ds : List Duty) (d : Duty) → settle_by (first_of ds) ≡ Busy d �
 first_has [] d e = absurd cc
 first_has (x ∷ ds) d e = inl cc
 
-same_both : (a b : ℕ) → (eqb a a && eqb b b) ≡ true
-same_both a b = go (eqb a a) (eqb b b) (grind (arith, nat_tests)) (grind (arith, nat_tests))
+same_numbers : (ns : List ℕ) → bytes_eq ns ns ≡ true
+same_numbers ns = of_decides (bytes_eq ns ns) (bytes_eq-Decides ns ns)
   where
-    go : (p q : Bool) → p ≡ true → q ≡ true → (p && q) ≡ true
-    go true q e f = f
-    go false q e f = e
+    of_decides : (b : Bool) → Decides b (ns ≡ ns) → b ≡ true
+    of_decides true d = refl
+    of_decides false d = absurd (d refl)
 
 same_self : (d : Duty) → same_duty d d ≡ true
-same_self (duty.ReplicatedCreate s k) = same_both s k
-same_self (duty.Address x) = grind (arith, nat_tests)
-same_self (duty.Place x n) = same_both x n
-same_self (duty.Explain x) = grind (arith, nat_tests)
-same_self (duty.Register n) = grind (arith, nat_tests)
+same_self d = both (eqb (kind_place d) (kind_place d)) (bytes_eq (duty_numbers d) (duty_numbers d)) (grind (arith, nat_tests)) (same_numbers (duty_numbers d))
+  where
+    both : (p q : Bool) → p ≡ true → q ≡ true → (p && q) ≡ true
+    both true q e f = f
+    both false q e f = e
 
 any_has : (ds : List Duty) (d : Duty) → Has ds d → list_any (same_duty d) ds ≡ true
 any_has [] d h = absurd h

@@ -5,8 +5,8 @@ use Rattle.std.specs.Str.{bytes_eq}
 use Rattle.swarm_objects.specs.Rows.{service_id}
 use Rattle.swarm_objects.specs.ServiceRules.{service_breaks, service_rules}
 use Rattle.swarm_objects.specs.World.{World, Tables}
-use Rattle.swarm_objects.specs.declared.calls.Refusal.{Refusal}
-use Rattle.swarm_objects.specs.declared.calls.Refusal.TheVariants.{BadSpec, NameTaken, TooMany}
+use Rattle.swarm_objects.specs.declared.replies.Refusal.{Refusal}
+use Rattle.swarm_objects.specs.declared.replies.Refusal.TheVariants.{BadSpec, NameTaken, TooMany}
 use Rattle.swarm_objects.specs.declared.nodes.Kind.TheVariants.{Service as ServiceKind}
 use Rattle.swarm_objects.specs.declared.rules.SpecRule.{SpecRule}
 use Rattle.swarm_objects.specs.declared.services.Draft.{Draft}

@@ -2,9 +2,9 @@
 use Rattle.std.specs.Prelude.{◌≡◌, ◌⊎◌}
 use Rattle.swarm_objects.specs.World.{World, Tables}
 use Rattle.swarm_objects.specs.Calls.{Outcome}
-use Rattle.swarm_objects.specs.declared.calls.Refusal.TheVariants.{NoMemory}
-use Rattle.swarm_objects.specs.declared.calls.Reply.{Reply}
-use Rattle.swarm_objects.specs.declared.calls.Reply.TheVariants.{Refused}
+use Rattle.swarm_objects.specs.declared.replies.Refusal.TheVariants.{NoMemory}
+use Rattle.swarm_objects.specs.declared.replies.Reply.{Reply}
+use Rattle.swarm_objects.specs.declared.replies.Reply.TheVariants.{Refused}
 use Rattle.swarm_plain.specs.declared.Plain.{Plain}
 
 abbrev pub tables_of : Plain → Tables

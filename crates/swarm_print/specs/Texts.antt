@@ -1,20 +1,20 @@
 -- The texts of replies.
 use Rattle.std.specs.Prelude.{ℕ, List, [], ◌∷◌, ◌++◌, length, codes, decimal, Option, Some, None}
 use Rattle.std.specs.List.{flat_map}
-use Rattle.swarm_objects.specs.declared.calls.NodeShown.{NodeShown}
-use Rattle.swarm_objects.specs.declared.calls.Refusal.{Refusal}
+use Rattle.swarm_objects.specs.declared.shown.NodeShown.{NodeShown}
+use Rattle.swarm_objects.specs.declared.replies.Refusal.{Refusal}
 use Rattle.swarm_objects.specs.DutyTexts.{duty_text}
 use Rattle.swarm_objects.specs.declared.duties.Settle.{Settle}
 use Rattle.swarm_objects.specs.declared.duties.Settle.TheVariants.{Busy, Settled}
-use Rattle.swarm_objects.specs.declared.calls.Shown.{Shown}
-use Rattle.swarm_objects.specs.declared.calls.PlaceShown.{PlaceShown}
-use Rattle.swarm_objects.specs.declared.calls.PlaceShown.TheVariants.{Slot, On}
-use Rattle.swarm_objects.specs.declared.calls.TaskShown.{TaskShown}
-use Rattle.swarm_objects.specs.declared.calls.Refusal.TheVariants.{NameTaken, BadSpec, TooManyOps, TooMany, Halted, Full, NoMemory}
-use Rattle.swarm_objects.specs.declared.calls.ViewReply.{ViewReply}
-use Rattle.swarm_objects.specs.declared.calls.ViewReply.TheVariants.{Nodes, Tasks}
-use Rattle.swarm_objects.specs.declared.calls.Reply.{Reply}
-use Rattle.swarm_objects.specs.declared.calls.Reply.TheVariants.{Txn, Refused, View, Settle as Settles, HaltDone, Did}
+use Rattle.swarm_objects.specs.declared.shown.Shown.{Shown}
+use Rattle.swarm_objects.specs.declared.shown.PlaceShown.{PlaceShown}
+use Rattle.swarm_objects.specs.declared.shown.PlaceShown.TheVariants.{Slot, On}
+use Rattle.swarm_objects.specs.declared.shown.TaskShown.{TaskShown}
+use Rattle.swarm_objects.specs.declared.replies.Refusal.TheVariants.{NameTaken, BadSpec, TooManyOps, TooMany, Halted, Full, NoMemory}
+use Rattle.swarm_objects.specs.declared.replies.ViewReply.{ViewReply}
+use Rattle.swarm_objects.specs.declared.replies.ViewReply.TheVariants.{Nodes, Tasks}
+use Rattle.swarm_objects.specs.declared.replies.Reply.{Reply}
+use Rattle.swarm_objects.specs.declared.replies.Reply.TheVariants.{Txn, Refused, View, Settle as Settles, HaltDone, Did}
 use Rattle.swarm_print.specs.Words.{kind_word, role_word, availability_word, state_word, rule_word, task_state_word, desired_word}
 use Rattle.swarm_print.specs.Notes.{note_text}
 use Rattle.swarm_print.specs.Objects.{shown_text}

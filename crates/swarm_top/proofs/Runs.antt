@@ -8,7 +8,7 @@ use Rattle.swarm_objects.specs.History.{replay, step_reply, duty_outcome, may_be
 use Rattle.swarm_objects.specs.declared.calls.Call.{Call}
 use Rattle.swarm_objects.specs.declared.calls.Call.TheVariants.{Halt}
 use Rattle.swarm_objects.specs.declared.calls.Entry.{Entry}
-use Rattle.swarm_objects.specs.declared.calls.Reply.{Reply}
+use Rattle.swarm_objects.specs.declared.replies.Reply.{Reply}
 use Rattle.swarm_objects.proofs.Histories.{IsSmall-replay, entries-replay, entries-running, entries-call, halted-call, admitted, duty_admitted, admitted-Halt, outcome-admitted, replay-snoc, IsLegalFrom-snoc}
 use Rattle.swarm_plain.specs.Plain.{Meets}
 use Rattle.swarm_script.specs.Journal.{has_text, call_has_text}

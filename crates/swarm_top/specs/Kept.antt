@@ -6,7 +6,7 @@ use Rattle.swarm_objects.specs.History.{replay, step_reply, IsLegal}
 use Rattle.swarm_objects.specs.declared.calls.Call.{Call}
 use Rattle.swarm_objects.specs.declared.calls.Entry.{Entry}
 use Rattle.swarm_objects.specs.declared.duties.Duty.{Duty}
-use Rattle.swarm_objects.specs.declared.calls.Reply.{Reply}
+use Rattle.swarm_objects.specs.declared.replies.Reply.{Reply}
 use Rattle.swarm_plain.specs.Plain.{world_of}
 use Rattle.swarm_script.specs.Journal.{has_text}
 use Rattle.swarm_top.specs.Serial.{entry_of, duty_entry}

@@ -8,7 +8,7 @@ use Rattle.swarm_objects.specs.Outside.{AppendsPrefix}
 use Rattle.swarm_objects.specs.declared.calls.Call.{Call}
 use Rattle.swarm_objects.specs.declared.calls.Call.TheVariants.{Halt}
 use Rattle.swarm_objects.specs.declared.calls.Entry.{Entry}
-use Rattle.swarm_objects.specs.declared.calls.Reply.{Reply}
+use Rattle.swarm_objects.specs.declared.replies.Reply.{Reply}
 use Rattle.swarm_print.specs.Texts.{reply_text}
 use Rattle.swarm_script.specs.declared.Line.{Line}
 use Rattle.swarm_script.specs.declared.LineFault.{LineFault}

@@ -10,8 +10,8 @@ use Rattle.swarm_objects.specs.declared.calls.Entry.{Entry}
 use Rattle.swarm_objects.specs.declared.calls.What.TheVariants.{Call as Called, Duty as WhatDuty}
 use Rattle.swarm_objects.specs.declared.duties.Duty.{Duty}
 use Rattle.swarm_objects.specs.declared.duties.Settle.TheVariants.{Busy, Settled}
-use Rattle.swarm_objects.specs.declared.calls.Reply.{Reply}
-use Rattle.swarm_objects.specs.declared.calls.Reply.TheVariants.{Txn, Refused, View, Settle as SettleReply, HaltDone, Did}
+use Rattle.swarm_objects.specs.declared.replies.Reply.{Reply}
+use Rattle.swarm_objects.specs.declared.replies.Reply.TheVariants.{Txn, Refused, View, Settle as SettleReply, HaltDone, Did}
 use Rattle.swarm_print.specs.Texts.{reply_text}
 use Rattle.swarm_script.specs.Journal.{entry_text}
 use Rattle.swarm_script.specs.declared.Line.{Line}
