@@ -44,12 +44,14 @@ is_active Active = true
 is_active Paused = false
 is_active Drain = false
 
+abbrev pub is_usual_platform : NodeDraft → Bool
+is_usual_platform draft = bytes_eq draft.os (codes "linux") && bytes_eq draft.arch (codes "amd64")
+
 abbrev pub is_usual_node : NodeDraft → Bool
 is_usual_node draft =
     has_no_items draft.labels && (is_worker draft.role && (is_active draft.availability
     && (nat_eq draft.cpu 4000 && (nat_eq draft.mem 8589934592
-    && (bytes_eq draft.os (codes "linux") && (bytes_eq draft.arch (codes "amd64")
-    && (has_no_items draft.engine && not draft.remote)))))))
+    && (is_usual_platform draft && (has_no_items draft.engine && not draft.remote))))))
 
 -- A service with no other field than its replicas.
 
