@@ -38,7 +38,7 @@ same_numbers ns = of_decides (bytes_eq ns ns) (bytes_eq-Decides ns ns)
   where
     of_decides : (b : Bool) → Decides b (ns ≡ ns) → b ≡ true
     of_decides true d = refl
-    of_decides false d = absurd (d refl)
+    of_decides false d = d.1 refl
 
 same_self : (d : Duty) → same_duty d d ≡ true
 same_self d = both (eqb (kind_place d) (kind_place d)) (bytes_eq (duty_numbers d) (duty_numbers d)) (grind (arith, nat_tests)) (same_numbers (duty_numbers d))

@@ -1,6 +1,6 @@
 // What the control loops have to do, and whether anything is left of it.
 ghost use Rattle.std.specs.Prelude.{◌≡◌};
-ghost use Rattle.swarm_objects.specs.Duties.{role_of};
+ghost use Rattle.swarm_objects.specs.Duties.{duty_named, role_of};
 ghost use Rattle.swarm_objects.specs.DutyTexts.{duty_kind};
 
 use crate::{Cause, Duplicate, Id, Ms, NoMemory, Role};
@@ -144,6 +144,18 @@ impl Duty {
             Duty::Exec(_, _) => "exec",
             Duty::Report(_, _) => "report",
             Duty::Forget(_, _) => "forget",
+        }
+    }
+}
+
+impl Settle {
+    /// The duty that it names.
+    pub fn duty(&self) -> Option<Duty>
+        ensures { result ≡ duty_named self.now }
+    {
+        match self {
+            Settle::Busy(duty) => Some(*duty),
+            _ => None,
         }
     }
 }

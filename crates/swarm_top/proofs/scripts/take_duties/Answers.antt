@@ -1,16 +1,15 @@
-use Rattle.std.proofs.Common.{◌≡◌, ◌∙◌, ◌-◌, length, sym, subst}
+use Rattle.std.proofs.Common.{◌≡◌, ◌∙◌, ◌-◌, length, sym, subst, Some}
 use Rattle.swarm_objects.specs.Calls.{most_entries}
-use Rattle.swarm_objects.specs.Duties.{settle_answer}
+use Rattle.swarm_objects.specs.Duties.{settle_answer, duty_named}
 use Rattle.swarm_objects.specs.History.{replay}
-use Rattle.swarm_objects.specs.declared.duties.Settle.TheVariants.{Busy, Settled}
 use Rattle.swarm_top.specs.Parts.{StopsSettling}
 use Rattle.swarm_top.specs.declared.endings.Ending.TheVariants.{NoMemory, Full}
 use Rattle.swarm_top.proofs.Settling.{settling_next, settling_more, settling_settled, settling_no_memory, settling_full, settling_past}
 use Rattle.swarm_top.proofs.scripts.take_duties.Goals as goal
 
-pub returns-in-Ok-Settled-clause-ok : goal.returns-in-Ok-Settled-clause-ok
-returns-in-Ok-Settled-clause-ok c =
-    settling_settled c.args.budget (c.args.budget - c.loop.counter) c.args.run.now c.loop.run c.loop.invariant (sym c.in-Ok-Settled.ensures ∙ c.in-Ok-Settled.field-0-is)
+pub returns-in-Ok-None-clause-ok : goal.returns-in-Ok-None-clause-ok
+returns-in-Ok-None-clause-ok c =
+    settling_settled c.args.budget (c.args.budget - c.loop.counter) c.args.run.now c.loop.run c.loop.invariant (sym c.in-Ok-None.ensures ∙ c.in-Ok-None.field-0-is)
 
 pub returns-in-Err-clause-err : goal.returns-in-Err-clause-err
 returns-in-Err-clause-err c = settling_no_memory c.args.budget (c.args.budget - c.loop.counter) c.args.run.now c.loop.run c.loop.invariant
@@ -18,9 +17,9 @@ returns-in-Err-clause-err c = settling_no_memory c.args.budget (c.args.budget - 
 pub returns-in-Err-Full-clause-err : goal.returns-in-Err-Full-clause-err
 returns-in-Err-Full-clause-err c =
     let next = settling_next c.args.budget c.loop.counter c.args.run.now c.loop.run c.loop-test.true c.loop.invariant in
-    let busy : settle_answer (replay c.loop.run) ≡ Busy c.in-Ok-Busy.duty = sym c.in-Ok-Busy.ensures ∙ c.in-Ok-Busy.field-0-is in
+    let busy : duty_named (settle_answer (replay c.loop.run)) ≡ Some c.in-Ok-Some.duty = sym c.in-Ok-Some.ensures ∙ c.in-Ok-Some.field-0-is in
     let nothing : (c.turn.new.self ≡ c.loop.run) × (length c.loop.run ≡ most_entries) = rw c.in-Err-Full.field-0-is at c.in-Err-Full.ensures.err in
-    subst (StopsSettling Full c.args.budget c.args.run.now) (sym nothing.0) (settling_full c.args.budget _ c.args.run.now c.loop.run c.in-Ok-Busy.duty next busy nothing.1)
+    subst (StopsSettling Full c.args.budget c.args.run.now) (sym nothing.0) (settling_full c.args.budget _ c.args.run.now c.loop.run c.in-Ok-Some.duty next busy nothing.1)
 
 pub returns-in-Err-NoMemory-clause-err : goal.returns-in-Err-NoMemory-clause-err
 returns-in-Err-NoMemory-clause-err c =
@@ -30,5 +29,5 @@ returns-in-Err-NoMemory-clause-err c =
 pub loop-preserved : goal.loop-preserved
 loop-preserved c =
     let next = settling_next c.args.budget c.loop.counter c.args.run.now c.loop.run c.loop-test.true c.loop.invariant in
-    let busy : settle_answer (replay c.loop.run) ≡ Busy c.in-Ok-Busy.duty = sym c.in-Ok-Busy.ensures ∙ c.in-Ok-Busy.field-0-is in
-    settling_more c.args.budget _ c.args.run.now c.loop.run c.turn.new.self c.in-Ok-Busy.duty next busy c.in-Ok.ensures.ok
+    let busy : duty_named (settle_answer (replay c.loop.run)) ≡ Some c.in-Ok-Some.duty = sym c.in-Ok-Some.ensures ∙ c.in-Ok-Some.field-0-is in
+    settling_more c.args.budget _ c.args.run.now c.loop.run c.turn.new.self c.in-Ok-Some.duty next busy c.in-Ok.ensures.ok
