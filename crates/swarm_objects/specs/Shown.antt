@@ -3,14 +3,14 @@ use Rattle.std.specs.Prelude.{ℕ, List, map, Option, Some, None}
 use Rattle.std.specs.Option.{option_map}
 use Rattle.swarm_objects.specs.Rows.{row_at, node_id, service_id, network_id}
 use Rattle.swarm_objects.specs.World.{Tables}
-use Rattle.swarm_objects.specs.declared.shown.NodeShown.{NodeShown}
-use Rattle.swarm_objects.specs.declared.shown.NoteShown.{NoteShown}
-use Rattle.swarm_objects.specs.declared.shown.NoteShown.TheVariants as note_shown
-use Rattle.swarm_objects.specs.declared.shown.PlaceShown.{PlaceShown}
-use Rattle.swarm_objects.specs.declared.shown.PlaceShown.TheVariants as place_shown
-use Rattle.swarm_objects.specs.declared.shown.Shown.{Shown}
-use Rattle.swarm_objects.specs.declared.shown.Shown.TheVariants as by
-use Rattle.swarm_objects.specs.declared.shown.TaskShown.{TaskShown}
+use Rattle.swarm_objects.specs.declared.views.NodeShown.{NodeShown}
+use Rattle.swarm_objects.specs.declared.views.NoteShown.{NoteShown}
+use Rattle.swarm_objects.specs.declared.views.NoteShown.TheVariants as note_shown
+use Rattle.swarm_objects.specs.declared.views.PlaceShown.{PlaceShown}
+use Rattle.swarm_objects.specs.declared.views.PlaceShown.TheVariants as place_shown
+use Rattle.swarm_objects.specs.declared.views.Shown.{Shown}
+use Rattle.swarm_objects.specs.declared.views.Shown.TheVariants as by
+use Rattle.swarm_objects.specs.declared.views.TaskShown.{TaskShown}
 use Rattle.swarm_objects.specs.declared.networks.Network.{Network}
 use Rattle.swarm_objects.specs.declared.nodes.Node.{Node}
 use Rattle.swarm_objects.specs.declared.services.Service.{Service}

@@ -5,9 +5,9 @@ ghost use Rattle.swarm_objects.specs.Shown.{network_shown as shown_network, node
 ghost use Rattle.swarm_plain.specs.Plain.{tables_of, world_of};
 
 use crate::Plain;
+use swarm_objects::views::{NodeShown, NoteShown, PlaceShown, Shown, TaskShown};
 use swarm_objects::{
-    Duplicate, Id, List, NoMemory, NodeShown, Note, NoteShown, Place, PlaceShown, Query, Reply, Rows,
-    Shown, Task, TaskShown, ViewReply, add,
+    Duplicate, Id, List, NoMemory, Note, Place, Query, Reply, Rows, Task, ViewReply, add,
 };
 
 impl Plain {

@@ -3,8 +3,8 @@ use Rattle.std.specs.Prelude.{ℕ, ◌+◌, nat_eq, List, [], ◌∷◌, ◌++�
 use Rattle.std.specs.List.{flat_map}
 use Rattle.swarm_objects.specs.declared.tasks.Closed.{Closed}
 use Rattle.swarm_objects.specs.declared.tasks.Closed.TheVariants.{Condition, Done, Attempts}
-use Rattle.swarm_objects.specs.declared.shown.NoteShown.{NoteShown}
-use Rattle.swarm_objects.specs.declared.shown.NoteShown.TheVariants.{Empty, Closed as Closes, Filters, NoPort, NoAddress}
+use Rattle.swarm_objects.specs.declared.views.NoteShown.{NoteShown}
+use Rattle.swarm_objects.specs.declared.views.NoteShown.TheVariants.{Empty, Closed as Closes, Filters, NoPort, NoAddress}
 use Rattle.swarm_print.specs.Objects.{shown_text}
 
 abbrev pub nodes_text : ℕ → List ℕ

@@ -1,15 +1,15 @@
 -- The texts of replies.
 use Rattle.std.specs.Prelude.{ℕ, List, [], ◌∷◌, ◌++◌, length, codes, decimal, Option, Some, None}
 use Rattle.std.specs.List.{flat_map}
-use Rattle.swarm_objects.specs.declared.shown.NodeShown.{NodeShown}
+use Rattle.swarm_objects.specs.declared.views.NodeShown.{NodeShown}
 use Rattle.swarm_objects.specs.declared.replies.Refusal.{Refusal}
 use Rattle.swarm_objects.specs.DutyTexts.{duty_text}
 use Rattle.swarm_objects.specs.declared.duties.Settle.{Settle}
 use Rattle.swarm_objects.specs.declared.duties.Settle.TheVariants.{Busy, Settled}
-use Rattle.swarm_objects.specs.declared.shown.Shown.{Shown}
-use Rattle.swarm_objects.specs.declared.shown.PlaceShown.{PlaceShown}
-use Rattle.swarm_objects.specs.declared.shown.PlaceShown.TheVariants.{Slot, On}
-use Rattle.swarm_objects.specs.declared.shown.TaskShown.{TaskShown}
+use Rattle.swarm_objects.specs.declared.views.Shown.{Shown}
+use Rattle.swarm_objects.specs.declared.views.PlaceShown.{PlaceShown}
+use Rattle.swarm_objects.specs.declared.views.PlaceShown.TheVariants.{Slot, On}
+use Rattle.swarm_objects.specs.declared.views.TaskShown.{TaskShown}
 use Rattle.swarm_objects.specs.declared.replies.Refusal.TheVariants.{NameTaken, BadSpec, TooManyOps, TooMany, Halted, Full, NoMemory}
 use Rattle.swarm_objects.specs.declared.replies.ViewReply.{ViewReply}
 use Rattle.swarm_objects.specs.declared.replies.ViewReply.TheVariants.{Nodes, Tasks}

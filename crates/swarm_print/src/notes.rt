@@ -5,7 +5,8 @@ ghost use Rattle.swarm_print.specs.Notes.{nodes_text, filter_front, filter_back,
 
 use std::alloc::{AllocError, Global};
 use std::fmt::Write;
-use swarm_objects::{Closed, NoteShown, Shown};
+use swarm_objects::Closed;
+use swarm_objects::views::{NoteShown, Shown};
 
 pub fn put_shown(text: &mut String, shown: &Shown) -> Result<(), AllocError>
     ensures { OnOk result (string_bytes text.new ≡ string_bytes text.old ++ shown_text shown.now) }

@@ -11,10 +11,8 @@ use crate::words::{
 };
 use std::alloc::{AllocError, Global};
 use std::fmt::Write;
-use swarm_objects::{
-    Id, List, NoMemory, NodeShown, PlaceShown, Refusal, Reply, Settle, Shown, TaskShown, ViewReply,
-    put_duty,
-};
+use swarm_objects::views::{NodeShown, PlaceShown, Shown, TaskShown};
+use swarm_objects::{Id, List, NoMemory, Refusal, Reply, Settle, ViewReply, put_duty};
 
 fn put_done(text: &mut String, ids: &[Id]) -> Result<(), AllocError>
     ensures { OnOk result (string_bytes text.new ≡ string_bytes text.old ++ codes "ok" ++ flat_map id_text ids.now ++ codes "\n") }

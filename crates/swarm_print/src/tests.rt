@@ -2,10 +2,10 @@
 use crate::reply_text;
 use std::alloc::Global;
 use std::test::Fail;
+use swarm_objects::views::{NodeShown, NoteShown, PlaceShown, Shown, TaskShown};
 use swarm_objects::{
-    Availability, Closed, Desired, Duty, Kind, List, Name, NodeRole, NodeShown, NodeState,
-    NoteShown, PlaceShown, Refusal, Reply, Settle, Shown, SpecRule, TaskShown, TaskState,
-    ViewReply,
+    Availability, Closed, Desired, Duty, Kind, List, Name, NodeRole, NodeState, Refusal, Reply,
+    Settle, SpecRule, TaskState, ViewReply,
 };
 
 fn ids(alloc: Global, ids: &[u64]) -> Result<Reply, Fail> {
