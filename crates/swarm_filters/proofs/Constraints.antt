@@ -1,9 +1,8 @@
 -- The constraint that a text is: the machine makes it, and there is no other.
-use Rattle.std.proofs.Common.{◌≡◌, ℕ, List, Option, Some, None, refl, ap, ◌∙◌}
+use Rattle.std.proofs.Common.{◌≡◌, ℕ, List, Option, Some, None, refl, sym, ap, ◌∙◌, subst}
 use Rattle.std.specs.Option.{option_and_then}
-use Rattle.std.proofs.Math.Logic.{◌↔◌}
 use Rattle.swarm_objects.specs.declared.templates.Constraint.{Constraint}
-use Rattle.swarm_filters.specs.Grammar.{IsConstraint, IsFault, IsOnly}
+use Rattle.swarm_filters.specs.Grammar.{HoldsExactly, IsConstraint, IsFault, IsOnly}
 use Rattle.swarm_filters.specs.Machine.{Reading, start, run, whole_of, constraint_of}
 use Rattle.swarm_filters.proofs.Runs.{IsConstraint-read}
 use Rattle.swarm_filters.proofs.Wholes.{run-IsConstraint}
@@ -20,9 +19,12 @@ constraint_of-sound text c is = go (run start text) refl is
     go None e h = absurd (cc)
     go (Some s) e h = IsConstraint-read text s c e h
 
--- what is computed is the constraint that the text is
-pub constraint_of-law : (text : List ℕ) (c : Constraint) → (constraint_of text ≡ Some c) ↔ IsConstraint text c
-constraint_of-law text c = (constraint_of-sound text c, constraint_of-complete text c)
+pub constraint_of-exact : (text : List ℕ) → HoldsExactly (IsConstraint text) (constraint_of text)
+constraint_of-exact text c = (constraint_of-sound text c, constraint_of-complete text c)
+
+-- what equals the one that is computed is it
+pub exact_constraint : (text : List ℕ) (held : Option Constraint) → held ≡ constraint_of text → HoldsExactly (IsConstraint text) held
+exact_constraint text held is = subst (λ o. HoldsExactly (IsConstraint text) o) (sym is) (constraint_of-exact text)
 
 -- a text is at most one constraint
 pub one_constraint : (text : List ℕ) (c d : Constraint) → IsConstraint text c → IsConstraint text d → c ≡ d

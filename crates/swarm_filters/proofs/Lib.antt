@@ -1,6 +1,6 @@
 pub mod Labels
 pub mod Suffixes
-pub mod Keys
+pub mod KeyWords
 pub mod Runs
 pub mod Wholes
 pub mod FaultLemmas
@@ -8,3 +8,5 @@ pub mod Places
 pub mod Steps
 pub mod Texts
 pub mod Constraints
+pub mod KeyTexts
+pub mod Written

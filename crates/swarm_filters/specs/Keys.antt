@@ -1,7 +1,7 @@
 -- The key that a text is.
-use Rattle.std.specs.Prelude.{List, ℕ, codes, drop, length, nat_eq, Bool, ◌&&◌, if◌then◌else◌, Option, Some, None}
+use Rattle.std.specs.Prelude.{List, ℕ, codes, drop, length, nat_eq, ◌&&◌, if◌then◌else◌, Option, Some, None}
 use Rattle.std.specs.List.{starts_with}
-use Rattle.std.specs.Option.{option_or}
+use Rattle.std.specs.Option.{option_map, option_or}
 use Rattle.std.specs.Str.{bytes_eq, str_to_ascii_lowercase}
 use Rattle.swarm_objects.specs.declared.templates.Key.{Key}
 use Rattle.swarm_objects.specs.declared.templates.Key.TheVariants as key
@@ -17,19 +17,14 @@ fixed_key low =
     else (if bytes_eq (codes "node.platform.arch") low then Some key.Arch
     else None))))
 
--- what stands behind a prefix
-abbrev pub behind : List ℕ → List ℕ → List ℕ
-behind prefix text = drop (length prefix) text
-
--- the text is the prefix, in letters of either case, and then a name
-abbrev pub has_label : List ℕ → List ℕ → Bool
-has_label prefix text = starts_with nat_eq (str_to_ascii_lowercase text) prefix && is_name (behind prefix text)
+-- the name behind the prefix, where the text is that prefix, in letters of either case, and then a name
+abbrev pub name_behind : List ℕ → List ℕ → Option (List ℕ)
+name_behind prefix text =
+    if starts_with nat_eq (str_to_ascii_lowercase text) prefix && is_name (drop (length prefix) text) then Some (drop (length prefix) text) else None
 
 -- the label that a text is
 abbrev pub label_of : List ℕ → Option Key
-label_of text =
-    if has_label (codes "node.labels.") text then Some (key.Label (behind (codes "node.labels.") text))
-    else (if has_label (codes "engine.labels.") text then Some (key.Engine (behind (codes "engine.labels.") text)) else None)
+label_of text = option_or (option_map key.Label (name_behind (codes "node.labels.") text)) (option_map key.Engine (name_behind (codes "engine.labels.") text))
 
 -- the key that a text is, where it is one
 abbrev pub key_of : List ℕ → Option Key

@@ -4,8 +4,9 @@ use Rattle.std.specs.Str.{str_to_ascii_lowercase}
 use Rattle.swarm_objects.specs.declared.templates.Key.{Key}
 use Rattle.swarm_objects.specs.declared.templates.Key.TheVariants as key
 use Rattle.swarm_objects.specs.declared.templates.Constraint.{Constraint}
-use Rattle.swarm_filters.specs.Grammar.{IsConstraint, is_name, is_value}
+use Rattle.swarm_filters.specs.Grammar.{IsConstraint, is_value}
 use Rattle.swarm_filters.specs.Machine.{Reading, start, in_key, in_label, after_key, in_sign, after_sign, in_value, finished, label_key, constraint_with}
+use Rattle.swarm_filters.specs.Spellings.{key_has_text}
 use Rattle.swarm_filters.specs.declared.states.Span.{Span}
 use Rattle.swarm_filters.specs.declared.states.Found.{Found}
 use Rattle.swarm_filters.specs.declared.states.Found.TheVariants as found
@@ -72,17 +73,11 @@ abbrev pub OptionFits : ℕ → Option State → Type 0
 OptionFits place None = Unit {0}
 OptionFits place (Some s) = StateFits place s
 
--- a label's name is one
-abbrev pub IsNamed : Key → Type 0
-IsNamed (key.Label name) = IsTrue (is_name name)
-IsNamed (key.Engine name) = IsTrue (is_name name)
-IsNamed _ = Unit {0}
-
 -- the parts are the whole text
 pub record PartsRead (text : List ℕ) (p : Parts) : Type 0 where
   pub fits : PartsFit (length text) p
   pub is : IsConstraint text (whole_at text p)
-  pub named : IsNamed (key_at text p.found)
+  pub named : IsTrue (key_has_text (key_at text p.found))
   pub valued : IsTrue (is_value (span_of text p.value))
 
 abbrev pub option_whole : List ℕ → Option Parts → Option Constraint

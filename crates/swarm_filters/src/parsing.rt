@@ -36,14 +36,14 @@ fn begins_name(bytes: &[u8]) -> bool
     }
 }
 
-fn is_name(bytes: &[u8]) -> bool
+pub fn is_name(bytes: &[u8]) -> bool
     ensures { result ≡ name_test bytes.now }
 {
     begins_name(bytes) && is_value(bytes)
 }
 
-// Whether the bytes are the word, in letters of either case.
-fn is_word(word: &[u8], bytes: &[u8]) -> bool
+/// Whether the bytes are the word, in letters of either case.
+pub fn is_word(word: &[u8], bytes: &[u8]) -> bool
     requires { str_to_ascii_lowercase word.now ≡ word.now }
     ensures { result ≡ bytes_eq word.now (str_to_ascii_lowercase bytes.now) }
 {
