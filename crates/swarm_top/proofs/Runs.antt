@@ -83,7 +83,7 @@ pub record Turns (H : List Entry) (duty : Duty) (v : World) : Type 0 where
   pub world : v ≡ replay (H ++ duty_entry duty ∷ [])
   pub running : v.halted ≡ false
 
-pub due : (w : World) (H : List Entry) (duty : Duty) → w ≡ replay H → settle_answer (replay H) ≡ Busy duty → is_due w.tables duty ≡ true
+due : (w : World) (H : List Entry) (duty : Duty) → w ≡ replay H → settle_answer (replay H) ≡ Busy duty → is_due w.tables duty ≡ true
 due w H duty is busy = due_of_settle w duty (ap settle_answer is ∙ busy)
 
 pub turning : (w v : World) (H : List Entry) (duty : Duty) → IsLegal H → w ≡ replay H → w.halted ≡ false → w.entries < 300000 → settle_answer (replay H) ≡ Busy duty → v ≡ (duty_outcome w duty).after →

@@ -2,10 +2,10 @@ use Rattle.std.proofs.Common.{◌≡◌, ◌∙◌, ◌-◌, length, sym, subst}
 use Rattle.swarm_objects.specs.Calls.{most_entries}
 use Rattle.swarm_objects.specs.Duties.{settle_answer}
 use Rattle.swarm_objects.specs.History.{replay}
-use Rattle.swarm_objects.specs.declared.duties.Settle.TheVariants.{Busy, Settled}
+use Rattle.swarm_objects.specs.declared.duties.Settle.TheVariants.{Busy}
 use Rattle.swarm_top.specs.Parts.{StopsSettling}
 use Rattle.swarm_top.specs.declared.endings.Ending.TheVariants.{NoMemory, Full}
-use Rattle.swarm_top.proofs.Settling.{settling_next, settling_more, settling_settled, settling_no_memory, settling_full, settling_past}
+use Rattle.swarm_top.proofs.Settling.{settling_next, settling_more, settling_settled, settling_no_memory, settling_full}
 use Rattle.swarm_top.proofs.scripts.take_duties.Goals as goal
 
 pub returns-in-Ok-Settled-clause-ok : goal.returns-in-Ok-Settled-clause-ok
