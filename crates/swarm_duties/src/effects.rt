@@ -1,6 +1,5 @@
 // Doing the duties.
-ghost use Rattle.std.specs.Prelude.{◌≡◌, ◌+◌, true, IfOk, OnOk, OnErr};
-ghost use Rattle.swarm_objects.specs.Duties.{is_due};
+ghost use Rattle.std.specs.Prelude.{◌≡◌, ◌+◌, IfOk, OnOk, OnErr};
 ghost use Rattle.swarm_objects.specs.Effects.{
   addressed,
   bound_node as bound_node_of,
@@ -209,10 +208,10 @@ fn explain_task(plain: &mut Plain, task: Id)
     note(plain.tasks.as_mut_slice(), plain.entries, reasons, task);
 }
 
-/// Does a duty, as an entry. One of a control loop that isn't written yet does nothing. Want of memory changes nothing.
+/// Does a duty, as an entry; whether it is due is the caller's to know. One of a control loop that isn't written yet does nothing. Want of memory changes
+/// nothing.
 pub fn do_duty(plain: &mut Plain, duty: &Duty) -> Result<(), NoMemory>
-    requires small { IsSmall (world_of plain.old) }
-    requires due { is_due (world_of plain.old).tables duty.now ≡ true }
+    requires { IsSmall (world_of plain.old) }
     ensures ok { OnOk result (world_of plain.new ≡ (duty_outcome (world_of plain.old) duty.now).after) }
     ensures err { OnErr result (world_of plain.new ≡ world_of plain.old) }
 {

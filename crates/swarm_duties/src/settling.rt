@@ -2,7 +2,6 @@
 ghost use Rattle.std.specs.Prelude.{◌≡◌, IfOk};
 ghost use Rattle.swarm_objects.specs.Calls.{outcome};
 ghost use Rattle.swarm_objects.specs.Duties.{duties as duties_of, settle_answer};
-ghost use Rattle.swarm_objects.specs.World.{IsSmall};
 ghost use Rattle.swarm_plain.specs.Plain.{world_of, Meets};
 
 use crate::agents::agent_duties;
@@ -60,7 +59,6 @@ pub fn settle(plain: &Plain) -> Result<Settle, NoMemory>
 
 /// Answers the call by which a line with this budget asks whether the world has settled, as an entry.
 pub fn settle_call(plain: &mut Plain, budget: u64) -> Reply
-    requires { IsSmall (world_of plain.old) }
     ensures { Meets (outcome (world_of plain.old) (Call.Settle budget)) (world_of plain.old) result (world_of plain.new) }
 {
     if plain.halted {

@@ -1,5 +1,5 @@
 -- What is put for the lines of a script.
-use Rattle.std.proofs.Common.{◌≡◌, inl, inr, ℕ, ◌≤◌, List, ◌∷◌, ◌++◌, length, take, Bool, true, false, ◌||◌, refl, Option, Some, None, Result, Ok, Err, sym, ◌∙◌, ap, subst, arith, ◌+◌}
+use Rattle.std.proofs.Common.{◌≡◌, ℕ, ◌≤◌, List, ◌∷◌, ◌++◌, length, take, Bool, true, false, ◌||◌, refl, Option, Some, None, Result, Ok, Err, sym, ◌∙◌, ap, subst, arith, ◌+◌}
 use Rattle.std.specs.Io.KnownBytes.{Appends}
 use Rattle.swarm_objects.specs.Outside.{Rose, AppendsPrefix}
 use Rattle.swarm_objects.specs.declared.calls.Entry.{Entry}

@@ -89,7 +89,7 @@ named_busy : (answer : Answer) (duty : Duty) → duty_named answer ≡ Some duty
 named_busy (Busy d) duty e = cc
 named_busy _ duty e = cc
 
-pub due : (w : World) (H : List Entry) (duty : Duty) → w ≡ replay H → duty_named (settle_answer (replay H)) ≡ Some duty → is_due w.tables duty ≡ true
+due : (w : World) (H : List Entry) (duty : Duty) → w ≡ replay H → duty_named (settle_answer (replay H)) ≡ Some duty → is_due w.tables duty ≡ true
 due w H duty is busy = due_of_settle w duty (ap settle_answer is ∙ named_busy (settle_answer (replay H)) duty busy)
 
 pub turning : (w v : World) (H : List Entry) (duty : Duty) → IsLegal H → w ≡ replay H → w.halted ≡ false → w.entries < 300000 → duty_named (settle_answer (replay H)) ≡ Some duty → v ≡ (duty_outcome w duty).after →

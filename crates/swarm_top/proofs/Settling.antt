@@ -10,7 +10,6 @@ use Rattle.swarm_objects.specs.Calls.{most_entries}
 use Rattle.swarm_objects.specs.Duties.{settle_answer, duty_named}
 use Rattle.swarm_objects.specs.History.{replay, replay_from, replies_from, step_world}
 use Rattle.swarm_objects.specs.Outside.{AppendsPrefix}
-use Rattle.swarm_objects.specs.declared.calls.Call.{Call}
 use Rattle.swarm_objects.specs.declared.calls.Call.TheVariants.{Settle}
 use Rattle.swarm_objects.specs.declared.calls.Entry.{Entry}
 use Rattle.swarm_objects.specs.declared.duties.Duty.{Duty}
@@ -18,8 +17,8 @@ use Rattle.swarm_objects.proofs.Histories.{replay-snoc, replay-append}
 use Rattle.swarm_print.specs.Texts.{reply_text}
 use Rattle.swarm_script.specs.declared.Line.{Line}
 use Rattle.swarm_script.specs.declared.Line.TheVariants.{Blank, Call as CallLine, Settle as SettleLine}
-use Rattle.swarm_top.specs.Serial.{entry_of, duty_entry, settle_entries, line_entries, is_refused, output, has_refusal}
-use Rattle.swarm_top.specs.Parts.{TakesLine, TakesPart, DoesLine, line_out, line_refused, Settling, StopsSettling}
+use Rattle.swarm_top.specs.Serial.{entry_of, duty_entry, settle_entries, line_entries, is_refused}
+use Rattle.swarm_top.specs.Parts.{TakesLine, DoesLine, line_out, line_refused, Settling, StopsSettling}
 use Rattle.swarm_top.specs.declared.endings.Ending.{Ending}
 use Rattle.swarm_top.specs.declared.endings.Ending.TheVariants.{Done, Refused, ReadFault, OutFault, JournalFault, NoMemory, NoMemoryAt, BadLine, Full}
 use Rattle.swarm_top.proofs.Readings.{replies-append}

@@ -6,7 +6,6 @@ use Rattle.swarm_objects.specs.CanDo.{can_do}
 use Rattle.swarm_objects.specs.Calls.{most_entries, is_halt}
 use Rattle.swarm_objects.specs.History.{replay, replies_from}
 use Rattle.swarm_objects.specs.Outside.{AppendsPrefix}
-use Rattle.swarm_objects.specs.declared.calls.Call.{Call}
 use Rattle.swarm_objects.specs.declared.calls.Call.TheVariants.{Halt}
 use Rattle.swarm_objects.specs.declared.calls.Entry.{Entry}
 use Rattle.swarm_objects.specs.declared.replies.Reply.{Reply}

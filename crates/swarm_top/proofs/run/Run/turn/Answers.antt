@@ -6,7 +6,7 @@ use Rattle.swarm_objects.specs.declared.calls.Entry.{Entry}
 use Rattle.swarm_plain.specs.Plain.{world_of}
 use Rattle.swarm_script.specs.Journal.{has_text}
 use Rattle.swarm_top.specs.Serial.{duty_entry}
-use Rattle.swarm_top.proofs.Runs.{small, full, due, turning, texts-duty}
+use Rattle.swarm_top.proofs.Runs.{small, full, turning, texts-duty}
 use Rattle.swarm_top.proofs.run.Run.turn.Goals as goal
 
 pub returns-then-self-ge-HISTORY-clause-err : goal.returns-then-self-ge-HISTORY-clause-err
@@ -14,11 +14,8 @@ returns-then-self-ge-HISTORY-clause-err c =
     let kept = c.self.invariant in
     (refl, rw (← c.self.view_is) (full (world_of c.self.inside.plain) c.self.inside.history.items kept.legal kept.world kept.running (omega arith)))
 
-pub do_duty-requires-clause-small : goal.do_duty-requires-clause-small
-do_duty-requires-clause-small c = small (world_of c.self.inside.plain) c.self.inside.history.items c.self.invariant.legal c.self.invariant.world
-
-pub do_duty-requires-clause-due : goal.do_duty-requires-clause-due
-do_duty-requires-clause-due c = due (world_of c.self.inside.plain) c.self.inside.history.items c.args.duty c.self.invariant.world (subst (λ (H : List Entry). duty_named (settle_answer (replay H)) ≡ Some c.args.duty) (sym c.self.view_is) c.requires)
+pub do_duty-requires : goal.do_duty-requires
+do_duty-requires c = small (world_of c.self.inside.plain) c.self.inside.history.items c.self.invariant.legal c.self.invariant.world
 
 pub invariant_of-self-2 : goal.invariant_of-self-2
 invariant_of-self-2 c =
