@@ -1,7 +1,11 @@
 // What replies look like.
 #![tactic(auto)]
 
+mod details;
+mod lists;
 mod notes;
+mod objects;
+mod refusals;
 mod replies;
 #[cfg(test)]
 mod tests;

@@ -1,21 +1,12 @@
 // The texts of notes.
 ghost use Rattle.std.specs.Prelude.{◌≡◌, ◌++◌, IfOk, OnOk, string_bytes};
-ghost use Rattle.swarm_print.specs.Objects.{shown_text};
 ghost use Rattle.swarm_print.specs.Notes.{nodes_text, filter_front, filter_back, filter_text, refusing, filters_text, unsuitable_text, closed_text, note_text};
 
+use crate::objects::put_shown;
 use std::alloc::{AllocError, Global};
 use std::fmt::Write;
 use swarm_objects::Closed;
-use swarm_objects::views::{NoteShown, Shown};
-
-pub fn put_shown(text: &mut String, shown: &Shown) -> Result<(), AllocError>
-    ensures { OnOk result (string_bytes text.new ≡ string_bytes text.old ++ shown_text shown.now) }
-{
-    match shown {
-        Shown::Name(name) => text.push_str(name.as_str()),
-        Shown::Id(id) => write!(text, "{id}"),
-    }
-}
+use swarm_objects::views::NoteShown;
 
 fn put_nodes(text: &mut String, count: u64) -> Result<(), AllocError>
     ensures { OnOk result (string_bytes text.new ≡ string_bytes text.old ++ nodes_text count) }

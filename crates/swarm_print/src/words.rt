@@ -1,8 +1,11 @@
-// Words of listings and refusals.
+// The words that replies have.
 ghost use Rattle.std.specs.Prelude.{◌≡◌};
-ghost use Rattle.swarm_print.specs.Words.{kind_word, role_word, availability_word, state_word, rule_word, task_state_word, desired_word};
+ghost use Rattle.swarm_print.specs.Words.{kind_word, role_word, availability_word, state_word, rule_word, task_state_word, desired_word, mode_word, status_word, update_word, verb_word, cause_word, extent_word, report_word, protocol_word};
 
-use swarm_objects::{Availability, Desired, Kind, NodeRole, NodeState, SpecRule, TaskState};
+use swarm_objects::{
+    Availability, Cause, Desired, Kind, Mode, NodeRole, NodeState, RunStatus, SpecRule, TaskState,
+    Verb,
+};
 
 pub fn kind_word(kind: Kind) -> &'static str
     ensures { result.now ≡ kind_word kind }
@@ -95,4 +98,76 @@ pub fn desired_word(desired: Desired) -> &'static str
         Desired::Shutdown => "SHUTDOWN",
         Desired::Remove => "REMOVE",
     }
+}
+
+pub fn mode_word(mode: Mode) -> &'static str
+    ensures { result.now ≡ mode_word mode }
+{
+    match mode {
+        Mode::Replicated(_) => "replicated",
+        Mode::Global => "global",
+        Mode::Job { .. } => "job",
+    }
+}
+
+fn status_word(status: RunStatus) -> &'static str
+    ensures { result.now ≡ status_word status }
+{
+    match status {
+        RunStatus::Updating => "UPDATING",
+        RunStatus::Paused => "PAUSED",
+        RunStatus::Completed => "COMPLETED",
+        RunStatus::RollbackStarted => "ROLLBACK_STARTED",
+        RunStatus::RollbackPaused => "ROLLBACK_PAUSED",
+        RunStatus::RollbackCompleted => "ROLLBACK_COMPLETED",
+    }
+}
+
+pub fn update_word(update: Option<RunStatus>) -> &'static str
+    ensures { result.now ≡ update_word update }
+{
+    match update {
+        Some(status) => status_word(status),
+        None => "-",
+    }
+}
+
+pub fn verb_word(verb: Verb) -> &'static str
+    ensures { result.now ≡ verb_word verb }
+{
+    match verb {
+        Verb::Created => "create",
+        Verb::Updated => "update",
+        Verb::Deleted => "delete",
+    }
+}
+
+pub fn cause_word(cause: Cause) -> &'static str
+    ensures { result.now ≡ cause_word cause }
+{
+    match cause {
+        Cause::Start => "start",
+        Cause::Update => "update",
+        Cause::Executor => "executor",
+        Cause::Session => "session",
+        Cause::Remote => "remote",
+    }
+}
+
+pub fn extent_word(complete: bool) -> &'static str
+    ensures { result.now ≡ extent_word complete }
+{
+    if complete { "COMPLETE" } else { "INCREMENTAL" }
+}
+
+pub fn report_word(raised: bool) -> &'static str
+    ensures { result.now ≡ report_word raised }
+{
+    if raised { "status" } else { "passed" }
+}
+
+pub fn protocol_word(udp: bool) -> &'static str
+    ensures { result.now ≡ protocol_word udp }
+{
+    if udp { "udp" } else { "tcp" }
 }

@@ -1,7 +1,0 @@
-use Rattle.std.proofs.Common.{◌≡◌, ◌++◌, take, string_bytes}
-use Rattle.std.specs.List.{flat_map}
-use Rattle.swarm_print.specs.Texts.{node_line}
-use Rattle.swarm_print.proofs.replies.put_nodes.Given as goal
-
-abbrev pub invariant-loop-node : goal.invariant-loop-node
-invariant-loop-node l = string_bytes l.text ≡ string_bytes l.initial.text ++ flat_map node_line (take l.node-index l.nodes)

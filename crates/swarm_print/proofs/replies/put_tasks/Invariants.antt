@@ -1,7 +1,0 @@
-use Rattle.std.proofs.Common.{◌≡◌, ◌++◌, take, string_bytes}
-use Rattle.std.specs.List.{flat_map}
-use Rattle.swarm_print.specs.Texts.{task_line}
-use Rattle.swarm_print.proofs.replies.put_tasks.Given as goal
-
-abbrev pub invariant-loop-task : goal.invariant-loop-task
-invariant-loop-task l = string_bytes l.text ≡ string_bytes l.initial.text ++ flat_map task_line (take l.task-index l.tasks)
