@@ -15,8 +15,10 @@ use crate::words::{
 };
 use serde_json::{Map, Value, json};
 use std::alloc::{AllocError, Global};
+use swarm_objects::views::{
+    NetworkDetail, NodeDetail, NoteShown, PlaceShown, ServiceDetail, TaskDetail,
+};
 use swarm_objects::{Id, Name, Port};
-use swarm_objects::views::{NetworkDetail, NodeDetail, NoteShown, PlaceShown, ServiceDetail, TaskDetail};
 
 // The labels, each at its key. The first of a key is put last, so that it stands.
 fn labels_value(alloc: Global, labels: &[(Name, Name)]) -> Result<Value, AllocError>

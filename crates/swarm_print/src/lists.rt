@@ -13,8 +13,8 @@ use crate::words::{
 };
 use std::alloc::{AllocError, Global};
 use std::fmt::Write;
-use swarm_objects::{AssignChange, Event, Message};
 use swarm_objects::views::{NetworkShown, NodeShown, ServiceShown, TaskShown};
+use swarm_objects::{AssignChange, Event, Message};
 
 // What is listed, and how many there are.
 fn put_heading(text: &mut String, what: &str, count: usize) -> Result<(), AllocError>

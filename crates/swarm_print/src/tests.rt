@@ -2,8 +2,15 @@
 use crate::reply_text;
 use std::alloc::Global;
 use std::test::Fail;
-use swarm_objects::{AssignChange, Assigned, Availability, Cause, Closed, Desired, Duty, End, Event, Kind, List, Message, Mode, Name, NodeRole, NodeState, Port, Refusal, Reply, RunStatus, Settle, SpecRule, TaskState, Verb, ViewReply, Wanted, Workload, list_of};
-use swarm_objects::views::{NetworkDetail, NetworkShown, NodeDetail, NodeShown, NoteShown, PlaceShown, ServiceDetail, ServiceShown, Shown, TaskDetail, TaskShown};
+use swarm_objects::views::{
+    NetworkDetail, NetworkShown, NodeDetail, NodeShown, NoteShown, PlaceShown, ServiceDetail,
+    ServiceShown, Shown, TaskDetail, TaskShown,
+};
+use swarm_objects::{
+    AssignChange, Assigned, Availability, Cause, Closed, Desired, Duty, End, Event, Kind, List,
+    Message, Mode, Name, NodeRole, NodeState, Port, Refusal, Reply, RunStatus, Settle, SpecRule,
+    TaskState, Verb, ViewReply, Wanted, Workload, list_of,
+};
 
 fn prints(alloc: Global, reply: Reply, want: &str) -> Result<(), Fail> {
     let text = reply_text(alloc, &reply)?;
