@@ -1,0 +1,13 @@
+pub mod Words
+pub mod Constraints
+pub mod Fields
+pub mod Tables
+pub mod Drafts
+pub mod Pieces
+pub mod Calls
+pub mod Duties
+pub mod Machines
+pub mod Lines
+pub mod Texts
+pub mod Entries
+pub mod HasText
