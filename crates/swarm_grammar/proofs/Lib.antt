@@ -1,2 +1,5 @@
 pub mod Forms
 pub mod Readings
+pub mod SaysLaw
+pub mod Completes
+pub mod LineLaws

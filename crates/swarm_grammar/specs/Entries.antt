@@ -1,5 +1,5 @@
 -- The lines of a journal's entries.
-use Rattle.std.specs.Prelude.{ℕ, nat_lt, List, [], length, codes, Bool, true, false, not, if◌then◌else◌, Option, Some, None, Result, Ok, Err}
+use Rattle.std.specs.Prelude.{MatchBool, ◌-◌, drop, take, true, false, ◌≡◌, ℕ, nat_lt, List, [], length, codes, Bool, not, if◌then◌else◌, Option, Some, None, Result, Ok, Err}
 use Rattle.std.specs.Str.{bytes_eq}
 use Rattle.std.specs.Option.{option_map}
 use Rattle.swarm_objects.specs.declared.calls.Call.{Call}
@@ -13,11 +13,11 @@ use Rattle.swarm_grammar.specs.declared.lines.LineFault.{LineFault}
 use Rattle.swarm_grammar.specs.declared.lines.LineFault.TheVariants as fault
 use Rattle.swarm_grammar.specs.declared.states.Form.TheVariants as form
 use Rattle.swarm_grammar.specs.declared.states.State.TheVariants as state
-use Rattle.swarm_grammar.specs.Words.{number_of, split_at, words_of, ◌>>=◌}
+use Rattle.swarm_grammar.specs.Words.{number_of, words_of, ◌>>=◌}
 use Rattle.swarm_grammar.specs.Calls.{step, whole}
 use Rattle.swarm_grammar.specs.Duties.{duty_step, duty_whole}
 use Rattle.swarm_grammar.specs.Lines.{is_printable}
-use Rattle.swarm_grammar.specs.Machines.{Machine, meaning}
+use Rattle.swarm_grammar.specs.Machines.{Begins, Machine, Says, meaning}
 
 -- one word more
 abbrev pub entry_step : EntryState → List ℕ → Option EntryState
@@ -49,25 +49,37 @@ journal = record { start = entry_state.Opening; step = entry_step; whole = entry
 abbrev pub is_long_entry : List ℕ → Bool
 is_long_entry line = nat_lt 8224 (length line)
 
--- what stands before the first newline, or all
+-- its last byte is a newline
+abbrev pub ends_line : List ℕ → Bool
+ends_line line = bytes_eq (drop (length line - 1) line) (codes "\n")
+
+-- without the newline at its end, where it has one
 abbrev pub before_newline : List ℕ → List ℕ
-before_newline line = elim (split_at 10 line) [ Some parts ↦ parts.0 | None ↦ line ]
+before_newline line = if ends_line line then take (length line - 1) line else line
 
-abbrev pub has_newline : List ℕ → Bool
-has_newline line = elim (split_at 10 line) [ Some parts ↦ true | None ↦ false ]
-
--- an entry is whole with its newline alone
-abbrev pub kept : Bool → Entry → Result Entry LineFault
-kept true e = Ok e
-kept false e = Err fault.Cut
-
+-- an entry without its newline is cut; a wrong word goes before that
 abbrev pub closed : Bool → Result Entry LineFault → Result Entry LineFault
-closed newline (Ok e) = kept newline e
-closed newline (Err f) = Err f
+closed true result = result
+closed false (Ok e) = Err fault.Cut
+closed false (Err f) = Err f
 
 -- what the line of an entry says, given with its newline where it has one
 abbrev pub entry_meaning : List ℕ → Result Entry LineFault
 entry_meaning line =
     if is_long_entry line then Err fault.Long
     else if not (is_printable (before_newline line)) then Err fault.Byte
-    else closed (has_newline line) (meaning journal (words_of (before_newline line)))
+    else closed (ends_line line) (meaning journal (words_of (before_newline line)))
+
+-- what the words of a line without its newline say: a wrong word, or the beginning of an entry
+abbrev pub SaysUnended : List (List ℕ) → Result Entry LineFault → Type 0
+SaysUnended words (Err (fault.Word k)) = Says journal words (Err (fault.Word k))
+SaysUnended words (Err fault.Cut) = Begins journal words
+SaysUnended words result = ⊥
+
+-- what the line of an entry says, by the first of its faults
+abbrev pub EntrySays : List ℕ → Result Entry LineFault → Type 0
+EntrySays line result =
+    MatchBool (is_long_entry line) (result ≡ Err fault.Long) (
+    MatchBool (not (is_printable (before_newline line))) (result ≡ Err fault.Byte) (
+    MatchBool (ends_line line) (Says journal (words_of (before_newline line)) result) (
+    SaysUnended (words_of (before_newline line)) result)))

@@ -1,5 +1,5 @@
 -- The lines of scripts.
-use Rattle.std.specs.Prelude.{ℕ, nat_eq, nat_le, nat_lt, List, [], ◌∷◌, length, codes, Bool, true, not, ◌&&◌, if◌then◌else◌, Option, Some, None, Result, Ok, Err}
+use Rattle.std.specs.Prelude.{MatchBool, ◌≡◌, ℕ, nat_eq, nat_le, nat_lt, List, [], ◌∷◌, length, codes, Bool, true, not, ◌&&◌, if◌then◌else◌, Option, Some, None, Result, Ok, Err}
 use Rattle.std.specs.Str.{bytes_eq}
 use Rattle.std.specs.Int.{is_in_range}
 use Rattle.std.specs.List.{list_all}
@@ -16,7 +16,7 @@ use Rattle.swarm_grammar.specs.declared.states.Form.TheVariants as form
 use Rattle.swarm_grammar.specs.declared.states.State.TheVariants as state
 use Rattle.swarm_grammar.specs.Words.{number_of, words_of, ◌>>=◌}
 use Rattle.swarm_grammar.specs.Calls.{step, whole}
-use Rattle.swarm_grammar.specs.Machines.{Machine, meaning}
+use Rattle.swarm_grammar.specs.Machines.{Machine, Says, meaning}
 
 -- 1 to 86,400,000 milliseconds
 abbrev pub wait_of : List ℕ → Option ℕ
@@ -66,3 +66,11 @@ meaning_of text =
     else if not (is_printable text) then Err fault.Byte
     else if is_blank text then Ok line.Blank
     else meaning script (words_of text)
+
+-- what a line of a script says, by the first of its faults; a blank line has none but the first two
+abbrev pub LineSays : List ℕ → Result Line LineFault → Type 0
+LineSays text result =
+    MatchBool (is_long text) (result ≡ Err fault.Long) (
+    MatchBool (not (is_printable text)) (result ≡ Err fault.Byte) (
+    MatchBool (is_blank text) (result ≡ Ok line.Blank) (
+    Says script (words_of text) result)))
