@@ -2,11 +2,9 @@
 use Rattle.std.proofs.Common.{◌≡◌, ℕ, List, [], ◌∷◌, codes, refl, ap, ◌∙◌, Option, Some, None}
 use Rattle.std.specs.Fmt.{digits}
 use Rattle.std.specs.Option.{option_map}
-use Rattle.swarm_objects.specs.declared.calls.Call.{Call}
 use Rattle.swarm_objects.specs.declared.calls.Op.{Op}
 use Rattle.swarm_objects.specs.declared.changes.Role.{Role}
 use Rattle.swarm_objects.specs.declared.changes.Role.TheVariants as role
-use Rattle.swarm_objects.specs.declared.duties.Duty.{Duty}
 use Rattle.swarm_grammar.specs.declared.duties.DutyState.{DutyState}
 use Rattle.swarm_grammar.specs.declared.duties.DutyState.TheVariants as duty_state
 use Rattle.swarm_grammar.specs.declared.lines.EntryState.{EntryState}
@@ -28,32 +26,28 @@ use Rattle.swarm_grammar.specs.declared.states.State.TheVariants as state
 use Rattle.swarm_grammar.specs.declared.states.Verb.{Verb}
 use Rattle.swarm_grammar.specs.declared.states.Verb.TheVariants as verb
 use Rattle.swarm_grammar.specs.Words.{◌>>=◌}
-use Rattle.swarm_grammar.specs.Calls.{step, whole}
-use Rattle.swarm_grammar.specs.Duties.{duty_step, duty_whole}
-use Rattle.swarm_grammar.specs.Entries.{call_entry, duty_entry, journal}
-use Rattle.swarm_grammar.specs.Lines.{line_of, script}
+use Rattle.swarm_grammar.specs.Calls.{call_grammar}
+use Rattle.swarm_grammar.specs.Duties.{duty_grammar}
+use Rattle.swarm_grammar.specs.Entries.{call_entry, duty_entry, journal_grammar}
+use Rattle.swarm_grammar.specs.Lines.{line_of, script_grammar}
 use Rattle.swarm_grammar.specs.Machines.{Machine, run}
 use Rattle.swarm_grammar.proofs.SaysLaw.{Completes}
 
 -- ## Calls
 
--- the grammar of a form's calls
-abbrev pub calls : Form → Machine State Call
-calls m = record { start = state.Opening []; step = step m; whole = whole }
-
-noun_completes : (m : Form) (ops : List Op) (n : Noun) → Completes (calls m) (state.Noun ops n)
+noun_completes : (m : Form) (ops : List Op) (n : Noun) → Completes (call_grammar m) (state.Noun ops n)
 unfolding digits
 noun_completes m ops noun.Cluster = (codes "set" ∷ [], _, refl)
 noun_completes m ops noun.Node = (codes "remove" ∷ codes "n" ∷ [], _, refl)
 noun_completes m ops noun.Service = (codes "remove" ∷ codes "n" ∷ [], _, refl)
 noun_completes m ops noun.Network = (codes "remove" ∷ codes "n" ∷ [], _, refl)
 
-verb_completes : (m : Form) (ops : List Op) (v : Verb) → Completes (calls m) (state.Verb ops v)
+verb_completes : (m : Form) (ops : List Op) (v : Verb) → Completes (call_grammar m) (state.Verb ops v)
 unfolding digits
 verb_completes m ops verb.NetworkCreate = (codes "n" ∷ codes "subnet=10.0.0.0/16" ∷ [], _, refl)
 verb_completes m ops v = (codes "n" ∷ [], _, refl)
 
-call_noun_completes : (m : Form) (n : CallNoun) → Completes (calls m) (state.CallNoun n)
+call_noun_completes : (m : Form) (n : CallNoun) → Completes (call_grammar m) (state.CallNoun n)
 unfolding digits
 call_noun_completes m call_noun.List = (codes "nodes" ∷ [], _, refl)
 call_noun_completes m call_noun.Inspect = (codes "node" ∷ codes "n" ∷ [], _, refl)
@@ -61,19 +55,19 @@ call_noun_completes m call_noun.Watch = (codes "open" ∷ codes "all" ∷ [], _,
 call_noun_completes m call_noun.Agent = (codes "stop" ∷ codes "n" ∷ [], _, refl)
 call_noun_completes m call_noun.Remote = (codes "open" ∷ codes "n" ∷ [], _, refl)
 
-call_verb_completes : (m : Form) (v : CallVerb) → Completes (calls m) (state.CallVerb v)
+call_verb_completes : (m : Form) (v : CallVerb) → Completes (call_grammar m) (state.CallVerb v)
 unfolding digits
 call_verb_completes m call_verb.RemoteBeat = (codes "n" ∷ codes "1" ∷ [], _, refl)
 call_verb_completes m call_verb.RemotePull = (codes "n" ∷ codes "1" ∷ [], _, refl)
 call_verb_completes m call_verb.RemoteStatus = (codes "n" ∷ codes "1" ∷ codes "1" ∷ codes "NEW" ∷ [], _, refl)
 call_verb_completes m v = (codes "n" ∷ [], _, refl)
 
-session_completes : (m : Form) (v : SessionVerb) (n : List ℕ) → Completes (calls m) (state.Session v n)
+session_completes : (m : Form) (v : SessionVerb) (n : List ℕ) → Completes (call_grammar m) (state.Session v n)
 unfolding digits
 session_completes m session_verb.Status n = (codes "1" ∷ codes "1" ∷ codes "NEW" ∷ [], _, refl)
 session_completes m v n = (codes "1" ∷ [], _, refl)
 
-pub call_completes : (m : Form) (s : State) → Completes (calls m) s
+pub call_completes : (m : Form) (s : State) → Completes (call_grammar m) s
 unfolding digits
 call_completes m (state.Opening ops) = (codes "network" ∷ codes "remove" ∷ codes "n" ∷ [], _, refl)
 call_completes m (state.Noun ops n) = noun_completes m ops n
@@ -94,11 +88,7 @@ call_completes m (state.Done c) = ([], _, refl)
 
 -- ## Duties
 
--- the grammar of duties
-abbrev pub duties : Machine DutyState Duty
-duties = record { start = duty_state.Opening; step = duty_step; whole = duty_whole }
-
-loop_completes : (r : Role) → Completes duties (duty_state.Loop r)
+loop_completes : (r : Role) → Completes duty_grammar (duty_state.Loop r)
 unfolding digits
 loop_completes role.Dispatcher = (codes "expire" ∷ codes "1" ∷ [], _, refl)
 loop_completes role.Enforcer = (codes "reject" ∷ codes "1" ∷ [], _, refl)
@@ -112,7 +102,7 @@ loop_completes role.Scheduler = (codes "drop" ∷ codes "1" ∷ [], _, refl)
 loop_completes role.Reaper = (codes "trim" ∷ codes "1" ∷ [], _, refl)
 loop_completes role.Agents = (codes "beat" ∷ codes "1" ∷ [], _, refl)
 
-pub duty_completes : (s : DutyState) → Completes duties s
+pub duty_completes : (s : DutyState) → Completes duty_grammar s
 unfolding digits
 duty_completes duty_state.Opening = (codes "agents" ∷ codes "beat" ∷ codes "1" ∷ [], _, refl)
 duty_completes (duty_state.Loop r) = loop_completes r
@@ -154,17 +144,17 @@ held_completes {S} {T} {R} {Q} inner outer hold made h w s (more, r, e) =
 
 -- ## Lines and entries
 
-pub line_completes : (s : LineState) → Completes script s
+pub line_completes : (s : LineState) → Completes script_grammar s
 unfolding digits
 line_completes line_state.Opening = (codes "wait" ∷ codes "1" ∷ [], _, refl)
-line_completes (line_state.Call s) = held_completes (calls form.Script) script line_state.Call line_of (λ s word. refl) (λ s. refl) s (call_completes form.Script s)
+line_completes (line_state.Call s) = held_completes (call_grammar form.Script) script_grammar line_state.Call line_of (λ s word. refl) (λ s. refl) s (call_completes form.Script s)
 line_completes line_state.Wait = (codes "1" ∷ [], _, refl)
 line_completes (line_state.Waited n) = ([], _, refl)
 
-pub entry_completes : (s : EntryState) → Completes journal s
+pub entry_completes : (s : EntryState) → Completes journal_grammar s
 unfolding digits
 entry_completes entry_state.Opening = (codes "1" ∷ codes "halt" ∷ [], _, refl)
 entry_completes (entry_state.Caller by) = (codes "halt" ∷ [], _, refl)
 entry_completes (entry_state.Call by s) =
-    held_completes (calls form.Journal) journal (entry_state.Call by) (call_entry by) (λ s word. refl) (λ s. refl) s (call_completes form.Journal s)
-entry_completes (entry_state.Duty by d) = held_completes duties journal (entry_state.Duty by) (duty_entry by) (λ s word. refl) (λ s. refl) d (duty_completes d)
+    held_completes (call_grammar form.Journal) journal_grammar (entry_state.Call by) (call_entry by) (λ s word. refl) (λ s. refl) s (call_completes form.Journal s)
+entry_completes (entry_state.Duty by d) = held_completes duty_grammar journal_grammar (entry_state.Duty by) (duty_entry by) (λ s word. refl) (λ s. refl) d (duty_completes d)

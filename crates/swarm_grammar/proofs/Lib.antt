@@ -3,3 +3,14 @@ pub mod Readings
 pub mod SaysLaw
 pub mod Completes
 pub mod LineLaws
+pub mod Numbers
+pub mod SplitPlaces
+pub mod FieldRows
+pub mod Sorted
+pub mod RowPieces
+pub mod Services
+pub mod DraftBack
+pub mod Canonical
+pub mod Spelled
+pub mod AllSpelled
+pub mod Nodes

@@ -1,11 +1,11 @@
 -- The reading of words is what their grammar says, for every machine whose states can all be completed.
-use Rattle.std.proofs.Common.{◌≡◌, ℕ, ◌+◌, ◌-◌, List, [], ◌∷◌, ◌++◌, length, take, refl, sym, ◌∙◌, ap, subst, Option, Some, None, Ok, Err, arith, append_assoc, append-nil, length-append}
+use Rattle.std.proofs.Common.{◌≡◌, ℕ, ◌+◌, ◌-◌, List, [], ◌∷◌, ◌++◌, length, take, refl, sym, ◌∙◌, ap, subst, Option, Some, None, Err, arith, append_assoc, append-nil, length-append}
 use Rattle.std.proofs.Math.Seq.{take-append_seam, take-append-add}
 use Rattle.std.specs.Prelude.{Result}
 use Rattle.swarm_grammar.specs.declared.lines.LineFault.{LineFault}
 use Rattle.swarm_grammar.specs.declared.lines.LineFault.TheVariants as fault
 use Rattle.swarm_grammar.specs.Words.{◌>>=◌}
-use Rattle.swarm_grammar.specs.Machines.{Machine, Begins, IsSaid, Says, ended, meaning, reads, run}
+use Rattle.swarm_grammar.specs.Machines.{Machine, Begins, Says, ended, meaning, reads, run}
 
 -- some words make the state whole
 abbrev pub Completes : {S R : Type 0} → Machine S R → S → Type 0

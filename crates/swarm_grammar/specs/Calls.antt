@@ -36,6 +36,7 @@ use Rattle.swarm_grammar.specs.declared.states.State.TheVariants as state
 use Rattle.swarm_grammar.specs.Words.{byte_number, name_of, number_of, split_at, ◌>>=◌}
 use Rattle.swarm_grammar.specs.Fields.{field_of}
 use Rattle.swarm_grammar.specs.Tables.{may_stand}
+use Rattle.swarm_grammar.specs.Machines.{Machine}
 use Rattle.swarm_grammar.specs.Drafts.{draft_of, node_draft_of, number_given, settings_of}
 
 abbrev pub is_empty : {A : Type 0} → List A → Bool
@@ -354,3 +355,7 @@ whole (state.SessionFields name fs) = Some (session_call name fs)
 whole state.Settle = Some (call.Settle usual_budget)
 whole (state.Done c) = Some c
 whole s = None
+
+-- the grammar of calls
+abbrev pub call_grammar : Form → Machine State Call
+call_grammar m = record { start = state.Opening []; step = step m; whole = whole }

@@ -13,6 +13,7 @@ use Rattle.swarm_grammar.specs.declared.duties.TwoNumbers.{TwoNumbers}
 use Rattle.swarm_grammar.specs.declared.duties.TwoNumbers.TheVariants as two
 use Rattle.swarm_grammar.specs.declared.duties.DutyState.{DutyState}
 use Rattle.swarm_grammar.specs.declared.duties.DutyState.TheVariants as state
+use Rattle.swarm_grammar.specs.Machines.{Machine}
 use Rattle.swarm_grammar.specs.Words.{number_of, port_number, ◌>>=◌}
 
 abbrev pub loop_of : List ℕ → Option Role
@@ -128,3 +129,7 @@ duty_step (state.Done d) word = None
 abbrev pub duty_whole : DutyState → Option Duty
 duty_whole (state.Done d) = Some d
 duty_whole s = None
+
+-- the grammar of duties
+abbrev pub duty_grammar : Machine DutyState Duty
+duty_grammar = record { start = state.Opening; step = duty_step; whole = duty_whole }

@@ -42,8 +42,8 @@ entry_whole (entry_state.Call by s) = option_map (call_entry by) (whole s)
 entry_whole (entry_state.Duty by d) = option_map (duty_entry by) (duty_whole d)
 
 -- the grammar of a journal's entries
-abbrev pub journal : Machine EntryState Entry
-journal = record { start = entry_state.Opening; step = entry_step; whole = entry_whole }
+abbrev pub journal_grammar : Machine EntryState Entry
+journal_grammar = record { start = entry_state.Opening; step = entry_step; whole = entry_whole }
 
 -- over 8,224 bytes, with the newline
 abbrev pub is_long_entry : List ℕ → Bool
@@ -68,12 +68,12 @@ abbrev pub entry_meaning : List ℕ → Result Entry LineFault
 entry_meaning line =
     if is_long_entry line then Err fault.Long
     else if not (is_printable (before_newline line)) then Err fault.Byte
-    else closed (ends_line line) (meaning journal (words_of (before_newline line)))
+    else closed (ends_line line) (meaning journal_grammar (words_of (before_newline line)))
 
 -- what the words of a line without its newline say: a wrong word, or the beginning of an entry
 abbrev pub SaysUnended : List (List ℕ) → Result Entry LineFault → Type 0
-SaysUnended words (Err (fault.Word k)) = Says journal words (Err (fault.Word k))
-SaysUnended words (Err fault.Cut) = Begins journal words
+SaysUnended words (Err (fault.Word k)) = Says journal_grammar words (Err (fault.Word k))
+SaysUnended words (Err fault.Cut) = Begins journal_grammar words
 SaysUnended words result = ⊥
 
 -- what the line of an entry says, by the first of its faults
@@ -81,5 +81,5 @@ abbrev pub EntrySays : List ℕ → Result Entry LineFault → Type 0
 EntrySays line result =
     MatchBool (is_long_entry line) (result ≡ Err fault.Long) (
     MatchBool (not (is_printable (before_newline line))) (result ≡ Err fault.Byte) (
-    MatchBool (ends_line line) (Says journal (words_of (before_newline line)) result) (
+    MatchBool (ends_line line) (Says journal_grammar (words_of (before_newline line)) result) (
     SaysUnended (words_of (before_newline line)) result)))

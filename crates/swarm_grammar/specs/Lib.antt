@@ -1,4 +1,5 @@
 pub mod Words
+pub mod Machines
 pub mod Constraints
 pub mod Fields
 pub mod Tables
@@ -6,7 +7,6 @@ pub mod Drafts
 pub mod Pieces
 pub mod Calls
 pub mod Duties
-pub mod Machines
 pub mod Lines
 pub mod Texts
 pub mod Entries

@@ -44,8 +44,8 @@ line_whole line_state.Wait = None
 line_whole (line_state.Waited n) = Some (line.Wait n)
 
 -- the grammar of a script's lines
-abbrev pub script : Machine LineState Line
-script = record { start = line_state.Opening; step = line_step; whole = line_whole }
+abbrev pub script_grammar : Machine LineState Line
+script_grammar = record { start = line_state.Opening; step = line_step; whole = line_whole }
 
 -- over 8,192 bytes, without the newline
 abbrev pub is_long : List ℕ → Bool
@@ -65,7 +65,7 @@ meaning_of text =
     if is_long text then Err fault.Long
     else if not (is_printable text) then Err fault.Byte
     else if is_blank text then Ok line.Blank
-    else meaning script (words_of text)
+    else meaning script_grammar (words_of text)
 
 -- what a line of a script says, by the first of its faults; a blank line has none but the first two
 abbrev pub LineSays : List ℕ → Result Line LineFault → Type 0
@@ -73,4 +73,4 @@ LineSays text result =
     MatchBool (is_long text) (result ≡ Err fault.Long) (
     MatchBool (not (is_printable text)) (result ≡ Err fault.Byte) (
     MatchBool (is_blank text) (result ≡ Ok line.Blank) (
-    Says script (words_of text) result)))
+    Says script_grammar (words_of text) result)))

@@ -135,10 +135,14 @@ number_default t number.Orphan = 86400000
 number_default t number.History = 5
 number_default t w = 0
 
--- the field says what holds without it; what a session isn't told is left as it is
+-- what a session isn't told is left as it is
+abbrev pub has_defaults : Table → Bool
+has_defaults table.Session = false
+has_defaults t = true
+
+-- the field says what holds without it
 abbrev pub is_default : Table → Field → Bool
-is_default table.Session f = false
-is_default t (field.Number w n) = nat_eq n (number_default t w)
+is_default t (field.Number w n) = has_defaults t && nat_eq n (number_default t w)
 is_default t (field.Mode (mode.Replicated n)) = nat_eq n 1
 is_default t (field.End end.Never) = true
 is_default t (field.Role role.Worker) = true
