@@ -11,7 +11,14 @@ use Rattle.swarm_grammar.specs.declared.fields.Table.TheVariants as table
 use Rattle.swarm_grammar.specs.declared.states.Form.TheVariants as form
 use Rattle.swarm_grammar.specs.declared.states.State.{State}
 use Rattle.swarm_grammar.specs.declared.states.State.TheVariants as state
-use Rattle.swarm_grammar.proofs.DraftBack.{ArePieces, service_is, service_table}
+use Rattle.swarm_grammar.proofs.PieceRows.{ArePieces}
+use Rattle.swarm_grammar.proofs.ServiceBack.{service_is, service_table}
+use Rattle.swarm_objects.specs.declared.nodes.Availability.{Availability}
+use Rattle.swarm_objects.specs.declared.nodes.NodeDraft.{NodeDraft}
+use Rattle.swarm_objects.specs.declared.nodes.NodeRole.{NodeRole}
+use Rattle.swarm_objects.specs.declared.settings.Settings.{Settings}
+use Rattle.swarm_grammar.proofs.NodeBack.{node_is, node_table, old_is, old_table, session_is, session_table, settings_is, settings_table}
+use Rattle.swarm_grammar.proofs.Nodes.{Labels, Rises}
 use Rattle.swarm_grammar.proofs.Numbers.{and_yes, below_yes, same_bytes}
 use Rattle.swarm_grammar.proofs.FieldRows.{InRow, Pieces, flat}
 use Rattle.swarm_grammar.proofs.Services.{IsCanonical}
@@ -62,6 +69,18 @@ canonical t n (p ∷ ps) h =
 
 pub service_canonical : (d : Draft) → IsCanonical table.Service (flat (service_table d))
 service_canonical d = canonical table.Service 0 (service_table d) (service_is d)
+
+pub node_canonical : (d : NodeDraft) → Rises d.labels → Rises d.engine → IsCanonical table.NewNode (flat (node_table d))
+node_canonical d l e = canonical table.NewNode 0 (node_table d) (node_is d l e)
+
+pub old_canonical : (ls : Labels) (r : NodeRole) (a : Availability) → Rises ls → IsCanonical table.OldNode (flat (old_table ls r a))
+old_canonical ls r a l = canonical table.OldNode 0 (old_table ls r a) (old_is ls r a l)
+
+pub settings_canonical : (s : Settings) → IsCanonical table.Cluster (flat (settings_table s))
+settings_canonical s = canonical table.Cluster 0 (settings_table s) (settings_is s)
+
+pub session_canonical : (cpu mem : Option ℕ) → IsCanonical table.Session (flat (session_table cpu mem))
+session_canonical cpu mem = canonical table.Session 0 (session_table cpu mem) (session_is cpu mem)
 
 -- ## A journal's line reads canonical fields
 
@@ -121,3 +140,19 @@ no_earlier (g ∷ gs) = (tt, no_earlier gs)
 pub read_fields : (ops : List Op) (h : Head) (gs : List Field) → AllByRecursion IsSpelled gs → IsCanonical (table_of h) gs →
     run (call_grammar form.Journal) (state.Fields ops h []) (map field_text gs) ≡ Some (state.Fields ops h gs)
 read_fields ops h gs s c = read_all ops h gs [] s c (no_earlier gs)
+
+-- ## And those of a session
+
+read_session_all : (n : List ℕ) (gs fs : List Field) → AllByRecursion IsSpelled gs → IsCanonical table.Session gs → AllByRecursion (λ x. Follows fs x) gs →
+    run (call_grammar form.Journal) (state.SessionFields n fs) (map field_text gs) ≡ Some (state.SessionFields n (fs ++ gs))
+read_session_all n [] fs s c f = ap (λ xs. Some (state.SessionFields n xs)) (sym (append-nil fs))
+read_session_all n (g ∷ gs) fs s c f =
+    let one = ap (λ (o : Option (List Field)). o >>= λ xs. Some (state.SessionFields n xs)) (next_yes table.Session fs g s.0 c.belong.0 c.named.0 f.0) in
+    let rest : IsCanonical table.Session gs = record { belong = c.belong.1; named = c.named.1; sorted = c.sorted.1 } in
+    ap (λ (o : Option State). o >>= λ t. run (call_grammar form.Journal) t (map field_text gs)) one
+    ∙ read_session_all n gs (fs ++ g ∷ []) s.1 rest (follows_later fs g gs f c.sorted.0)
+    ∙ ap (λ xs. Some (state.SessionFields n xs)) (append_assoc fs (g ∷ []) gs)
+
+pub read_session : (n : List ℕ) (gs : List Field) → AllByRecursion IsSpelled gs → IsCanonical table.Session gs →
+    run (call_grammar form.Journal) (state.SessionFields n []) (map field_text gs) ≡ Some (state.SessionFields n gs)
+read_session n gs s c = read_session_all n gs [] s c (no_earlier gs)

@@ -9,8 +9,10 @@ pub mod FieldRows
 pub mod Sorted
 pub mod RowPieces
 pub mod Services
-pub mod DraftBack
+pub mod PieceRows
+pub mod ServiceBack
 pub mod Canonical
 pub mod Spelled
 pub mod AllSpelled
 pub mod Nodes
+pub mod NodeBack
