@@ -16,3 +16,6 @@ pub mod Spelled
 pub mod AllSpelled
 pub mod Nodes
 pub mod NodeBack
+pub mod Inversions
+pub mod Subnets
+pub mod OneSpelling

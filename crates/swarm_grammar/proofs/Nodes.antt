@@ -1,6 +1,7 @@
 -- The fields of a node and of the settings, and what they say.
-use Rattle.std.proofs.Common.{◌≡◌, ℕ, ◌<◌, ◌+◌, List, [], ◌∷◌, ◌++◌, map, Bool, true, false, cond, refl, sym, ◌∙◌, ap, inl, inr, ◌⊎◌, append_assoc, arith, nat_eq, nat_lt, append-nil, rules}
+use Rattle.std.proofs.Common.{◌≡◌, ℕ, ◌<◌, ◌+◌, List, [], ◌∷◌, ◌++◌, map, Bool, true, false, cond, refl, sym, ◌∙◌, ap, subst, inl, inr, ◌⊎◌, append_assoc, arith, nat_eq, nat_lt, append-nil, rules}
 use Rattle.std.specs.List.{filter_map, AllByRecursion}
+use Rattle.std.specs.Option.{option_or}
 use Rattle.std.proofs.Common.{length, take, drop, codes, ◌&&◌, ◌||◌}
 use Rattle.std.proofs.lemmas.Bool.Decides.{nat_tests}
 use Rattle.swarm_objects.specs.declared.nodes.NodeRole.TheVariants as role
@@ -11,13 +12,13 @@ use Rattle.swarm_grammar.specs.declared.fields.Table.{Table}
 use Rattle.swarm_grammar.specs.declared.fields.Table.TheVariants as table
 use Rattle.swarm_grammar.specs.declared.fields.NumberField.{NumberField}
 use Rattle.swarm_grammar.specs.declared.fields.NumberField.TheVariants as number
-use Rattle.swarm_grammar.proofs.RowPieces.{Back, Remade, no_number_row, numbers, several, single}
-use Rattle.swarm_grammar.proofs.FieldRows.{LooksAt, at_row}
+use Rattle.swarm_grammar.proofs.RowPieces.{Back, Remade, looks_number, no_number_row, none_later, number_in_own, number_in_row, numbers, several, single}
+use Rattle.swarm_grammar.proofs.FieldRows.{LooksAt, at_row, number_same}
 use Rattle.swarm_grammar.proofs.Services.{IsCanonical}
-use Rattle.swarm_grammar.proofs.Sorted.{Sorted, by_rows-sorted, has}
-use Rattle.swarm_grammar.specs.Drafts.{arch_in, availability_in, engine_in, label_in, label_place, labels_of, labels_onto, node_draft_of, os_in, remote_in, role_in, settings_of, with_label}
-use Rattle.swarm_grammar.specs.Pieces.{arch_piece, availability_piece, engine_field, joined, label_field, node_pieces, os_piece, remote_piece, role_piece, settings_pieces}
-use Rattle.swarm_grammar.specs.Tables.{belongs, bytes_lt, comes_before, number_belongs, number_row, row}
+use Rattle.swarm_grammar.proofs.Sorted.{From, Sorted, at_row_none, by_rows-sorted, has}
+use Rattle.swarm_grammar.specs.Drafts.{number_given, number_in, arch_in, availability_in, engine_in, label_in, label_place, labels_of, labels_onto, node_draft_of, os_in, remote_in, role_in, settings_of, with_label}
+use Rattle.swarm_grammar.specs.Pieces.{given_piece, session_pieces, old_node_pieces, arch_piece, availability_piece, engine_field, joined, label_field, node_pieces, os_piece, remote_piece, role_piece, settings_pieces}
+use Rattle.swarm_grammar.specs.Tables.{may_repeat, belongs, bytes_lt, comes_before, number_belongs, number_row, row}
 
 -- ## Rising keys
 
@@ -275,11 +276,12 @@ old_all [] h = tt
 old_all (f ∷ fs) h = (old_row f h.0, old_all fs h.1)
 
 pub old_fields : (fs : List Field) → IsCanonical table.OldNode fs →
-    map label_field (node_draft_of fs).labels ++ (role_piece (node_draft_of fs).role ++ availability_piece (node_draft_of fs).availability) ≡ fs
+    joined (old_node_pieces (node_draft_of fs).labels (node_draft_of fs).role (node_draft_of fs).availability) ≡ fs
 old_fields fs c =
     then_rest _ _ _ _ (labels fs c.sorted) (
-    then_rest _ _ _ _ (single table.OldNode 6 role_in role_piece role.Worker looks_role (back_role table.OldNode) refl fs c.sorted c.named)
-    (single table.OldNode 7 availability_in availability_piece availability.Active looks_availability (back_availability table.OldNode) refl fs c.sorted c.named ∙ sym (append-nil (at_row 7 fs))))
+    then_rest _ _ _ _ (single table.OldNode 6 role_in role_piece role.Worker looks_role (back_role table.OldNode) refl fs c.sorted c.named) (
+    then_rest _ _ _ _ (single table.OldNode 7 availability_in availability_piece availability.Active looks_availability (back_availability table.OldNode) refl fs c.sorted c.named) (
+    refl)))
     ∙ by_rows-sorted 0 old_rows fs (search rules) c.sorted (old_all fs c.belong)
 
 abbrev pub settings_rows : List ℕ
@@ -318,3 +320,40 @@ settings_fields fs c =
     then_rest _ _ _ _ (numbers table.Cluster refl number.History fs c.sorted c.named) (
     refl)))
     ∙ by_rows-sorted 0 settings_rows fs (search rules) c.sorted (settings_all fs c.belong)
+
+-- ## Sessions
+
+pub given : (w : NumberField) (fs : List Field) → Sorted fs → given_piece w (number_given w fs) ≡ at_row (number_row w) fs
+given w [] s = refl
+given w (f ∷ fs) s = go (nat_eq (row f) (number_row w)) refl (given w fs s.1) where
+  go : (b : Bool) → nat_eq (row f) (number_row w) ≡ b → given_piece w (number_given w fs) ≡ at_row (number_row w) fs →
+      given_piece w (option_or (number_in w f) (number_given w fs)) ≡ cond b (f ∷ at_row (number_row w) fs) (at_row (number_row w) fs)
+  go false e ih = ap (λ o. given_piece w (option_or o (number_given w fs))) (looks_number w f e) ∙ ih
+  go true e ih =
+      let k = number_in_row w f e in
+      let none = at_row_none (number_row w) fs (subst (λ n. From (n + 1) fs) (number_same (row f) (number_row w) e) (none_later f fs (ap may_repeat k.1) s.0)) in
+      ap (λ o. given_piece w (option_or o (number_given w fs))) (ap (number_in w) k.1 ∙ number_in_own w k.0)
+      ∙ ap (λ g. g ∷ []) (sym k.1) ∙ ap (λ xs. f ∷ xs) (sym none)
+
+abbrev pub session_rows : List ℕ
+session_rows = 8 ∷ 9 ∷ []
+
+session_number_row : (w : NumberField) → number_belongs table.Session w ≡ true → has (number_row w) session_rows ≡ true
+session_number_row number.Cpu e = refl
+session_number_row number.Mem e = refl
+session_number_row w e = cc
+
+session_row : (f : Field) → belongs table.Session f ≡ true → has (row f) session_rows ≡ true
+session_row (field.Number w n) e = session_number_row w e
+session_row f e = cc
+
+session_all : (fs : List Field) → AllByRecursion (λ f. belongs table.Session f ≡ true) fs → AllByRecursion (λ f. has (row f) session_rows ≡ true) fs
+session_all [] h = tt
+session_all (f ∷ fs) h = (session_row f h.0, session_all fs h.1)
+
+pub session_fields : (fs : List Field) → IsCanonical table.Session fs → joined (session_pieces (number_given number.Cpu fs) (number_given number.Mem fs)) ≡ fs
+session_fields fs c =
+    then_rest _ _ _ _ (given number.Cpu fs c.sorted) (
+    then_rest _ _ _ _ (given number.Mem fs c.sorted) (
+    refl))
+    ∙ by_rows-sorted 0 session_rows fs (search rules) c.sorted (session_all fs c.belong)

@@ -33,7 +33,7 @@ strictly f g once e = go (nat_lt (row f) (row g)) (nat_eq (row f) (row g)) (may_
   go false true false x y z = cc
   go false false c x y z = cc
 
-none_later : (f : Field) (fs : List Field) → may_repeat f ≡ false → AllByRecursion (λ g. comes_before f g ≡ true) fs → From (row f + 1) fs
+pub none_later : (f : Field) (fs : List Field) → may_repeat f ≡ false → AllByRecursion (λ g. comes_before f g ≡ true) fs → From (row f + 1) fs
 none_later f [] once h = tt
 none_later f (g ∷ gs) once h = (strictly f g once h.0, none_later f gs once h.1)
 
@@ -105,31 +105,42 @@ pub looks_number : (w : NumberField) → LooksAt (number_row w) (number_in w)
 looks_number w (field.Number v n) e = ap (λ b. cond b (Some n) None) e
 looks_number w f e = refl
 
+-- the fields of a number's row are its fields
+pub number_in_row : (w : NumberField) (f : Field) → nat_eq (row f) (number_row w) ≡ true → (n : ℕ) × (f ≡ field.Number w n)
+number_in_row w (field.Number v n) e = (n, ap (λ u. field.Number u n) (same_which v w e))
+number_in_row w (field.Mode x) e = absurd (no_row w 0 refl e)
+number_in_row w (field.End x) e = absurd (no_row w 1 refl e)
+number_in_row w (field.Label x y) e = absurd (no_row w 5 refl e)
+number_in_row w (field.Role x) e = absurd (no_row w 6 refl e)
+number_in_row w (field.Availability x) e = absurd (no_row w 7 refl e)
+number_in_row w (field.Os x) e = absurd (no_row w 11 refl e)
+number_in_row w (field.Arch x) e = absurd (no_row w 12 refl e)
+number_in_row w (field.Engine x y) e = absurd (no_row w 13 refl e)
+number_in_row w field.Remote e = absurd (no_row w 14 refl e)
+number_in_row w (field.Constraint x) e = absurd (no_row w 15 refl e)
+number_in_row w (field.Spread x) e = absurd (no_row w 16 refl e)
+number_in_row w (field.Platform x) e = absurd (no_row w 17 refl e)
+number_in_row w (field.Net x) e = absurd (no_row w 19 refl e)
+number_in_row w (field.Restart x) e = absurd (no_row w 20 refl e)
+number_in_row w (field.Port x) e = absurd (no_row w 24 refl e)
+number_in_row w (field.Host x) e = absurd (no_row w 25 refl e)
+number_in_row w (field.Failure x) e = absurd (no_row w 29 refl e)
+number_in_row w (field.Order x) e = absurd (no_row w 31 refl e)
+
+pub number_in_own : (w : NumberField) (n : ℕ) → number_in w (field.Number w n) ≡ Some n
+number_in_own w n = ap (λ b. cond b (Some n) None) (same_number (number_row w) (number_row w) refl)
+
 pub back_number : (t : Table) → has_defaults t ≡ true → (w : NumberField) → Back t (number_row w) (number_in w) (number_piece t w)
-back_number t h w (field.Number v n) e d = (
-  n,
-  ap (λ b. cond b (Some n) None) e,
-  subst (λ u. number_piece t u n ≡ field.Number v n ∷ []) (same_which v w e) (ap (λ b. cond b [] (field.Number v n ∷ [])) (sym (ap (λ x. x && nat_eq n (number_default t v)) h) ∙ d)),
-  refl,
-)
-back_number t h w (field.Mode x) e d = absurd (no_row w 0 refl e)
-back_number t h w (field.End x) e d = absurd (no_row w 1 refl e)
-back_number t h w (field.Label x y) e d = absurd (no_row w 5 refl e)
-back_number t h w (field.Role x) e d = absurd (no_row w 6 refl e)
-back_number t h w (field.Availability x) e d = absurd (no_row w 7 refl e)
-back_number t h w (field.Os x) e d = absurd (no_row w 11 refl e)
-back_number t h w (field.Arch x) e d = absurd (no_row w 12 refl e)
-back_number t h w (field.Engine x y) e d = absurd (no_row w 13 refl e)
-back_number t h w field.Remote e d = absurd (no_row w 14 refl e)
-back_number t h w (field.Constraint x) e d = absurd (no_row w 15 refl e)
-back_number t h w (field.Spread x) e d = absurd (no_row w 16 refl e)
-back_number t h w (field.Platform x) e d = absurd (no_row w 17 refl e)
-back_number t h w (field.Net x) e d = absurd (no_row w 19 refl e)
-back_number t h w (field.Restart x) e d = absurd (no_row w 20 refl e)
-back_number t h w (field.Port x) e d = absurd (no_row w 24 refl e)
-back_number t h w (field.Host x) e d = absurd (no_row w 25 refl e)
-back_number t h w (field.Failure x) e d = absurd (no_row w 29 refl e)
-back_number t h w (field.Order x) e d = absurd (no_row w 31 refl e)
+back_number t h w f e d =
+    let k = number_in_row w f e in
+    let g = field.Number w k.0 in
+    let usual : nat_eq k.0 (number_default t w) ≡ false = sym (ap (λ x. x && nat_eq k.0 (number_default t w)) h) ∙ ap (is_default t) (sym k.1) ∙ d in
+    (
+      k.0,
+      ap (number_in w) k.1 ∙ number_in_own w k.0,
+      ap (λ b. cond b [] (g ∷ [])) usual ∙ ap (λ x. x ∷ []) (sym k.1),
+      ap may_repeat k.1,
+    )
 
 pub numbers : (t : Table) → has_defaults t ≡ true → (w : NumberField) (fs : List Field) → Sorted fs → NoDefault t fs →
     number_piece t w (named_or (number_in w) (number_default t w) fs) ≡ at_row (number_row w) fs

@@ -1,0 +1,113 @@
+-- The spelling of a network's range.
+use Rattle.std.proofs.Common.{◌≡◌, ℕ, ◌<◌, ◌^◌, ◌+◌, ◌*◌, ◌/◌, ◌%◌, List, [], ◌∷◌, ◌++◌, codes, decimal, Bool, true, false, cond, refl, sym, ◌∙◌, ap, subst, Option, Some, None, arith, nat_eq, append_assoc}
+use Rattle.std.specs.Str.{bytes_eq}
+use Rattle.std.proofs.lemmas.Option.{some_pair_parts}
+use Rattle.swarm_grammar.specs.Words.{byte_number, split_at, with_first, ◌>>=◌}
+use Rattle.swarm_grammar.specs.Calls.{address_of, range_of, subnet_of}
+use Rattle.swarm_grammar.specs.Texts.{subnet_text}
+use Rattle.swarm_grammar.proofs.FieldRows.{number_same}
+use Rattle.swarm_grammar.proofs.Inversions.{bound, same, tested}
+use Rattle.swarm_grammar.proofs.Numbers.{number_only, number_yes}
+
+-- ## Parts
+
+pub split_only : (sep : ℕ) (w x y : List ℕ) → split_at sep w ≡ Some (x, y) → w ≡ x ++ sep ∷ y
+split_only sep [] x y e = cc
+split_only sep (b ∷ bs) x y e = go (nat_eq b sep) refl (split_at sep bs) refl e (split_only sep bs) where
+  go : (t : Bool) → nat_eq b sep ≡ t → (o : Option (List ℕ × List ℕ)) → split_at sep bs ≡ o →
+      cond t (Some ([], bs)) (with_first b o) ≡ Some (x, y) → ((u v : List ℕ) → split_at sep bs ≡ Some (u, v) → bs ≡ u ++ sep ∷ v) → b ∷ bs ≡ x ++ sep ∷ y
+  go true f o g d ih =
+      let k = some_pair_parts [] x bs y d in
+      ap (λ c. c ∷ bs) (number_same b sep f) ∙ ap (λ v. sep ∷ v) k.1 ∙ ap (λ u. u ++ sep ∷ y) k.0
+  go false f (Some p) g d ih =
+      let k = some_pair_parts (b ∷ p.0) x p.1 y d in
+      ap (λ v. b ∷ v) (ih p.0 p.1 g) ∙ ap (λ u. u ++ sep ∷ p.1) k.0 ∙ ap (λ v. x ++ sep ∷ v) k.1
+  go false f None g d ih = cc
+
+-- ## Bytes of an address
+
+first_byte : (a b c d : ℕ) → a < 256 → b < 256 → c < 256 → d < 256 → (((a * 256 + b) * 256 + c) * 256 + d) / 16777216 ≡ a
+first_byte a b c d ha hb hc hd = omega arith
+
+second_byte : (a b c d : ℕ) → a < 256 → b < 256 → c < 256 → d < 256 → (((a * 256 + b) * 256 + c) * 256 + d) / 65536 % 256 ≡ b
+second_byte a b c d ha hb hc hd = omega arith
+
+third_byte : (a b c d : ℕ) → a < 256 → b < 256 → c < 256 → d < 256 → (((a * 256 + b) * 256 + c) * 256 + d) / 256 % 256 ≡ c
+third_byte a b c d ha hb hc hd = omega arith
+
+fourth_byte : (a b c d : ℕ) → a < 256 → b < 256 → c < 256 → d < 256 → (((a * 256 + b) * 256 + c) * 256 + d) % 256 ≡ d
+fourth_byte a b c d ha hb hc hd = omega arith
+
+within : (a b c d : ℕ) → a < 256 → b < 256 → c < 256 → d < 256 → ((a * 256 + b) * 256 + c) * 256 + d < 2 ^ 32
+within a b c d ha hb hc hd = omega arith
+
+byte_only : (w : List ℕ) (n : ℕ) → byte_number w ≡ Some n → (w ≡ decimal n) × (n < 256)
+byte_only w n e = number_only 256 n w e
+
+byte_yes : (n : ℕ) → n < 256 → byte_number (decimal n) ≡ Some n
+byte_yes n h = number_yes 256 n h (omega (arith, h))
+
+-- ## A range that was read is spelled so
+
+abbrev fifth : ℕ → ℕ → ℕ → ℕ → ℕ → Option (ℕ × ℕ)
+fifth w x y z l = Some (address_of w x y z, l)
+
+abbrev numbers_in : List ℕ → List ℕ → List ℕ → List ℕ → List ℕ → Option (ℕ × ℕ)
+numbers_in a b c d t = byte_number a >>= λ w. byte_number b >>= λ x. byte_number c >>= λ y. byte_number d >>= λ z. byte_number t >>= λ l. fifth w x y z l
+
+five : (a b c d t : List ℕ) (base length : ℕ) → numbers_in a b c d t ≡ Some (base, length) →
+    (a ++ 46 ∷ (b ++ 46 ∷ (c ++ 46 ∷ (d ++ 47 ∷ t))) ≡
+    decimal (base / 16777216) ++ 46 ∷ (decimal (base / 65536 % 256) ++ 46 ∷ (decimal (base / 256 % 256) ++ 46 ∷ (decimal (base % 256) ++ 47 ∷ decimal length)))) ×
+    (base < 2 ^ 32) × (length < 256)
+five a b c d t base length e =
+    let p = bound (byte_number a) (λ w. byte_number b >>= λ x. byte_number c >>= λ y. byte_number d >>= λ z. byte_number t >>= λ l. fifth w x y z l) (base, length) e in
+    let q = bound (byte_number b) (λ x. byte_number c >>= λ y. byte_number d >>= λ z. byte_number t >>= λ l. fifth p.0 x y z l) (base, length) p.2 in
+    let r = bound (byte_number c) (λ y. byte_number d >>= λ z. byte_number t >>= λ l. fifth p.0 q.0 y z l) (base, length) q.2 in
+    let s = bound (byte_number d) (λ z. byte_number t >>= λ l. fifth p.0 q.0 r.0 z l) (base, length) r.2 in
+    let u = bound (byte_number t) (λ l. fifth p.0 q.0 r.0 s.0 l) (base, length) s.2 in
+    let v = some_pair_parts (address_of p.0 q.0 r.0 s.0) base u.0 length u.2 in
+    let pa = byte_only a p.0 p.1 in
+    let qb = byte_only b q.0 q.1 in
+    let rc = byte_only c r.0 r.1 in
+    let sd = byte_only d s.0 s.1 in
+    let ut = byte_only t u.0 u.1 in
+    let w : a ≡ decimal (base / 16777216) = pa.0 ∙ ap decimal (sym (first_byte p.0 q.0 r.0 s.0 pa.1 qb.1 rc.1 sd.1) ∙ ap (λ n. n / 16777216) v.0) in
+    let x : b ≡ decimal (base / 65536 % 256) = qb.0 ∙ ap decimal (sym (second_byte p.0 q.0 r.0 s.0 pa.1 qb.1 rc.1 sd.1) ∙ ap (λ n. n / 65536 % 256) v.0) in
+    let y : c ≡ decimal (base / 256 % 256) = rc.0 ∙ ap decimal (sym (third_byte p.0 q.0 r.0 s.0 pa.1 qb.1 rc.1 sd.1) ∙ ap (λ n. n / 256 % 256) v.0) in
+    let z : d ≡ decimal (base % 256) = sd.0 ∙ ap decimal (sym (fourth_byte p.0 q.0 r.0 s.0 pa.1 qb.1 rc.1 sd.1) ∙ ap (λ n. n % 256) v.0) in
+    let l : t ≡ decimal length = ut.0 ∙ ap decimal v.1 in
+    (cc, subst (λ n. n < 2 ^ 32) v.0 (within p.0 q.0 r.0 s.0 pa.1 qb.1 rc.1 sd.1), subst (λ n. n < 256) v.1 ut.1)
+
+-- the texts of an address and a length, as one
+joined_text : (a b c d t : List ℕ) → (a ++ 46 ∷ (b ++ 46 ∷ (c ++ 46 ∷ d))) ++ 47 ∷ t ≡ a ++ 46 ∷ (b ++ 46 ∷ (c ++ 46 ∷ (d ++ 47 ∷ t)))
+joined_text a b c d t =
+    append_assoc a (46 ∷ (b ++ 46 ∷ (c ++ 46 ∷ d))) (47 ∷ t)
+    ∙ ap (λ u. a ++ 46 ∷ u) (append_assoc b (46 ∷ (c ++ 46 ∷ d)) (47 ∷ t))
+    ∙ ap (λ u. a ++ 46 ∷ (b ++ 46 ∷ u)) (append_assoc c (46 ∷ d) (47 ∷ t))
+
+abbrev pub fourth_text : ℕ → ℕ → List ℕ
+fourth_text base length =
+    decimal (base / 16777216) ++ 46 ∷ (decimal (base / 65536 % 256) ++ 46 ∷ (decimal (base / 256 % 256) ++ 46 ∷ (decimal (base % 256) ++ 47 ∷ decimal length)))
+
+pub subnet_parts : (base length : ℕ) → subnet_text base length ≡ codes "subnet=" ++ fourth_text base length
+subnet_parts base length =
+    ap (λ u. codes "subnet=" ++ u) (joined_text (decimal (base / 16777216)) (decimal (base / 65536 % 256)) (decimal (base / 256 % 256)) (decimal (base % 256)) (decimal length))
+
+-- a range has one spelling, and fits its types
+pub subnet_only : (w : List ℕ) (base length : ℕ) → subnet_of w ≡ Some (base, length) → (w ≡ subnet_text base length) × (base < 2 ^ 32) × (length < 256)
+subnet_only w base length e =
+    let k = bound (split_at 61 w) (λ parts. cond (bytes_eq parts.0 (codes "subnet")) (range_of parts.1) None) (base, length) e in
+    let t = tested (bytes_eq k.0.0 (codes "subnet")) (range_of k.0.1) (base, length) k.2 in
+    let a = bound (split_at 46 k.0.1) _ (base, length) t.1 in
+    let b = bound (split_at 46 a.0.1) _ (base, length) a.2 in
+    let c = bound (split_at 46 b.0.1) _ (base, length) b.2 in
+    let d = bound (split_at 47 c.0.1) _ (base, length) c.2 in
+    let m = five a.0.0 b.0.0 c.0.0 d.0.0 d.0.1 base length d.2 in
+    (
+      split_only 61 w k.0.0 k.0.1 k.1
+      ∙ ap (λ u. u ++ 61 ∷ k.0.1) (same k.0.0 (codes "subnet") t.0)
+      ∙ ap (λ u. codes "subnet=" ++ u) (split_only 46 k.0.1 a.0.0 a.0.1 a.1 ∙ ap (λ u. a.0.0 ++ 46 ∷ u) (split_only 46 a.0.1 b.0.0 b.0.1 b.1 ∙ ap (λ u. b.0.0 ++ 46 ∷ u) (split_only 46 b.0.1 c.0.0 c.0.1 c.1 ∙ ap (λ u. c.0.0 ++ 46 ∷ u) (split_only 47 c.0.1 d.0.0 d.0.1 d.1))) ∙ m.0)
+      ∙ sym (subnet_parts base length),
+      m.1,
+      m.2,
+    )
