@@ -19,3 +19,6 @@ pub mod NodeBack
 pub mod Inversions
 pub mod Subnets
 pub mod OneSpelling
+pub mod ReadIsRight
+pub mod HasWord
+pub mod Rising
