@@ -22,3 +22,5 @@ pub mod OneSpelling
 pub mod ReadIsRight
 pub mod HasWord
 pub mod Rising
+pub mod DraftHas
+pub mod CallHas

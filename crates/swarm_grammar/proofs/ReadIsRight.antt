@@ -22,7 +22,7 @@ use Rattle.swarm_grammar.specs.Words.{byte_number, is_name, is_value, name_of, n
 right : (g f : Field) → IsSpellable g → Some g ≡ Some f → IsSpellable f
 right g f h e = subst IsSpellable (same_Some g f e) h
 
-name_only : (w x : List ℕ) → name_of w ≡ Some x → is_name x ≡ true
+pub name_only : (w x : List ℕ) → name_of w ≡ Some x → is_name x ≡ true
 name_only w x e = let t = test_some (is_name w) w x e in subst (λ y. is_name y ≡ true) t.1 t.0
 
 named_right : (make : List ℕ → Field) → ((n : List ℕ) → is_name n ≡ true → IsSpellable (make n)) → (v : List ℕ) (f : Field) → named make v ≡ Some f → IsSpellable f
