@@ -24,3 +24,4 @@ pub mod HasWord
 pub mod Rising
 pub mod DraftHas
 pub mod CallHas
+pub mod CallRead

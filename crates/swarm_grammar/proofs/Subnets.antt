@@ -1,12 +1,14 @@
 -- The spelling of a network's range.
-use Rattle.std.proofs.Common.{◌≡◌, ℕ, ◌<◌, ◌^◌, ◌+◌, ◌*◌, ◌/◌, ◌%◌, List, [], ◌∷◌, ◌++◌, codes, decimal, Bool, true, false, cond, refl, sym, ◌∙◌, ap, subst, Option, Some, None, arith, nat_eq, append_assoc}
+use Rattle.std.proofs.Common.{◌≡◌, ℕ, ◌<◌, ◌≤◌, lit≤, ◌^◌, ◌+◌, ◌*◌, ◌/◌, ◌%◌, List, [], ◌∷◌, ◌++◌, codes, decimal, Bool, true, false, cond, refl, sym, ◌∙◌, ap, subst, Option, Some, None, arith, nat_eq, append_assoc}
 use Rattle.std.specs.Str.{bytes_eq}
+use Rattle.std.specs.Char.{digit_value}
 use Rattle.std.proofs.lemmas.Option.{some_pair_parts}
 use Rattle.swarm_grammar.specs.Words.{byte_number, split_at, with_first, ◌>>=◌}
 use Rattle.swarm_grammar.specs.Calls.{address_of, range_of, subnet_of}
 use Rattle.swarm_grammar.specs.Texts.{subnet_text}
 use Rattle.swarm_grammar.proofs.FieldRows.{number_same}
 use Rattle.swarm_grammar.proofs.Inversions.{bound, same, tested}
+use Rattle.swarm_grammar.proofs.Spelled.{Clean, clean_number, split_clean}
 use Rattle.swarm_grammar.proofs.Numbers.{number_only, number_yes}
 
 -- ## Parts
@@ -111,3 +113,44 @@ subnet_only w base length e =
       m.1,
       m.2,
     )
+
+-- ## A spelled range is read
+
+bytes_of : (n : ℕ) → n < 2 ^ 32 → address_of (n / 16777216) (n / 65536 % 256) (n / 256 % 256) (n % 256) ≡ n
+bytes_of n h = omega arith
+
+high_byte : (n : ℕ) → n < 2 ^ 32 → n / 16777216 < 256
+high_byte n h = omega arith
+
+low_byte : (n : ℕ) → n % 256 < 256
+low_byte n = omega arith
+
+clean_byte : (sep n : ℕ) → 10 ≤ digit_value sep → n < 256 → Clean sep (decimal n)
+clean_byte sep n high h = clean_number sep n high (omega (arith, h))
+
+five_yes : (w x y z l : ℕ) → w < 256 → x < 256 → y < 256 → z < 256 → l < 256 →
+    range_of (decimal w ++ 46 ∷ (decimal x ++ 46 ∷ (decimal y ++ 46 ∷ (decimal z ++ 47 ∷ decimal l)))) ≡ Some (address_of w x y z, l)
+five_yes w x y z l hw hx hy hz hl =
+    let fl : Option ℕ → Option (ℕ × ℕ) = λ o. o >>= λ l. fifth w x y z l in
+    let fz : Option ℕ → Option (ℕ × ℕ) = λ o. o >>= λ z. byte_number (decimal l) >>= λ l. fifth w x y z l in
+    let fy : Option ℕ → Option (ℕ × ℕ) = λ o. o >>= λ y. byte_number (decimal z) >>= λ z. byte_number (decimal l) >>= λ l. fifth w x y z l in
+    let fx : Option ℕ → Option (ℕ × ℕ) = λ o. o >>= λ x. byte_number (decimal y) >>= λ y. byte_number (decimal z) >>= λ z. byte_number (decimal l) >>= λ l. fifth w x y z l in
+    let fw : Option ℕ → Option (ℕ × ℕ) = λ o. o >>= λ w. byte_number (decimal x) >>= λ x. byte_number (decimal y) >>= λ y. byte_number (decimal z) >>= λ z. byte_number (decimal l) >>= λ l. fifth w x y z l in
+    let d4 : Option (List ℕ × List ℕ) → Option (ℕ × ℕ) = λ o. o >>= λ d. numbers_in (decimal w) (decimal x) (decimal y) d.0 d.1 in
+    let d3 : Option (List ℕ × List ℕ) → Option (ℕ × ℕ) = λ o. o >>= λ c. split_at 47 c.1 >>= λ d. numbers_in (decimal w) (decimal x) c.0 d.0 d.1 in
+    let d2 : Option (List ℕ × List ℕ) → Option (ℕ × ℕ) = λ o. o >>= λ b. split_at 46 b.1 >>= λ c. split_at 47 c.1 >>= λ d. numbers_in (decimal w) b.0 c.0 d.0 d.1 in
+    let d1 : Option (List ℕ × List ℕ) → Option (ℕ × ℕ) = λ o. o >>= λ a. split_at 46 a.1 >>= λ b. split_at 46 b.1 >>= λ c. split_at 47 c.1 >>= λ d. numbers_in a.0 b.0 c.0 d.0 d.1 in
+    ap d1 (split_clean 46 (decimal w) (decimal x ++ 46 ∷ (decimal y ++ 46 ∷ (decimal z ++ 47 ∷ decimal l))) refl (clean_byte 46 w (lit≤ tt) hw))
+    ∙ ap d2 (split_clean 46 (decimal x) (decimal y ++ 46 ∷ (decimal z ++ 47 ∷ decimal l)) refl (clean_byte 46 x (lit≤ tt) hx))
+    ∙ ap d3 (split_clean 46 (decimal y) (decimal z ++ 47 ∷ decimal l) refl (clean_byte 46 y (lit≤ tt) hy))
+    ∙ ap d4 (split_clean 47 (decimal z) (decimal l) refl (clean_byte 47 z (lit≤ tt) hz))
+    ∙ ap fw (byte_yes w hw) ∙ ap fx (byte_yes x hx) ∙ ap fy (byte_yes y hy) ∙ ap fz (byte_yes z hz) ∙ ap fl (byte_yes l hl)
+
+abbrev paired : ℕ → ℕ → Option (ℕ × ℕ)
+paired base length = Some (base, length)
+
+pub subnet_yes : (base length : ℕ) → base < 2 ^ 32 → length < 256 → subnet_of (subnet_text base length) ≡ Some (base, length)
+subnet_yes base length h k =
+    ap subnet_of (subnet_parts base length)
+    ∙ five_yes (base / 16777216) (base / 65536 % 256) (base / 256 % 256) (base % 256) length (high_byte base h) (low_byte (base / 65536)) (low_byte (base / 256)) (low_byte base) k
+    ∙ ap (λ n. paired n length) (bytes_of base h)
