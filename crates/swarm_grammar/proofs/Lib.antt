@@ -25,3 +25,7 @@ pub mod Rising
 pub mod DraftHas
 pub mod CallHas
 pub mod CallRead
+pub mod DutyLaws
+pub mod Spaces
+pub mod EntryWords
+pub mod EntryLaws

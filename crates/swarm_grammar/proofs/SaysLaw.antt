@@ -48,7 +48,8 @@ says_end {S} {R} m all s pre None led e = (
   λ r h. let f : None ≡ Some r = sym (ap (λ (o : Option S). o >>= m.whole) led ∙ e) ∙ h in cc,
 )
 
-abbrev onto : {S R : Type 0} → Machine S R → ℕ → List (List ℕ) → Option S → Result R LineFault
+-- the rest of the words, behind the state after the k-th
+abbrev pub onto : {S R : Type 0} → Machine S R → ℕ → List (List ℕ) → Option S → Result R LineFault
 onto m k ws o = elim o [ Some next ↦ reads m (k + 1) next ws | None ↦ Err (fault.Word k) ]
 
 front : (pre : List (List ℕ)) (word : List ℕ) (ws : List (List ℕ)) (k : ℕ) → k ≡ length pre + 1 → take k (pre ++ word ∷ ws) ≡ pre ++ word ∷ []
