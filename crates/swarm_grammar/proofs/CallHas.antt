@@ -324,8 +324,8 @@ fields_have m ops h fs w next s e =
     either (begins_version w) (versioned ops h fs w) (next_field m (table_of h) fs w >>= λ gs. Some (state.Fields ops h gs)) next e
     (versioned_has ops h fs w next s)
     (λ d.
-      let b = bound (next_field m (table_of h) fs w) (λ gs. Some (state.Fields ops h gs)) next d in
-      subst HasState (same_Some _ next b.2) (s.0, s.1, next_has m (table_of h) fs w b.0 s.2 b.1)))
+    let b = bound (next_field m (table_of h) fs w) (λ gs. Some (state.Fields ops h gs)) next d in
+    subst HasState (same_Some _ next b.2) (s.0, s.1, next_has m (table_of h) fs w b.0 s.2 b.1)))
     e
 
 behind_has : (ops : List Op) (o : Op) (w : List ℕ) (next : State) → HasOps ops → op_has_text o ≡ true → behind_op ops o w ≡ Some next → HasState next

@@ -138,9 +138,9 @@ leads ops (op.UpdateNode n (Some v) ls r a) h =
     let l = rises_by ls b.1 in
     leads_fields ops (head.UpdateNode n (Some v)) (joined (old_node_pieces ls r a)) (op.UpdateNode n (Some v) ls r a)
     (
-      named_run ops verb.NodeUpdate n ((64 ∷ decimal v) ∷ pieces_words (old_node_pieces ls r a)) k.0
-      ∙ update_node_run ops n v (pieces_words (old_node_pieces ls r a)) u.0
-      ∙ read_fields ops (head.UpdateNode n (Some v)) (joined (old_node_pieces ls r a)) (words_spelled _ b.0) (old_canonical ls r a l)
+    named_run ops verb.NodeUpdate n ((64 ∷ decimal v) ∷ pieces_words (old_node_pieces ls r a)) k.0
+    ∙ update_node_run ops n v (pieces_words (old_node_pieces ls r a)) u.0
+    ∙ read_fields ops (head.UpdateNode n (Some v)) (joined (old_node_pieces ls r a)) (words_spelled _ b.0) (old_canonical ls r a l)
     )
     (old_op n (Some v) ls r a l)
 leads ops (op.CreateService n d) h =
@@ -161,9 +161,9 @@ leads ops (op.UpdateService n (Some v) d) h =
     let b = both (have_words (service_pieces d)) (is_empty d.spec.template.networks) u.1 in
     leads_fields ops (head.UpdateService n (Some v)) (joined (service_pieces d)) (op.UpdateService n (Some v) d)
     (
-      named_run ops verb.ServiceUpdate n ((64 ∷ decimal v) ∷ pieces_words (service_pieces d)) a.0
-      ∙ update_run ops n v (pieces_words (service_pieces d)) u.0
-      ∙ read_fields ops (head.UpdateService n (Some v)) (joined (service_pieces d)) (words_spelled _ b.0) (service_canonical d)
+    named_run ops verb.ServiceUpdate n ((64 ∷ decimal v) ∷ pieces_words (service_pieces d)) a.0
+    ∙ update_run ops n v (pieces_words (service_pieces d)) u.0
+    ∙ read_fields ops (head.UpdateService n (Some v)) (joined (service_pieces d)) (words_spelled _ b.0) (service_canonical d)
     )
     (ap (op.UpdateService n (Some v)) (service_draft d (empty_only d.spec.template.networks b.1)))
 leads ops (op.RemoveService n) h = record { to = state.Operation ops (op.RemoveService n); read = named_run ops verb.ServiceRemove n [] h; ended = refl; more = refl }
@@ -326,9 +326,9 @@ call_read (call.RemoteStatus n session task s) h =
     let a = both (is_name n) (is_number session && is_number task) h in
     let b = both (is_number session) (is_number task) a.1 in
     then_whole (
-      call_run call_verb.RemoteStatus n (decimal session ∷ decimal task ∷ state_text s ∷ []) a.0
-      ∙ session_run session_verb.Status n session (decimal task ∷ state_text s ∷ []) b.0
-      ∙ task_run n session task (state_text s ∷ []) b.1
-      ∙ state_run n session task s
+    call_run call_verb.RemoteStatus n (decimal session ∷ decimal task ∷ state_text s ∷ []) a.0
+    ∙ session_run session_verb.Status n session (decimal task ∷ state_text s ∷ []) b.0
+    ∙ task_run n session task (state_text s ∷ []) b.1
+    ∙ state_run n session task s
     ) refl
 call_read call.Halt h = refl

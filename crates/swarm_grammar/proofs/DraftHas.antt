@@ -243,6 +243,7 @@ given_wordy w (f ∷ fs) h = go (number_in w f) refl (given_wordy w fs h.1) wher
     pick true d = subst (λ k. is_number k ≡ true) (same_Some m n d) h
     pick false d = cc
   one f n e h = cc
+
   go : (o : Option ℕ) → number_in w f ≡ o → Wordy (given_piece w (number_given w fs)) → Wordy (given_piece w (option_or o (number_given w fs)))
   go None e ih = ih
   go (Some n) e ih = (one f n e h.0, tt)

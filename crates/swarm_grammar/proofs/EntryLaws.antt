@@ -144,10 +144,12 @@ pub entry_read : (e : Entry) → has_text e ≡ true → IsSaid journal_grammar 
 entry_read e h = caller ∙ said e.what b.1 where
   b : (is_number e.by ≡ true) × (what_has_text e.what ≡ true)
   b = both (is_number e.by) (what_has_text e.what) h
+
   caller : (run journal_grammar entry_state.Opening (entry_words e) >>= journal_grammar.whole) ≡ from_caller e.by (what_words e.what)
   caller =
       let k = below_only e.by (2 ^ 64) b.0 in
       ap (λ (o : Option ℕ). from_call 0 (what_words e.what) (o >>= λ by. Some (entry_state.Caller by))) (number_yes (2 ^ 64) e.by k k)
+
   call_said : (c : Call) (ws : List (List ℕ)) → IsSaid (call_grammar form.Journal) ws c → from_caller e.by ws ≡ Some (call_entry e.by c)
   call_said c [] f = cc
   call_said c (x ∷ ws) f = go (bytes_eq x (codes "duty")) refl where
@@ -156,6 +158,7 @@ entry_read e h = caller ∙ said e.what b.1 where
     go false t =
         call_from e.by x ws t
         ∙ said_held (call_grammar form.Journal) journal_grammar (entry_state.Call e.by) (call_entry e.by) (λ s word. refl) (λ s. refl) (state.Opening []) (x ∷ ws) c f
+
   said : (w : What) → what_has_text w ≡ true → from_caller e.by (what_words w) ≡ Some (record { by = e.by; what = w })
   said (what.Call c) g = call_said c (call_words c) (call_read c g)
   said (what.Duty d) g =
@@ -172,11 +175,14 @@ read_only : (line : List ℕ) (e : Entry) → entry_meaning line ≡ Ok e → Is
 read_only line e h = go (is_long_entry line) (not (is_printable (before_newline line))) (ends_line line) refl h where
   words : List (List ℕ)
   words = words_of (before_newline line)
+
   said : (r : Result Entry LineFault) → Says journal_grammar words r → r ≡ Ok e → IsSaid journal_grammar words e
   said r s k = subst (Says journal_grammar words) k s
+
   cut : (r : Result Entry LineFault) → closed false r ≡ Ok e → ⊥
   cut (Ok x) k = cc
   cut (Err f) k = cc
+
   go : (long printed newline : Bool) → ends_line line ≡ newline → cond long (Err fault.Long) (cond printed (Err fault.Byte) (closed newline (meaning journal_grammar words))) ≡ Ok e → IsRead line e
   go true printed newline t k = cc
   go false true newline t k = cc
@@ -282,6 +288,7 @@ line_said [] l d = cc
 line_said (w ∷ ws) l d = go (bytes_eq w (codes "wait")) refl where
   from : (b : Bool) → bytes_eq w (codes "wait") ≡ b → from_line ws (cond b (Some line_state.Wait) (step form.Script (state.Opening []) w >>= λ s. Some (line_state.Call s))) ≡ Some l
   from b t = sym (ap (λ c. from_line ws (cond c (Some line_state.Wait) (step form.Script (state.Opening []) w >>= λ s. Some (line_state.Call s)))) t) ∙ d
+
   go : (b : Bool) → bytes_eq w (codes "wait") ≡ b → line_has_text l ≡ true
   go true t = wait_said ws l (from true t)
   go false t = said_call (w ∷ ws) l (from false t)

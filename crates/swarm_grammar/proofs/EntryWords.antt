@@ -156,8 +156,8 @@ subnet_graphic : (base length : ℕ) → base < 2 ^ 32 → length < 256 → Grap
 subnet_graphic base length h k =
     graphic_append (address_text base) (47 ∷ decimal length)
     (graphic_append (decimal (base / 16777216)) _ (decimal_graphic _ (high_number base h))
-      (graphic_append (decimal (base / 65536 % 256)) _ (decimal_graphic _ (low_number (base / 65536)))
-        (graphic_append (decimal (base / 256 % 256)) _ (decimal_graphic _ (low_number (base / 256))) (decimal_graphic (base % 256) (low_number base)))))
+    (graphic_append (decimal (base / 65536 % 256)) _ (decimal_graphic _ (low_number (base / 65536)))
+    (graphic_append (decimal (base / 256 % 256)) _ (decimal_graphic _ (low_number (base / 256))) (decimal_graphic (base % 256) (low_number base)))))
     (decimal_graphic length (omega (arith, k)))
 
 pub op_graphic : (o : Op) → op_has_text o ≡ true → AllGraphic (op_words o)

@@ -29,3 +29,4 @@ pub mod DutyLaws
 pub mod Spaces
 pub mod EntryWords
 pub mod EntryLaws
+pub mod Fits

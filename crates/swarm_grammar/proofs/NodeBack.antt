@@ -134,10 +134,27 @@ node_table d =
     []
 
 pub node_is : (d : NodeDraft) → Rises d.labels → Rises d.engine → ArePieces table.NewNode 0 (node_table d)
-node_is d l e =
-    (omega arith, new_labels_is d.labels l, (omega arith, new_role_is d.role, (omega arith, new_availability_is d.availability,
-    (omega arith, number_is table.NewNode number.Cpu d.cpu refl refl, (omega arith, number_is table.NewNode number.Mem d.mem refl refl,
-    (omega arith, os_is d.os, (omega arith, arch_is d.arch, (omega arith, engines_is d.engine e, (omega arith, remote_is d.remote, tt)))))))))
+node_is d l e = (
+  omega arith,
+  new_labels_is d.labels l,
+  (
+    omega arith,
+    new_role_is d.role,
+    (
+      omega arith,
+      new_availability_is d.availability,
+      (
+        omega arith,
+        number_is table.NewNode number.Cpu d.cpu refl refl,
+        (
+          omega arith,
+          number_is table.NewNode number.Mem d.mem refl refl,
+          (omega arith, os_is d.os, (omega arith, arch_is d.arch, (omega arith, engines_is d.engine e, (omega arith, remote_is d.remote, tt)))),
+        ),
+      ),
+    ),
+  ),
+)
 
 -- the draft of the fields that a draft writes is the draft
 pub node_draft : (d : NodeDraft) → Rises d.labels → Rises d.engine → node_draft_of (flat (node_table d)) ≡ d
@@ -190,9 +207,15 @@ settings_table s =
     []
 
 pub settings_is : (s : Settings) → ArePieces table.Cluster 0 (settings_table s)
-settings_is s =
-    (omega arith, number_is table.Cluster number.Heartbeat s.heartbeat refl refl, (omega arith, number_is table.Cluster number.Orphan s.orphan refl refl,
-    (omega arith, number_is table.Cluster number.History s.history refl refl, tt)))
+settings_is s = (
+  omega arith,
+  number_is table.Cluster number.Heartbeat s.heartbeat refl refl,
+  (
+    omega arith,
+    number_is table.Cluster number.Orphan s.orphan refl refl,
+    (omega arith, number_is table.Cluster number.History s.history refl refl, tt),
+  ),
+)
 
 pub settings_back : (s : Settings) → settings_of (flat (settings_table s)) ≡ s
 settings_back s =

@@ -134,8 +134,7 @@ pub back_number : (t : Table) → has_defaults t ≡ true → (w : NumberField) 
 back_number t h w f e d =
     let k = number_in_row w f e in
     let g = field.Number w k.0 in
-    let usual : nat_eq k.0 (number_default t w) ≡ false = sym (ap (λ x. x && nat_eq k.0 (number_default t w)) h) ∙ ap (is_default t) (sym k.1) ∙ d in
-    (
+    let usual : nat_eq k.0 (number_default t w) ≡ false = sym (ap (λ x. x && nat_eq k.0 (number_default t w)) h) ∙ ap (is_default t) (sym k.1) ∙ d in (
       k.0,
       ap (number_in w) k.1 ∙ number_in_own w k.0,
       ap (λ b. cond b [] (g ∷ [])) usual ∙ ap (λ x. x ∷ []) (sym k.1),

@@ -92,9 +92,9 @@ one_graphic n b h e = ap is_ascii_graphic (number_same b n e) ∙ h
 name_byte_graphic : (b : ℕ) → is_name_byte b ≡ true → is_ascii_graphic b ≡ true
 name_byte_graphic b e =
     or_cases (is_ascii_alphanumeric b) _ e (λ e.
-      or_cases (is_in_range 48 57 b || is_in_range 65 90 b) (is_in_range 97 122 b) e (λ e.
-        or_cases (is_in_range 48 57 b) (is_in_range 65 90 b) e (range_graphic 48 57 b (lit≤ tt) (lit≤ tt)) (range_graphic 65 90 b (lit≤ tt) (lit≤ tt)))
-      (range_graphic 97 122 b (lit≤ tt) (lit≤ tt)))
+    or_cases (is_in_range 48 57 b || is_in_range 65 90 b) (is_in_range 97 122 b) e (λ e.
+    or_cases (is_in_range 48 57 b) (is_in_range 65 90 b) e (range_graphic 48 57 b (lit≤ tt) (lit≤ tt)) (range_graphic 65 90 b (lit≤ tt) (lit≤ tt)))
+    (range_graphic 97 122 b (lit≤ tt) (lit≤ tt)))
     (λ e. or_cases (nat_eq b 45) _ e (one_graphic 45 b refl) (λ e. or_cases (nat_eq b 95) _ e (one_graphic 95 b refl) (one_graphic 46 b refl)))
 
 pub bytes_graphic : (w : List ℕ) → list_all is_name_byte w ≡ true → Graphic w
@@ -110,6 +110,7 @@ digit_graphic : (c : ℕ) → digit_value c < 10 → is_ascii_graphic c ≡ true
 digit_graphic c h = go (nat_lt c 48) (nat_lt c 58) (nat_lt c 65) (nat_lt c 91) (nat_lt c 97) (nat_lt c 123) refl refl refl refl refl refl h where
   within : 33 ≤ c → c ≤ 126 → is_ascii_graphic c ≡ true
   within x y = and_yes (nat_le 33 c) (nat_le c 126) (grind (arith, nat_tests)) (grind (arith, nat_tests))
+
   go : (p q r s t u : Bool) → nat_lt c 48 ≡ p → nat_lt c 58 ≡ q → nat_lt c 65 ≡ r → nat_lt c 91 ≡ s → nat_lt c 97 ≡ t → nat_lt c 123 ≡ u →
       cond p 36 (cond q (c - 48) (cond r 36 (cond s (c - 55) (cond t 36 (cond u (c - 87) 36))))) < 10 → is_ascii_graphic c ≡ true
   go true q r s t u a b d e f g k = absurd (omega (arith, k))

@@ -57,10 +57,25 @@ fifth w x y z l = Some (address_of w x y z, l)
 abbrev numbers_in : List ℕ → List ℕ → List ℕ → List ℕ → List ℕ → Option (ℕ × ℕ)
 numbers_in a b c d t = byte_number a >>= λ w. byte_number b >>= λ x. byte_number c >>= λ y. byte_number d >>= λ z. byte_number t >>= λ l. fifth w x y z l
 
+-- the four bytes of an address and a length
+abbrev pub fourth_text : ℕ → ℕ → List ℕ
+fourth_text base length =
+    decimal (base / 16777216) ++ 46 ∷ (decimal (base / 65536 % 256) ++ 46 ∷ (decimal (base / 256 % 256) ++ 46 ∷ (decimal (base % 256) ++ 47 ∷ decimal length)))
+
+-- five numbers and what they make
+five_texts : (a b c d t : List ℕ) (w x y z l base length : ℕ) → (a ≡ decimal w) × (w < 256) → (b ≡ decimal x) × (x < 256) → (c ≡ decimal y) × (y < 256) →
+    (d ≡ decimal z) × (z < 256) → (t ≡ decimal l) × (l < 256) → address_of w x y z ≡ base → l ≡ length →
+    (a ++ 46 ∷ (b ++ 46 ∷ (c ++ 46 ∷ (d ++ 47 ∷ t))) ≡ fourth_text base length) × (base < 2 ^ 32) × (length < 256)
+five_texts a b c d t w x y z l base length ha hb hc hd ht e f =
+    let a' : a ≡ decimal (base / 16777216) = ha.0 ∙ ap decimal (sym (first_byte w x y z ha.1 hb.1 hc.1 hd.1) ∙ ap (λ n. n / 16777216) e) in
+    let b' : b ≡ decimal (base / 65536 % 256) = hb.0 ∙ ap decimal (sym (second_byte w x y z ha.1 hb.1 hc.1 hd.1) ∙ ap (λ n. n / 65536 % 256) e) in
+    let c' : c ≡ decimal (base / 256 % 256) = hc.0 ∙ ap decimal (sym (third_byte w x y z ha.1 hb.1 hc.1 hd.1) ∙ ap (λ n. n / 256 % 256) e) in
+    let d' : d ≡ decimal (base % 256) = hd.0 ∙ ap decimal (sym (fourth_byte w x y z ha.1 hb.1 hc.1 hd.1) ∙ ap (λ n. n % 256) e) in
+    let t' : t ≡ decimal length = ht.0 ∙ ap decimal f in
+    (cc, subst (λ n. n < 2 ^ 32) e (within w x y z ha.1 hb.1 hc.1 hd.1), subst (λ n. n < 256) f ht.1)
+
 five : (a b c d t : List ℕ) (base length : ℕ) → numbers_in a b c d t ≡ Some (base, length) →
-    (a ++ 46 ∷ (b ++ 46 ∷ (c ++ 46 ∷ (d ++ 47 ∷ t))) ≡
-    decimal (base / 16777216) ++ 46 ∷ (decimal (base / 65536 % 256) ++ 46 ∷ (decimal (base / 256 % 256) ++ 46 ∷ (decimal (base % 256) ++ 47 ∷ decimal length)))) ×
-    (base < 2 ^ 32) × (length < 256)
+    (a ++ 46 ∷ (b ++ 46 ∷ (c ++ 46 ∷ (d ++ 47 ∷ t))) ≡ fourth_text base length) × (base < 2 ^ 32) × (length < 256)
 five a b c d t base length e =
     let p = bound (byte_number a) (λ w. byte_number b >>= λ x. byte_number c >>= λ y. byte_number d >>= λ z. byte_number t >>= λ l. fifth w x y z l) (base, length) e in
     let q = bound (byte_number b) (λ x. byte_number c >>= λ y. byte_number d >>= λ z. byte_number t >>= λ l. fifth p.0 x y z l) (base, length) p.2 in
@@ -68,17 +83,7 @@ five a b c d t base length e =
     let s = bound (byte_number d) (λ z. byte_number t >>= λ l. fifth p.0 q.0 r.0 z l) (base, length) r.2 in
     let u = bound (byte_number t) (λ l. fifth p.0 q.0 r.0 s.0 l) (base, length) s.2 in
     let v = some_pair_parts (address_of p.0 q.0 r.0 s.0) base u.0 length u.2 in
-    let pa = byte_only a p.0 p.1 in
-    let qb = byte_only b q.0 q.1 in
-    let rc = byte_only c r.0 r.1 in
-    let sd = byte_only d s.0 s.1 in
-    let ut = byte_only t u.0 u.1 in
-    let w : a ≡ decimal (base / 16777216) = pa.0 ∙ ap decimal (sym (first_byte p.0 q.0 r.0 s.0 pa.1 qb.1 rc.1 sd.1) ∙ ap (λ n. n / 16777216) v.0) in
-    let x : b ≡ decimal (base / 65536 % 256) = qb.0 ∙ ap decimal (sym (second_byte p.0 q.0 r.0 s.0 pa.1 qb.1 rc.1 sd.1) ∙ ap (λ n. n / 65536 % 256) v.0) in
-    let y : c ≡ decimal (base / 256 % 256) = rc.0 ∙ ap decimal (sym (third_byte p.0 q.0 r.0 s.0 pa.1 qb.1 rc.1 sd.1) ∙ ap (λ n. n / 256 % 256) v.0) in
-    let z : d ≡ decimal (base % 256) = sd.0 ∙ ap decimal (sym (fourth_byte p.0 q.0 r.0 s.0 pa.1 qb.1 rc.1 sd.1) ∙ ap (λ n. n % 256) v.0) in
-    let l : t ≡ decimal length = ut.0 ∙ ap decimal v.1 in
-    (cc, subst (λ n. n < 2 ^ 32) v.0 (within p.0 q.0 r.0 s.0 pa.1 qb.1 rc.1 sd.1), subst (λ n. n < 256) v.1 ut.1)
+    five_texts a b c d t p.0 q.0 r.0 s.0 u.0 base length (byte_only a p.0 p.1) (byte_only b q.0 q.1) (byte_only c r.0 r.1) (byte_only d s.0 s.1) (byte_only t u.0 u.1) v.0 v.1
 
 -- the texts of an address and a length, as one
 joined_text : (a b c d t : List ℕ) → (a ++ 46 ∷ (b ++ 46 ∷ (c ++ 46 ∷ d))) ++ 47 ∷ t ≡ a ++ 46 ∷ (b ++ 46 ∷ (c ++ 46 ∷ (d ++ 47 ∷ t)))
@@ -87,29 +92,38 @@ joined_text a b c d t =
     ∙ ap (λ u. a ++ 46 ∷ u) (append_assoc b (46 ∷ (c ++ 46 ∷ d)) (47 ∷ t))
     ∙ ap (λ u. a ++ 46 ∷ (b ++ 46 ∷ u)) (append_assoc c (46 ∷ d) (47 ∷ t))
 
-abbrev pub fourth_text : ℕ → ℕ → List ℕ
-fourth_text base length =
-    decimal (base / 16777216) ++ 46 ∷ (decimal (base / 65536 % 256) ++ 46 ∷ (decimal (base / 256 % 256) ++ 46 ∷ (decimal (base % 256) ++ 47 ∷ decimal length)))
-
 pub subnet_parts : (base length : ℕ) → subnet_text base length ≡ codes "subnet=" ++ fourth_text base length
 subnet_parts base length =
     ap (λ u. codes "subnet=" ++ u) (joined_text (decimal (base / 16777216)) (decimal (base / 65536 % 256)) (decimal (base / 256 % 256)) (decimal (base % 256)) (decimal length))
+
+-- the text of four parts behind one another
+four_parts : (text a p b q c r d t : List ℕ) → split_at 46 text ≡ Some (a, p) → split_at 46 p ≡ Some (b, q) → split_at 46 q ≡ Some (c, r) → split_at 47 r ≡ Some (d, t) →
+    text ≡ a ++ 46 ∷ (b ++ 46 ∷ (c ++ 46 ∷ (d ++ 47 ∷ t)))
+four_parts text a p b q c r d t e f g h =
+    split_only 46 text a p e
+    ∙ ap (λ u. a ++ 46 ∷ u) (split_only 46 p b q f)
+    ∙ ap (λ u. a ++ 46 ∷ (b ++ 46 ∷ u)) (split_only 46 q c r g)
+    ∙ ap (λ u. a ++ 46 ∷ (b ++ 46 ∷ (c ++ 46 ∷ u))) (split_only 47 r d t h)
+
+range_only : (text : List ℕ) (base length : ℕ) → range_of text ≡ Some (base, length) → (text ≡ fourth_text base length) × (base < 2 ^ 32) × (length < 256)
+range_only text base length e =
+    let a = bound (split_at 46 text) _ (base, length) e in
+    let b = bound (split_at 46 a.0.1) _ (base, length) a.2 in
+    let c = bound (split_at 46 b.0.1) _ (base, length) b.2 in
+    let d = bound (split_at 47 c.0.1) _ (base, length) c.2 in
+    let m = five a.0.0 b.0.0 c.0.0 d.0.0 d.0.1 base length d.2 in
+    (four_parts text a.0.0 a.0.1 b.0.0 b.0.1 c.0.0 c.0.1 d.0.0 d.0.1 a.1 b.1 c.1 d.1 ∙ m.0, m.1, m.2)
 
 -- a range has one spelling, and fits its types
 pub subnet_only : (w : List ℕ) (base length : ℕ) → subnet_of w ≡ Some (base, length) → (w ≡ subnet_text base length) × (base < 2 ^ 32) × (length < 256)
 subnet_only w base length e =
     let k = bound (split_at 61 w) (λ parts. cond (bytes_eq parts.0 (codes "subnet")) (range_of parts.1) None) (base, length) e in
     let t = tested (bytes_eq k.0.0 (codes "subnet")) (range_of k.0.1) (base, length) k.2 in
-    let a = bound (split_at 46 k.0.1) _ (base, length) t.1 in
-    let b = bound (split_at 46 a.0.1) _ (base, length) a.2 in
-    let c = bound (split_at 46 b.0.1) _ (base, length) b.2 in
-    let d = bound (split_at 47 c.0.1) _ (base, length) c.2 in
-    let m = five a.0.0 b.0.0 c.0.0 d.0.0 d.0.1 base length d.2 in
-    (
+    let m = range_only k.0.1 base length t.1 in (
       split_only 61 w k.0.0 k.0.1 k.1
-      ∙ ap (λ u. u ++ 61 ∷ k.0.1) (same k.0.0 (codes "subnet") t.0)
-      ∙ ap (λ u. codes "subnet=" ++ u) (split_only 46 k.0.1 a.0.0 a.0.1 a.1 ∙ ap (λ u. a.0.0 ++ 46 ∷ u) (split_only 46 a.0.1 b.0.0 b.0.1 b.1 ∙ ap (λ u. b.0.0 ++ 46 ∷ u) (split_only 46 b.0.1 c.0.0 c.0.1 c.1 ∙ ap (λ u. c.0.0 ++ 46 ∷ u) (split_only 47 c.0.1 d.0.0 d.0.1 d.1))) ∙ m.0)
-      ∙ sym (subnet_parts base length),
+          ∙ ap (λ u. u ++ 61 ∷ k.0.1) (same k.0.0 (codes "subnet") t.0)
+          ∙ ap (λ u. codes "subnet=" ++ u) m.0
+          ∙ sym (subnet_parts base length),
       m.1,
       m.2,
     )
