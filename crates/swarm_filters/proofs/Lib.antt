@@ -1,9 +1,12 @@
 pub mod Labels
 pub mod Suffixes
-pub mod Keys
+pub mod KeyWords
 pub mod Runs
 pub mod Wholes
 pub mod FaultLemmas
 pub mod Places
 pub mod Steps
 pub mod Texts
+pub mod Constraints
+pub mod KeyTexts
+pub mod Written

@@ -7,14 +7,13 @@ use Rattle.std.proofs.Math.Seq.{take-suc, take-length}
 use Rattle.std.proofs.lemmas.Str.{IsUtf8-from_ascii}
 use Rattle.std.proofs.lemmas.Str.Ascii.{IsAscii-nil, IsAscii-cons}
 use Rattle.std.proofs.lemmas.Bool.Decides.{nat_tests}
-use Rattle.swarm_objects.specs.declared.templates.Key.{Key}
-use Rattle.swarm_objects.specs.declared.templates.Key.TheVariants as key
-use Rattle.swarm_filters.specs.Grammar.{is_name_byte, is_name, begins_name, is_value, IsKey, IsConstraint, IsFault}
+use Rattle.swarm_filters.specs.Grammar.{is_name_byte, is_name, begins_name, is_value, IsConstraint, IsFault}
 use Rattle.swarm_filters.specs.Machine.{Reading, start, step, goes_on, run, whole_of}
-use Rattle.swarm_filters.specs.Shown.{IsNamed, PartsRead, PartsFit, key_of, whole_at}
+use Rattle.swarm_filters.specs.Shown.{PartsRead, PartsFit, key_at, whole_at}
 use Rattle.swarm_filters.specs.declared.states.Parts.{Parts}
 use Rattle.swarm_filters.proofs.Runs.{IsConstraint-read}
 use Rattle.swarm_filters.proofs.Wholes.{first_true, second_true, run-append}
+use Rattle.swarm_filters.proofs.Written.{key_has_text-IsKey}
 use Rattle.swarm_filters.proofs.FaultLemmas.{IsFault-there, IsFault-cut}
 
 take-next : (text : List ℕ) (place : ℕ) → place < length text → take (place + 1) text ≡ take place text ++ slice_index text place ∷ []
@@ -41,20 +40,11 @@ all_read text s read = ap (λ x. run start x) (sym (take-length text)) ∙ read
 pub fault_cut : (text : List ℕ) (s : Reading) → run start (take (length text) text) ≡ Some s → whole_of s ≡ None → IsFault text (length text)
 fault_cut text s read none = IsFault-cut text s (all_read text s read) none
 
-named_key : (text : List ℕ) (k : Key) → IsKey text k → IsNamed k
-named_key text key.NodeId is = tt
-named_key text key.Hostname is = tt
-named_key text key.Role is = tt
-named_key text key.Os is = tt
-named_key text key.Arch is = tt
-named_key text (key.Label name) is = is.1.1.1
-named_key text (key.Engine name) is = is.1.1.1
-
 -- a text that is whole
 pub parts_read : (text : List ℕ) (s : Reading) (p : Parts) → run start (take (length text) text) ≡ Some s → whole_of s ≡ Some (whole_at text p) → PartsFit (length text) p → PartsRead text p
 parts_read text s p read whole fits =
     let is : IsConstraint text (whole_at text p) = IsConstraint-read text s (whole_at text p) (all_read text s read) whole in
-    record { fits = fits; is = is; named = named_key is.key_text (key_of text p.found) is.is_key; valued = is.valued }
+    record { fits = fits; is = is; named = key_has_text-IsKey is.key_text (key_at text p.found) is.is_key; valued = is.valued }
 
 -- names are text
 

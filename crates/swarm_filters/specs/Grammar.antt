@@ -1,5 +1,5 @@
 -- The form of a constraint, and where a text leaves it.
-use Rattle.std.specs.Prelude.{◌≡◌, ℕ, ◌+◌, ◌<◌, ◌≤◌, ◌==◌, ◌&&◌, ◌||◌, nat_lt, nat_le, List, [], ◌∷◌, ◌++◌, length, take, codes, Bool, true, false, IsTrue}
+use Rattle.std.specs.Prelude.{◌≡◌, ◌↔◌, Option, Some, ℕ, ◌+◌, ◌<◌, ◌≤◌, ◌==◌, ◌&&◌, ◌||◌, nat_lt, nat_le, List, [], ◌∷◌, ◌++◌, length, take, codes, Bool, true, false, IsTrue}
 use Rattle.std.specs.Char.{is_ascii_alphanumeric}
 use Rattle.std.specs.List.{list_all}
 use Rattle.std.specs.Str.{str_to_ascii_lowercase}
@@ -64,6 +64,14 @@ pub record IsConstraint (text : List ℕ) (c : Constraint) : Type 0 where
   pub third_spaces : AreSpaces third
   pub valued : IsTrue (is_value c.value)
   pub fourth_spaces : AreSpaces fourth
+
+-- the text is no other constraint
+abbrev pub IsOnly : List ℕ → Constraint → Type 0
+IsOnly text c = (other : Constraint) → IsConstraint text other → other ≡ c
+
+-- the one that has the property is held, or none where none has it
+abbrev pub HoldsExactly : {X : Type 0} → (X → Type 0) → Option X → Type 0
+HoldsExactly {X = X} P held = (x : X) → (held ≡ Some x) ↔ P x
 
 -- some constraint begins with the text
 abbrev pub Continues : List ℕ → Type 0

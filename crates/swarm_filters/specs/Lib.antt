@@ -1,4 +1,6 @@
 pub mod Grammar
 pub mod Machine
+pub mod Keys
+pub mod Spellings
 pub mod Shown
 pub mod Faults

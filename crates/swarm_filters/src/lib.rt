@@ -1,6 +1,7 @@
-// Constraints on nodes: reading them, and which nodes they admit.
+// Constraints on nodes: reading them and their keys, and which nodes they admit.
 #![tactic(auto)]
 
+mod keys;
 mod matching;
 mod parsed;
 mod parsing;
@@ -8,5 +9,6 @@ mod states;
 #[cfg(test)]
 mod tests;
 
+pub use keys::{parse_key, read_key};
 pub use matching::matches;
-pub use parsed::{ParseFault, parse_constraint};
+pub use parsed::{ParseFault, parse_constraint, read_constraint};

@@ -1,10 +1,12 @@
 // Constraints from their texts.
 ghost use Rattle.std.specs.Prelude.{◌≡◌, ◌≤◌, length, IfErr, IfOk, IsTrue};
-ghost use Rattle.swarm_filters.specs.Grammar.{IsConstraint, IsFault, is_value};
-ghost use Rattle.swarm_filters.specs.Machine.{whole_of};
-ghost use Rattle.swarm_filters.specs.Shown.{FoundFits, IsNamed, OptionPartsFit, PartsFit, PartsRead, SpanFits, StateFits, key_of as key_at, option_whole, shown, span_of, whole_at};
-ghost use Rattle.swarm_filters.specs.Faults.{IsParseFault};
+ghost use Rattle.swarm_filters.specs.Grammar.{HoldsExactly, IsConstraint, IsFault, IsOnly, is_value};
+ghost use Rattle.swarm_filters.specs.Machine.{constraint_of, whole_of};
+ghost use Rattle.swarm_filters.specs.Shown.{FoundFits, OptionPartsFit, PartsFit, PartsRead, SpanFits, StateFits, key_at, option_whole, shown, span_of, whole_at};
+ghost use Rattle.swarm_filters.specs.Spellings.{key_has_text};
+ghost use Rattle.swarm_filters.specs.Faults.{IsAnswer, IsParseFault};
 
+use crate::keys::name_of;
 use crate::parsing::step;
 use crate::states::{Found, Parts, Span, State};
 use std::alloc::Global;
@@ -34,12 +36,25 @@ impl From<NoMemory> for ParseFault {
 /// The constraint that a text is: a key, `==` or `!=` and a value, with any spaces at the ends and round the sign.
 pub fn parse_constraint(alloc: Global, text: &str) -> Result<Constraint, ParseFault>
     ensures read { IfOk result (λ c. IsConstraint text.now c) }
+    ensures one { IfOk result (λ c. IsOnly text.now c) }
     ensures fault { IfErr result (λ f. IsParseFault text.now f) }
+    ensures meaning { IsAnswer (constraint_of text.now) result }
 {
     let bytes = text.as_bytes();
     match read(bytes) {
         Ok(parts) => Ok(made(alloc, bytes, parts)?),
         Err(place) => Err(ParseFault::BadConstraint(place as u64)),
+    }
+}
+
+/// The constraint that a word's bytes are, if they are one.
+pub fn read_constraint(alloc: Global, word: &[u8]) -> Result<Option<Constraint>, NoMemory>
+    ensures form { IfOk result (λ constraint. HoldsExactly (IsConstraint word.now) constraint) }
+    ensures meaning { IfOk result (λ constraint. constraint ≡ constraint_of word.now) }
+{
+    match read(word) {
+        Ok(parts) => Ok(Some(made(alloc, word, parts)?)),
+        Err(_) => Ok(None),
     }
 }
 
@@ -92,13 +107,13 @@ fn made(alloc: Global, text: &[u8], parts: Parts) -> Result<Constraint, NoMemory
     Ok(Constraint {
         key: key_of(alloc, text, parts.found)?,
         equal: parts.equal,
-        value: name_of(alloc, text, parts.value)?,
+        value: name_at(alloc, text, parts.value)?,
     })
 }
 
 fn key_of(alloc: Global, text: &[u8], found: Found) -> Result<Key, NoMemory>
     requires fits { FoundFits (length text.now) found }
-    requires named { IsNamed (key_at text.now found) }
+    requires named { IsTrue (key_has_text (key_at text.now found)) }
     ensures { IfOk result (λ key. key ≡ key_at text.now found) }
 {
     match found {
@@ -107,18 +122,15 @@ fn key_of(alloc: Global, text: &[u8], found: Found) -> Result<Key, NoMemory>
         Found::Role => Ok(Key::Role),
         Found::Os => Ok(Key::Os),
         Found::Arch => Ok(Key::Arch),
-        Found::Label(false, name) => Ok(Key::Label(name_of(alloc, text, name)?)),
-        Found::Label(true, name) => Ok(Key::Engine(name_of(alloc, text, name)?)),
+        Found::Label(false, name) => Ok(Key::Label(name_at(alloc, text, name)?)),
+        Found::Label(true, name) => Ok(Key::Engine(name_at(alloc, text, name)?)),
     }
 }
 
-fn name_of(alloc: Global, text: &[u8], span: Span) -> Result<Name, NoMemory>
+fn name_at(alloc: Global, text: &[u8], span: Span) -> Result<Name, NoMemory>
     requires fits { SpanFits (length text.now) span }
     requires valued { IsTrue (is_value (span_of text.now span)) }
     ensures { IfOk result (λ name. name ≡ span_of text.now span) }
 {
-    match str::from_utf8(&text[span.from..span.end]) {
-        Ok(name) => Name::new(alloc, name),
-        Err(_) => unreachable!(),
-    }
+    name_of(alloc, &text[span.from..span.end])
 }

@@ -1,8 +1,10 @@
 // Texts of constraints, and nodes that they admit.
-use crate::{ParseFault, matches, parse_constraint};
+use crate::{ParseFault, matches, parse_constraint, parse_key, read_constraint};
 use std::alloc::Global;
 use std::test::Fail;
-use swarm_objects::{Availability, List, Name, NoMemory, Node, NodeRole, NodeState, add};
+use swarm_objects::{
+    Availability, Key, List, Name, NoMemory, Node, NodeRole, NodeState, Same, add,
+};
 
 fn node(alloc: Global) -> Result<Node, NoMemory> {
     let mut labels = List::new(alloc);
@@ -90,5 +92,50 @@ fn values_of_63_bytes(rt: HostRuntime) -> Result<(), Fail> {
     assert_eq!(rt; fault_of(alloc, text.as_str())?, None);
     text.push('7')?;
     assert_eq!(rt; fault_of(alloc, text.as_str())?, Some(72));
+    Ok(())
+}
+
+// Whether a text is this key.
+fn is_key(alloc: Global, text: &str, key: &Key) -> Result<bool, NoMemory> {
+    match parse_key(alloc, text)? {
+        Some(found) => Ok(found.same(key)),
+        None => Ok(false),
+    }
+}
+
+#[test]
+fn texts_that_are_keys(rt: HostRuntime) -> Result<(), Fail> {
+    let alloc = rt.alloc();
+    let own = Key::Label(Name::new(alloc, "Zone")?);
+    let engine = Key::Engine(Name::new(alloc, "a.b-c_1")?);
+    assert!(rt; is_key(alloc, "node.id", &Key::NodeId)?);
+    assert!(rt; is_key(alloc, "Node.HostName", &Key::Hostname)?);
+    assert!(rt; is_key(alloc, "NODE.LABELS.Zone", &own)?);
+    assert!(rt; !is_key(alloc, "node.labels.zone", &own)?);
+    assert!(rt; is_key(alloc, "engine.Labels.a.b-c_1", &engine)?);
+    Ok(())
+}
+
+#[test]
+fn texts_that_are_no_keys(rt: HostRuntime) -> Result<(), Fail> {
+    let alloc = rt.alloc();
+    assert!(rt; parse_key(alloc, "")?.is_none());
+    assert!(rt; parse_key(alloc, "node.ip")?.is_none());
+    assert!(rt; parse_key(alloc, "node.role ")?.is_none());
+    assert!(rt; parse_key(alloc, "node.labels.")?.is_none());
+    assert!(rt; parse_key(alloc, "node.labels.-a")?.is_none());
+    Ok(())
+}
+
+#[test]
+fn words_that_are_constraints(rt: HostRuntime) -> Result<(), Fail> {
+    let alloc = rt.alloc();
+    let node = node(alloc)?;
+    let found = read_constraint(alloc, b"NODE.labels.Zone==EU-1")?;
+    assert_eq!(rt;
+        found.map(|constraint| matches(&constraint, &node)),
+        Some(true)
+    );
+    assert!(rt; read_constraint(alloc, b"node.role=worker")?.is_none());
     Ok(())
 }
