@@ -1,11 +1,9 @@
 -- Every field that has a text is read from it.
-use Rattle.std.proofs.Common.{◌≡◌, ℕ, ◌<◌, ◌^◌, List, [], ◌∷◌, ◌++◌, length, codes, decimal, Bool, true, false, cond, ◌&&◌, refl, sym, ◌∙◌, ap, Option, Some, None, arith, nat_eq, nat_lt, nat_le, lit≤, append-nil, append_assoc}
-use Rattle.std.specs.List.{list_all}
+use Rattle.std.proofs.Common.{◌≡◌, ℕ, ◌<◌, ◌^◌, List, [], ◌∷◌, ◌++◌, codes, decimal, Bool, true, false, cond, refl, sym, ◌∙◌, ap, Option, Some, None, arith, lit≤, append-nil, append_assoc}
 use Rattle.std.specs.Str.{bytes_eq}
 use Rattle.swarm_objects.specs.declared.services.Mode.TheVariants as mode
 use Rattle.swarm_objects.specs.declared.templates.End.TheVariants as end
 use Rattle.swarm_objects.specs.declared.templates.Key.{Key}
-use Rattle.swarm_objects.specs.declared.templates.Key.TheVariants as key
 use Rattle.swarm_objects.specs.declared.templates.Constraint.{Constraint}
 use Rattle.swarm_objects.specs.declared.templates.Port.{Port}
 use Rattle.swarm_objects.specs.declared.templates.RestartCondition.TheVariants as condition
@@ -16,11 +14,13 @@ use Rattle.swarm_objects.specs.declared.nodes.Availability.TheVariants as availa
 use Rattle.swarm_grammar.specs.declared.fields.Field.{Field}
 use Rattle.swarm_grammar.specs.declared.fields.Field.TheVariants as field
 use Rattle.swarm_grammar.proofs.Canonical.{IsSpelled}
-use Rattle.swarm_grammar.proofs.Numbers.{both, number_yes, test_yes}
-use Rattle.swarm_grammar.proofs.Spelled.{Clean, IsKey, clean_bytes, clean_name, clean_number, job_spelled, key_back, label_spelled, name_yes, net_spelled, number_spelled, replicas_spelled, split_clean, two_back}
-use Rattle.swarm_grammar.specs.Constraints.{constraint_of, constraint_text, constraint_with, key_text}
+use Rattle.swarm_grammar.proofs.Numbers.{number_yes}
+use Rattle.swarm_grammar.proofs.Spelled.{Clean, IsKey, clean_number, job_spelled, key_back, label_spelled, name_yes, net_spelled, number_spelled, replicas_spelled, split_clean, two_back}
+use Rattle.swarm_filters.specs.Grammar.{is_name}
+use Rattle.swarm_filters.specs.Spellings.{constraint_has_text}
+use Rattle.swarm_filters.proofs.Written.{constraint_of-text}
 use Rattle.swarm_grammar.specs.Fields.{platform_field, host_of, port_of, port_text, port_with}
-use Rattle.swarm_grammar.specs.Words.{byte_number, is_name, is_name_byte, is_value, number_of, port_number, split_at, value_of, with_first, ◌>>=◌}
+use Rattle.swarm_grammar.specs.Words.{byte_number, number_of, port_number, split_at, with_first, ◌>>=◌}
 use Rattle.std.specs.Prelude.{if◌then◌else◌}
 
 none_split : (sep : ℕ) (xs : List ℕ) → Clean sep xs → split_at sep xs ≡ None
@@ -89,51 +89,6 @@ port_back t (Some n) true h k =
 port_back t (Some n) false h k =
     ap (λ x. port_of (decimal t ++ 58 ∷ x)) (append-nil (decimal n)) ∙ plain (decimal t ++ 58 ∷ decimal n) (made t (Some n) false) (clean_port t n h k) (fixed_back t n false h k)
 
--- ## Constraints
-
-clean_fixed : (sep : ℕ) → is_name_byte sep ≡ false → (text : List ℕ) → list_all is_name_byte text ≡ true → Clean sep text
-clean_fixed sep other text h = clean_bytes sep is_name_byte other text h
-
-clean_key : (sep : ℕ) → is_name_byte sep ≡ false → (k : Key) → IsKey k → Clean sep (key_text k)
-clean_key sep other (key.Label n) h = clean_append sep (codes "node.labels.") n (clean_fixed sep other (codes "node.labels.") refl) (clean_name sep other n h)
-clean_key sep other (key.Engine n) h = clean_append sep (codes "engine.labels.") n (clean_fixed sep other (codes "engine.labels.") refl) (clean_name sep other n h)
-clean_key sep other key.NodeId h = clean_fixed sep other (codes "node.id") refl
-clean_key sep other key.Hostname h = clean_fixed sep other (codes "node.hostname") refl
-clean_key sep other key.Role h = clean_fixed sep other (codes "node.role") refl
-clean_key sep other key.Os h = clean_fixed sep other (codes "node.platform.os") refl
-clean_key sep other key.Arch h = clean_fixed sep other (codes "node.platform.arch") refl
-
-value_yes : (v : List ℕ) → is_value v ≡ true → value_of v ≡ Some v
-value_yes v h = test_yes (is_value v) v h
-
-clean_value : (sep : ℕ) → is_name_byte sep ≡ false → (v : List ℕ) → is_value v ≡ true → Clean sep v
-clean_value sep other v h =
-    clean_bytes sep is_name_byte other v (both (nat_le (length v) 63) (list_all is_name_byte v) (both (nat_lt 0 (length v)) (nat_le (length v) 63 && list_all is_name_byte v) h).1).1
-
-abbrev sided : Key → List ℕ → Bool → Constraint
-sided k v e = record { key = k; equal = e; value = v }
-
-with_back : (e : Bool) (k : Key) (v : List ℕ) → IsKey k → is_value v ≡ true → constraint_with e (key_text k) v ≡ Some (sided k v e)
-with_back e k v h g =
-    ap (λ (o : Option Key). o >>= λ x. value_of v >>= λ y. Some (sided x y e)) (key_back k h)
-    ∙ ap (λ (o : Option (List ℕ)). o >>= λ y. Some (sided k y e)) (value_yes v g)
-
-abbrev equals : List ℕ → Option (List ℕ × List ℕ) → Option Constraint
-equals text o = o >>= λ parts. elim (parts.1) [ [] ↦ None | b ∷ bs ↦ if nat_eq b 61 then constraint_with true parts.0 bs else None ]
-
-abbrev by_mark : List ℕ → Option (List ℕ × List ℕ) → Option Constraint
-by_mark text o = elim o [
-  | Some parts ↦ elim (parts.1) [ [] ↦ None | b ∷ bs ↦ if nat_eq b 61 then constraint_with false parts.0 bs else None ]
-  | None ↦ equals text (split_at 61 text)
-]
-
-pub constraint_back : (k : Key) (v : List ℕ) (e : Bool) → IsKey k → is_value v ≡ true → constraint_of (constraint_text (sided k v e)) ≡ Some (sided k v e)
-constraint_back k v false h g =
-    ap (by_mark (key_text k ++ 33 ∷ 61 ∷ v)) (split_clean 33 (key_text k) (61 ∷ v) refl (clean_key 33 refl k h)) ∙ with_back false k v h g
-constraint_back k v true h g =
-    ap (by_mark (key_text k ++ 61 ∷ 61 ∷ v)) (none_split 33 (key_text k ++ 61 ∷ 61 ∷ v) (clean_append 33 (key_text k) (61 ∷ 61 ∷ v) (clean_key 33 refl k h) (refl, (refl, clean_value 33 refl v g))))
-    ∙ ap (equals (key_text k ++ 61 ∷ 61 ∷ v)) (split_clean 61 (key_text k) (61 ∷ v) refl (clean_key 61 refl k h)) ∙ with_back true k v h g
-
 -- ## All fields
 
 abbrev pub IsPort : Port → Type 0
@@ -158,7 +113,7 @@ IsSpellable (field.Os n) = is_name n ≡ true
 IsSpellable (field.Arch n) = is_name n ≡ true
 IsSpellable (field.Net n) = is_name n ≡ true
 IsSpellable (field.Spread k) = IsKey k
-IsSpellable (field.Constraint c) = IsKey c.key × (is_value c.value ≡ true)
+IsSpellable (field.Constraint c) = constraint_has_text c ≡ true
 IsSpellable (field.Port p) = IsPort p
 IsSpellable (field.Host p) = IsPort p × IsSomeNumber p.number
 IsSpellable f = Unit {0}
@@ -200,7 +155,7 @@ spelled (field.Os w) h = record { back = ap (λ (o : Option (List ℕ)). o >>= �
 spelled (field.Arch w) h = record { back = ap (λ (o : Option (List ℕ)). o >>= λ n. Some (field.Arch n)) (name_yes w h); no_end = refl; no_version = refl }
 spelled (field.Net w) h = net_spelled w h
 spelled (field.Spread k) h = record { back = ap (λ (o : Option Key). o >>= λ x. Some (field.Spread x)) (key_back k h); no_end = refl; no_version = refl }
-spelled (field.Constraint c) h = record { back = ap (λ (o : Option Constraint). o >>= λ x. Some (field.Constraint x)) (constraint_back c.key c.value c.equal h.0 h.1); no_end = refl; no_version = refl }
+spelled (field.Constraint c) h = record { back = ap (λ (o : Option Constraint). o >>= λ x. Some (field.Constraint x)) (constraint_of-text c h); no_end = refl; no_version = refl }
 spelled (field.Port p) h = record { back = ap (λ (o : Option Port). o >>= λ x. Some (field.Port x)) (port_back p.target p.number p.udp h.0 h.1); no_end = refl; no_version = refl }
 spelled (field.Host p) h = record {
   back = ap (λ (o : Option Port). o >>= host_of) (port_back p.target p.number p.udp h.0.0 h.0.1) ∙ host_yes p.target p.number p.udp h.1;

@@ -32,7 +32,8 @@ use Rattle.swarm_grammar.specs.declared.states.State.{State}
 use Rattle.swarm_grammar.specs.declared.states.State.TheVariants as state
 use Rattle.swarm_grammar.specs.declared.states.Verb.{Verb}
 use Rattle.swarm_grammar.specs.declared.states.Verb.TheVariants as verb
-use Rattle.swarm_grammar.specs.Words.{is_name, name_of, number_of, ◌>>=◌}
+use Rattle.swarm_filters.specs.Grammar.{is_name}
+use Rattle.swarm_grammar.specs.Words.{name_of, number_of, ◌>>=◌}
 use Rattle.swarm_grammar.specs.Calls.{all_of, begins_version, behind_call, behind_op, budget_of, call_grammar, call_named, call_numbered, call_opening, call_second, filter_of, in_fields, is_budget, is_empty, may_write, next_field, node_call, noun_of, op_of, opening, second, state_of, step, subnet_of, table_of, usual_budget, version_of, versioned, whole, with_id, with_name, with_session}
 use Rattle.swarm_grammar.specs.Drafts.{engine_in, label_in}
 use Rattle.swarm_grammar.specs.Fields.{field_of, field_text}

@@ -27,10 +27,10 @@ use Rattle.swarm_grammar.specs.declared.fields.Table.{Table}
 use Rattle.swarm_grammar.specs.declared.fields.Table.TheVariants as table
 use Rattle.swarm_grammar.specs.Calls.{op_of}
 use Rattle.swarm_grammar.specs.Drafts.{arch_in, availability_in, constraint_in, draft_of, end_in, engine_in, failure_in, host_in, label_in, label_place, labels_of, labels_onto, mode_in, net_in, node_draft_of, number_given, number_in, number_named, order_in, os_in, platform_in, port_in, remote_in, restart_in, role_in, settings_of, spread_in, with_label}
+use Rattle.swarm_filters.specs.Grammar.{is_name}
 use Rattle.swarm_grammar.specs.HasText.{has_word, is_number, op_has_text, where_some}
 use Rattle.swarm_grammar.specs.Pieces.{arch_piece, availability_piece, condition_piece, end_piece, engine_field, failure_piece, given_piece, joined, label_field, mode_piece, node_pieces, number_piece, old_node_pieces, order_piece, os_piece, remote_piece, role_piece, service_pieces, session_pieces, settings_pieces}
 use Rattle.swarm_grammar.specs.Tables.{number_default, number_row}
-use Rattle.swarm_grammar.specs.Words.{is_name}
 use Rattle.swarm_grammar.proofs.Canonical.{all_append}
 use Rattle.swarm_grammar.proofs.HasWord.{Wordy, many_wordy, of_all, once_wordy}
 use Rattle.swarm_grammar.proofs.Nodes.{Labels}

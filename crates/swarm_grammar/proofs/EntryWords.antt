@@ -34,9 +34,11 @@ use Rattle.swarm_grammar.specs.declared.fields.Field.{Field}
 use Rattle.swarm_grammar.specs.declared.fields.Field.TheVariants as field
 use Rattle.swarm_grammar.specs.declared.fields.NumberField.{NumberField}
 use Rattle.swarm_grammar.specs.declared.fields.NumberField.TheVariants as number
-use Rattle.swarm_grammar.specs.Words.{is_name}
+use Rattle.swarm_filters.specs.Spellings.{key_has_text}
+use Rattle.swarm_filters.specs.Grammar.{is_value}
+use Rattle.swarm_filters.specs.Grammar.{is_name, sign_of}
+use Rattle.swarm_filters.specs.Spellings.{key_text}
 use Rattle.swarm_grammar.specs.Calls.{is_budget, is_empty, state_text, usual_budget}
-use Rattle.swarm_grammar.specs.Constraints.{key_text, sign_text}
 use Rattle.swarm_grammar.specs.Fields.{field_text, number_word, port_text, udp_text}
 use Rattle.swarm_grammar.specs.HasText.{call_has_text, draft_has_text, duty_has_text, has_text, has_word, have_words, is_address, is_byte, is_number, is_port, is_watched, keys_rise, node_has_text, op_has_text, query_has_text, what_has_text, where_some}
 use Rattle.swarm_grammar.specs.Pieces.{joined, node_pieces, old_node_pieces, service_pieces, session_pieces, settings_pieces}
@@ -61,7 +63,7 @@ key_graphic key.Arch h = refl
 key_graphic (key.Label n) h = graphic_append (codes "node.labels.") n refl (name_graphic n h)
 key_graphic (key.Engine n) h = graphic_append (codes "engine.labels.") n refl (name_graphic n h)
 
-sign_graphic : (b : Bool) → Graphic (sign_text b)
+sign_graphic : (b : Bool) → Graphic (sign_of b)
 sign_graphic true = refl
 sign_graphic false = refl
 
@@ -108,7 +110,9 @@ field_graphic (field.Arch n) h = name_graphic n h
 field_graphic (field.Net n) h = name_graphic n h
 field_graphic (field.Spread k) h = key_graphic k h
 field_graphic (field.Constraint c) h =
-    graphic_append (key_text c.key) (sign_text c.equal ++ c.value) (key_graphic c.key h.0) (graphic_append (sign_text c.equal) c.value (sign_graphic c.equal) (value_graphic c.value h.1))
+    (
+    let b = both (key_has_text c.key) (is_value c.value) h in
+    graphic_append (key_text c.key) (sign_of c.equal ++ c.value) (key_graphic c.key b.0) (graphic_append (sign_of c.equal) c.value (sign_graphic c.equal) (value_graphic c.value b.1)))
 field_graphic (field.Port p) h = port_graphic p.target p.number p.udp h.0 h.1
 field_graphic (field.Host p) h = port_graphic p.target p.number p.udp h.0.0 h.0.1
 field_graphic (field.Role role.Worker) h = refl

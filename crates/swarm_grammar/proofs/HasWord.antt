@@ -4,28 +4,16 @@ use Rattle.std.specs.List.{AllByRecursion, filter_map, cons_option, list_all}
 use Rattle.std.specs.Prelude.{unwrap_or}
 use Rattle.swarm_objects.specs.declared.services.Mode.TheVariants as mode
 use Rattle.swarm_objects.specs.declared.templates.End.TheVariants as end
-use Rattle.swarm_objects.specs.declared.templates.Key.{Key}
-use Rattle.swarm_objects.specs.declared.templates.Key.TheVariants as key
 use Rattle.swarm_objects.specs.declared.templates.Port.{Port}
 use Rattle.swarm_grammar.specs.declared.fields.Field.{Field}
 use Rattle.swarm_grammar.specs.declared.fields.Field.TheVariants as field
 use Rattle.swarm_grammar.specs.Drafts.{named_or}
-use Rattle.swarm_grammar.specs.HasText.{has_number, has_word, is_byte, is_number, is_port, key_has_text, port_has_text, where_some}
-use Rattle.swarm_grammar.specs.Words.{is_name, is_value}
+use Rattle.swarm_filters.specs.Grammar.{is_name}
+use Rattle.swarm_grammar.specs.HasText.{has_number, has_word, is_byte, is_number, is_port, port_has_text, where_some}
 use Rattle.swarm_grammar.proofs.AllSpelled.{IsPort, IsPortNumber, IsSomeNumber, IsSpellable}
 use Rattle.swarm_grammar.proofs.Numbers.{and_yes, below_only, below_yes, both}
-use Rattle.swarm_grammar.proofs.Spelled.{IsKey}
 
 -- ## From the test
-
-key_is : (k : Key) → key_has_text k ≡ true → IsKey k
-key_is (key.Label n) h = h
-key_is (key.Engine n) h = h
-key_is key.NodeId h = tt
-key_is key.Hostname h = tt
-key_is key.Role h = tt
-key_is key.Os h = tt
-key_is key.Arch h = tt
 
 port_number_is : (o : Option ℕ) → where_some is_port o ≡ true → IsPortNumber o
 port_number_is None h = tt
@@ -54,8 +42,8 @@ spellable (field.Platform p) h = both (is_name p.os) (is_name p.arch) h
 spellable (field.Os n) h = h
 spellable (field.Arch n) h = h
 spellable (field.Net n) h = h
-spellable (field.Spread k) h = key_is k h
-spellable (field.Constraint c) h = let b = both (key_has_text c.key) (is_value c.value) h in (key_is c.key b.0, b.1)
+spellable (field.Spread k) h = h
+spellable (field.Constraint c) h = h
 spellable (field.Port p) h = port_is p h
 spellable (field.Host p) h = let b = both (port_has_text p) (has_number p) h in (port_is p b.0, some_is p.number b.1)
 spellable (field.Role x) h = tt
@@ -70,15 +58,6 @@ all_spellable [] h = tt
 all_spellable (f ∷ fs) h = (spellable f h.0, all_spellable fs h.1)
 
 -- ## To the test
-
-key_yes : (k : Key) → IsKey k → key_has_text k ≡ true
-key_yes (key.Label n) h = h
-key_yes (key.Engine n) h = h
-key_yes key.NodeId h = refl
-key_yes key.Hostname h = refl
-key_yes key.Role h = refl
-key_yes key.Os h = refl
-key_yes key.Arch h = refl
 
 port_number_yes : (o : Option ℕ) → IsPortNumber o → where_some is_port o ≡ true
 port_number_yes None h = refl
@@ -105,8 +84,8 @@ wordy (field.Platform p) h = and_yes _ _ h.0 h.1
 wordy (field.Os n) h = h
 wordy (field.Arch n) h = h
 wordy (field.Net n) h = h
-wordy (field.Spread k) h = key_yes k h
-wordy (field.Constraint c) h = and_yes _ _ (key_yes c.key h.0) h.1
+wordy (field.Spread k) h = h
+wordy (field.Constraint c) h = h
 wordy (field.Port p) h = port_yes p h
 wordy (field.Host p) h = and_yes _ _ (port_yes p h.0) (some_yes p.number h.1)
 wordy (field.Role x) h = refl

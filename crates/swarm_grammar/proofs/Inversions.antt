@@ -5,7 +5,8 @@ use Rattle.std.specs.Option.{option_map}
 use Rattle.std.specs.Str.{bytes_eq}
 use Rattle.std.proofs.lemmas.Slice.Eq.{bytes_eq-Decides}
 use Rattle.std.proofs.lemmas.Option.{same_Some}
-use Rattle.swarm_grammar.specs.Words.{is_name, name_of, ◌>>=◌}
+use Rattle.swarm_filters.specs.Grammar.{is_name}
+use Rattle.swarm_grammar.specs.Words.{name_of, ◌>>=◌}
 use Rattle.swarm_grammar.proofs.Numbers.{test_some}
 
 pub same : (w v : List ℕ) → bytes_eq w v ≡ true → w ≡ v

@@ -1,11 +1,10 @@
 -- What a word is read as has a text.
-use Rattle.std.proofs.Common.{◌≡◌, ℕ, ◌<◌, ◌^◌, List, [], ◌∷◌, codes, Bool, true, false, cond, refl, sym, ◌∙◌, subst, Option, Some, None, nat_eq}
-use Rattle.std.specs.Str.{bytes_eq, str_to_ascii_lowercase}
+use Rattle.std.proofs.Common.{◌≡◌, ℕ, ◌<◌, ◌^◌, List, codes, Bool, true, false, cond, refl, sym, subst, Option, Some, None}
+use Rattle.std.specs.Str.{bytes_eq}
 use Rattle.std.proofs.lemmas.Option.{some_pair_parts, same_Some}
 use Rattle.swarm_objects.specs.declared.services.Mode.TheVariants as mode
 use Rattle.swarm_objects.specs.declared.templates.End.TheVariants as end
 use Rattle.swarm_objects.specs.declared.templates.Key.{Key}
-use Rattle.swarm_objects.specs.declared.templates.Key.TheVariants as key
 use Rattle.swarm_objects.specs.declared.templates.Constraint.{Constraint}
 use Rattle.swarm_objects.specs.declared.templates.Port.{Port}
 use Rattle.swarm_grammar.specs.declared.fields.Field.{Field}
@@ -15,9 +14,13 @@ use Rattle.swarm_grammar.proofs.AllSpelled.{IsPort, IsSomeNumber, IsSpellable}
 use Rattle.swarm_grammar.proofs.Inversions.{bound, either}
 use Rattle.swarm_grammar.proofs.Numbers.{number_only, test_some}
 use Rattle.swarm_grammar.proofs.Spelled.{IsKey}
-use Rattle.swarm_grammar.specs.Constraints.{behind, constraint_of, constraint_with, fixed_key, key_of, label_key}
+use Rattle.swarm_filters.proofs.Written.{constraint_of-has_text, key_of-has_text}
+use Rattle.swarm_filters.specs.Spellings.{constraint_has_text}
+use Rattle.swarm_filters.specs.Grammar.{is_name}
+use Rattle.swarm_filters.specs.Keys.{key_of}
+use Rattle.swarm_filters.specs.Machine.{constraint_of}
 use Rattle.swarm_grammar.specs.Fields.{platform_field, exit_of, field_of, flat_field, host_of, job_of, keyed_field, named, names_of, number_field, other_field, port_of, port_with, two_names}
-use Rattle.swarm_grammar.specs.Words.{byte_number, is_name, is_value, name_of, number_of, port_number, split_at, value_of, ◌>>=◌}
+use Rattle.swarm_grammar.specs.Words.{byte_number, name_of, number_of, port_number, split_at, ◌>>=◌}
 
 right : (g f : Field) → IsSpellable g → Some g ≡ Some f → IsSpellable f
 right g f h e = subst IsSpellable (same_Some g f e) h
@@ -90,44 +93,8 @@ host_right p f h e = go p.number refl e where
   go None k d = cc
   go (Some n) k d = right (field.Host p) f (h, subst IsSomeNumber (sym k) tt) d
 
-key_is : (g k : Key) → IsKey g → Some g ≡ Some k → IsKey k
-key_is g k h e = subst IsKey (same_Some g k e) h
-
-fixed_right : (v : List ℕ) (k : Key) → fixed_key v ≡ Some k → IsKey k
-fixed_right v k e =
-    either (bytes_eq v (codes "node.id")) _ _ k e (key_is _ k tt) (λ e.
-    either (bytes_eq v (codes "node.hostname")) _ _ k e (key_is _ k tt) (λ e.
-    either (bytes_eq v (codes "node.role")) _ _ k e (key_is _ k tt) (λ e.
-    either (bytes_eq v (codes "node.platform.os")) _ _ k e (key_is _ k tt) (λ e.
-    either (bytes_eq v (codes "node.platform.arch")) _ _ k e (key_is _ k tt) (λ x. cc)))))
-
-label_key_right : (v : List ℕ) (k : Key) → label_key v ≡ Some k → IsKey k
-label_key_right v k e = go (behind (codes "node.labels.") v) e where
-  go : (o : Option (List ℕ)) →
-      (elim o [
-        | Some name ↦ name_of name >>= λ n. Some (key.Label n)
-        | None ↦ behind (codes "engine.labels.") v >>= λ name. name_of name >>= λ n. Some (key.Engine n)
-      ]) ≡ Some k → IsKey k
-  go (Some name) d = let b = bound (name_of name) (λ n. Some (key.Label n)) k d in key_is (key.Label b.0) k (name_only name b.0 b.1) b.2
-  go None d =
-      let a = bound (behind (codes "engine.labels.") v) (λ name. name_of name >>= λ n. Some (key.Engine n)) k d in
-      let b = bound (name_of a.0) (λ n. Some (key.Engine n)) k a.2 in
-      key_is (key.Engine b.0) k (name_only a.0 b.0 b.1) b.2
-
 key_right : (v : List ℕ) (k : Key) → key_of v ≡ Some k → IsKey k
-key_right v k e = go (fixed_key (str_to_ascii_lowercase v)) refl e where
-  go : (o : Option Key) → fixed_key (str_to_ascii_lowercase v) ≡ o → (elim o [ Some x ↦ Some x | None ↦ label_key v ]) ≡ Some k → IsKey k
-  go (Some x) g d = fixed_right (str_to_ascii_lowercase v) k (g ∙ d)
-  go None g d = label_key_right v k d
-
-value_only : (w x : List ℕ) → value_of w ≡ Some x → is_value x ≡ true
-value_only w x e = let t = test_some (is_value w) w x e in subst (λ y. is_value y ≡ true) t.1 t.0
-
-with_right : (u : Bool) (l r : List ℕ) (c : Constraint) → constraint_with u l r ≡ Some c → IsKey c.key × (is_value c.value ≡ true)
-with_right u l r c e =
-    let a = bound (key_of l) (λ k. value_of r >>= λ v. Some (record { key = k; equal = u; value = v })) c e in
-    let b = bound (value_of r) (λ v. Some (record { key = a.0; equal = u; value = v })) c a.2 in
-    subst (λ x. IsKey x.key × (is_value x.value ≡ true)) (same_Some _ c b.2) (key_right l a.0 a.1, value_only r b.0 b.1)
+key_right v k e = key_of-has_text v k e
 
 flat_right : (k v : List ℕ) (f : Field) → flat_field k v ≡ Some f → IsSpellable f
 flat_right k v f e =
@@ -142,25 +109,8 @@ flat_right k v f e =
     either (bytes_eq k (codes "failure")) _ _ f e (λ d. either (bytes_eq v (codes "pause")) _ _ f d (right _ f tt) (λ d. either (bytes_eq v (codes "continue")) _ _ f d (right _ f tt) (λ d. either (bytes_eq v (codes "rollback")) _ _ f d (right _ f tt) (λ x. cc)))) (λ e.
     either (bytes_eq k (codes "order")) _ _ f e (λ d. either (bytes_eq v (codes "stop-first")) _ _ f d (right _ f tt) (λ d. either (bytes_eq v (codes "start-first")) _ _ f d (right _ f tt) (λ x. cc))) (λ x. cc))))))))))
 
-abbrev IsConstraint : Constraint → Type 0
-IsConstraint c = IsKey c.key × (is_value c.value ≡ true)
-
-marked : (u : Bool) (l rest : List ℕ) (c : Constraint) →
-    (elim rest [ [] ↦ None | b ∷ bs ↦ cond (nat_eq b 61) (constraint_with u l bs) None ]) ≡ Some c → IsConstraint c
-marked u l [] c e = cc
-marked u l (b ∷ bs) c e = either (nat_eq b 61) (constraint_with u l bs) None c e (with_right u l bs c) (λ x. cc)
-
-constraint_right : (v : List ℕ) (c : Constraint) → constraint_of v ≡ Some c → IsConstraint c
-constraint_right v c e = go (split_at 33 v) e where
-  go : (o : Option (List ℕ × List ℕ)) →
-      (elim o [
-        | Some parts ↦ elim (parts.1) [ [] ↦ None | b ∷ bs ↦ cond (nat_eq b 61) (constraint_with false parts.0 bs) None ]
-        | None ↦ split_at 61 v >>= λ parts. elim (parts.1) [ [] ↦ None | b ∷ bs ↦ cond (nat_eq b 61) (constraint_with true parts.0 bs) None ]
-      ]) ≡ Some c → IsConstraint c
-  go (Some parts) d = marked false parts.0 parts.1 c d
-  go None d =
-      let a = bound (split_at 61 v) (λ parts. elim (parts.1) [ [] ↦ None | b ∷ bs ↦ cond (nat_eq b 61) (constraint_with true parts.0 bs) None ]) c d in
-      marked true a.0.0 a.0.1 c a.2
+constraint_right : (v : List ℕ) (c : Constraint) → constraint_of v ≡ Some c → constraint_has_text c ≡ true
+constraint_right v c e = constraint_of-has_text v c e
 
 other_right : (k v : List ℕ) (f : Field) → other_field k v ≡ Some f → IsSpellable f
 other_right k v f e =

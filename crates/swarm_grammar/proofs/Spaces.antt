@@ -1,5 +1,5 @@
 -- Words and the text of them, and which bytes they have.
-use Rattle.std.proofs.Common.{◌≡◌, ℕ, ◌<◌, ◌≤◌, ◌^◌, List, [], ◌∷◌, ◌++◌, ◌-◌, length, decimal, Bool, true, false, cond, ◌&&◌, ◌||◌, refl, sym, ◌∙◌, ap, arith, nat_eq, nat_le, nat_lt, lit≤}
+use Rattle.std.proofs.Common.{◌≡◌, ℕ, ◌<◌, ◌≤◌, ◌^◌, List, [], ◌∷◌, ◌++◌, ◌-◌, decimal, Bool, true, false, cond, ◌||◌, refl, sym, ◌∙◌, ap, arith, nat_eq, nat_le, nat_lt, lit≤}
 use Rattle.std.specs.Char.{digit_value, is_ascii_alphanumeric, is_ascii_graphic}
 use Rattle.std.specs.Int.{is_in_range}
 use Rattle.std.specs.List.{AllByRecursion, list_all, onto_first}
@@ -8,10 +8,11 @@ use Rattle.std.proofs.lemmas.Bool.Decides.{nat_tests}
 use Rattle.std.proofs.lemmas.Fmt.{decimal_is_IsNumeral}
 use Rattle.swarm_objects.specs.DutyTexts.{spaced}
 use Rattle.swarm_grammar.specs.Lines.{is_printable}
-use Rattle.swarm_grammar.specs.Words.{begins_name, is_name, is_name_byte, is_value, words_of}
+use Rattle.swarm_filters.specs.Grammar.{is_name, is_name_byte, is_value}
+use Rattle.swarm_grammar.specs.Words.{words_of}
 use Rattle.swarm_grammar.proofs.FieldRows.{number_same}
 use Rattle.swarm_grammar.proofs.Numbers.{and_yes, both}
-use Rattle.swarm_grammar.proofs.Spelled.{Clean, clean_bytes}
+use Rattle.swarm_grammar.proofs.Spelled.{Clean, clean_bytes, name_bytes, value_bytes}
 
 -- ## A text is its words with spaces between them
 
@@ -89,22 +90,28 @@ range_graphic lo hi b h k e =
 one_graphic : (n b : ℕ) → is_ascii_graphic n ≡ true → nat_eq b n ≡ true → is_ascii_graphic b ≡ true
 one_graphic n b h e = ap is_ascii_graphic (number_same b n e) ∙ h
 
+letter_graphic : (b : ℕ) → is_ascii_alphanumeric b ≡ true → is_ascii_graphic b ≡ true
+letter_graphic b e =
+    or_cases (is_in_range 48 57 b || is_in_range 65 90 b) (is_in_range 97 122 b) e
+    (λ e. or_cases (is_in_range 48 57 b) (is_in_range 65 90 b) e (range_graphic 48 57 b (lit≤ tt) (lit≤ tt)) (range_graphic 65 90 b (lit≤ tt) (lit≤ tt)))
+    (range_graphic 97 122 b (lit≤ tt) (lit≤ tt))
+
 name_byte_graphic : (b : ℕ) → is_name_byte b ≡ true → is_ascii_graphic b ≡ true
 name_byte_graphic b e =
-    or_cases (is_ascii_alphanumeric b) _ e (λ e.
-    or_cases (is_in_range 48 57 b || is_in_range 65 90 b) (is_in_range 97 122 b) e (λ e.
-    or_cases (is_in_range 48 57 b) (is_in_range 65 90 b) e (range_graphic 48 57 b (lit≤ tt) (lit≤ tt)) (range_graphic 65 90 b (lit≤ tt) (lit≤ tt)))
-    (range_graphic 97 122 b (lit≤ tt) (lit≤ tt)))
-    (λ e. or_cases (nat_eq b 45) _ e (one_graphic 45 b refl) (λ e. or_cases (nat_eq b 95) _ e (one_graphic 95 b refl) (one_graphic 46 b refl)))
+    or_cases (is_ascii_alphanumeric b || nat_eq b 45 || nat_eq b 95) (nat_eq b 46) e
+    (λ e. or_cases (is_ascii_alphanumeric b || nat_eq b 45) (nat_eq b 95) e
+    (λ e. or_cases (is_ascii_alphanumeric b) (nat_eq b 45) e (letter_graphic b) (one_graphic 45 b refl))
+    (one_graphic 95 b refl))
+    (one_graphic 46 b refl)
 
 pub bytes_graphic : (w : List ℕ) → list_all is_name_byte w ≡ true → Graphic w
 bytes_graphic w h = all_mono is_name_byte is_ascii_graphic name_byte_graphic w h
 
 pub name_graphic : (w : List ℕ) → is_name w ≡ true → Graphic w
-name_graphic w h = bytes_graphic w (both (begins_name w) (list_all is_name_byte w) (both _ (begins_name w && list_all is_name_byte w) h).1).1
+name_graphic w h = bytes_graphic w (name_bytes w h)
 
 pub value_graphic : (w : List ℕ) → is_value w ≡ true → Graphic w
-value_graphic w h = bytes_graphic w (both (nat_le (length w) 63) (list_all is_name_byte w) (both (nat_lt 0 (length w)) (nat_le (length w) 63 && list_all is_name_byte w) h).1).1
+value_graphic w h = bytes_graphic w (value_bytes w h)
 
 digit_graphic : (c : ℕ) → digit_value c < 10 → is_ascii_graphic c ≡ true
 digit_graphic c h = go (nat_lt c 48) (nat_lt c 58) (nat_lt c 65) (nat_lt c 91) (nat_lt c 97) (nat_lt c 123) refl refl refl refl refl refl h where

@@ -1,5 +1,5 @@
 -- A field's spelling is read as the field.
-use Rattle.std.proofs.Common.{◌≡◌, ℕ, ◌<◌, ◌≤◌, ◌^◌, List, [], ◌∷◌, ◌++◌, length, codes, decimal, Bool, true, false, cond, ◌&&◌, refl, sym, ◌∙◌, ap, subst, Option, Some, None, arith, nat_eq, nat_le, lit≤, length-append}
+use Rattle.std.proofs.Common.{◌≡◌, ℕ, ◌<◌, ◌≤◌, ◌^◌, List, [], ◌∷◌, ◌++◌, length, codes, decimal, Bool, true, false, cond, ◌&&◌, refl, sym, ◌∙◌, ap, subst, Option, Some, arith, nat_eq, nat_le, nat_lt, lit≤}
 use Rattle.std.specs.List.{list_all, AllByRecursion}
 use Rattle.std.specs.Str.{bytes_eq}
 use Rattle.std.specs.Char.{digit_value}
@@ -8,7 +8,6 @@ use Rattle.std.proofs.lemmas.Bool.Decides.{nat_tests}
 use Rattle.std.proofs.lemmas.Fmt.{decimal_is_IsNumeral}
 use Rattle.swarm_objects.specs.declared.services.Mode.TheVariants as mode
 use Rattle.swarm_objects.specs.declared.templates.Key.{Key}
-use Rattle.swarm_objects.specs.declared.templates.Key.TheVariants as key
 use Rattle.swarm_objects.specs.declared.templates.RestartCondition.TheVariants as condition
 use Rattle.swarm_grammar.specs.declared.fields.Field.TheVariants as field
 use Rattle.swarm_grammar.specs.declared.fields.NumberField.{NumberField}
@@ -16,9 +15,12 @@ use Rattle.swarm_grammar.specs.declared.fields.NumberField.TheVariants as number
 use Rattle.swarm_grammar.proofs.Canonical.{IsSpelled}
 use Rattle.swarm_grammar.proofs.Numbers.{both, number_yes, test_yes}
 use Rattle.swarm_grammar.specs.Calls.{begins_version}
-use Rattle.swarm_grammar.specs.Constraints.{behind, key_of, key_text}
+use Rattle.swarm_filters.specs.Grammar.{begins_name, is_name, is_name_byte, is_value}
+use Rattle.swarm_filters.specs.Keys.{key_of}
+use Rattle.swarm_filters.specs.Spellings.{key_has_text, key_text}
+use Rattle.swarm_filters.proofs.Written.{key_of-text}
 use Rattle.swarm_grammar.specs.Fields.{field_of, number_word, two_names}
-use Rattle.swarm_grammar.specs.Words.{begins_name, is_name, is_name_byte, name_of, number_of, split_at, with_first, ◌>>=◌}
+use Rattle.swarm_grammar.specs.Words.{name_of, number_of, split_at, with_first, ◌>>=◌}
 
 -- ## Parting where the first part doesn't have the byte
 
@@ -43,9 +45,15 @@ clean_bytes sep p other (x ∷ xs) h =
     let b = both (p x) (list_all p xs) h in
     (differs x sep p b.0 other, clean_bytes sep p other xs b.1)
 
+-- the bytes of a name and of a value
+pub value_bytes : (w : List ℕ) → is_value w ≡ true → list_all is_name_byte w ≡ true
+value_bytes w h = (both (nat_lt 0 (length w) && nat_le (length w) 63) (list_all is_name_byte w) h).1
+
+pub name_bytes : (w : List ℕ) → is_name w ≡ true → list_all is_name_byte w ≡ true
+name_bytes w h = value_bytes w (both (begins_name w) (is_value w) h).1
+
 pub clean_name : (sep : ℕ) → is_name_byte sep ≡ false → (w : List ℕ) → is_name w ≡ true → Clean sep w
-clean_name sep other w h =
-    clean_bytes sep is_name_byte other w (both (begins_name w) (list_all is_name_byte w) (both _ (begins_name w && list_all is_name_byte w) h).1).1
+clean_name sep other w h = clean_bytes sep is_name_byte other w (name_bytes w h)
 
 -- the digits of a number
 clean_digits : (sep : ℕ) → 10 ≤ digit_value sep → (ds : List ℕ) → AllDigits 10 ds → Clean sep ds
@@ -162,32 +170,7 @@ restart_spelled = record { back = refl; no_end = refl; no_version = refl }
 
 -- the name of a label in a key is a name
 abbrev pub IsKey : Key → Type 0
-IsKey (key.Label n) = is_name n ≡ true
-IsKey (key.Engine n) = is_name n ≡ true
-IsKey k = Unit {0}
-
-fits_front : (p xs : List ℕ) → nat_le (length p) (length (p ++ xs)) ≡ true
-fits_front p xs = let e = length-append p xs in grind (arith, nat_tests)
-
-abbrev from_engine : List ℕ → Option Key
-from_engine text = behind (codes "engine.labels.") text >>= λ name. name_of name >>= λ n. Some (key.Engine n)
-
-abbrev from_label : List ℕ → Option (List ℕ) → Option Key
-from_label text o = elim o [
-  | Some name ↦ name_of name >>= λ n. Some (key.Label n)
-  | None ↦ from_engine text
-]
+IsKey k = key_has_text k ≡ true
 
 pub key_back : (k : Key) → IsKey k → key_of (key_text k) ≡ Some k
-key_back key.NodeId h = refl
-key_back key.Hostname h = refl
-key_back key.Role h = refl
-key_back key.Os h = refl
-key_back key.Arch h = refl
-key_back (key.Label n) h =
-    ap (λ b. from_label (key_text (key.Label n)) (cond (b && true) (Some n) None)) (fits_front (codes "node.labels.") n)
-    ∙ ap (λ (o : Option (List ℕ)). o >>= λ m. Some (key.Label m)) (name_yes n h)
-key_back (key.Engine n) h =
-    ap (λ b. from_label (key_text (key.Engine n)) (cond (b && false) (Some (115 ∷ 46 ∷ n)) None)) (fits_front (codes "node.labels.") (115 ∷ 46 ∷ n))
-    ∙ ap (λ b. cond (b && true) (Some n) None >>= λ name. name_of name >>= λ m. Some (key.Engine m)) (fits_front (codes "engine.labels.") n)
-    ∙ ap (λ (o : Option (List ℕ)). o >>= λ m. Some (key.Engine m)) (name_yes n h)
+key_back k h = key_of-text k h

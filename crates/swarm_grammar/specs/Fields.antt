@@ -20,8 +20,10 @@ use Rattle.swarm_grammar.specs.declared.fields.NumberField.{NumberField}
 use Rattle.swarm_grammar.specs.declared.fields.NumberField.TheVariants as number
 use Rattle.swarm_grammar.specs.declared.fields.Field.{Field}
 use Rattle.swarm_grammar.specs.declared.fields.Field.TheVariants as field
+use Rattle.swarm_filters.specs.Keys.{key_of}
+use Rattle.swarm_filters.specs.Machine.{constraint_of}
+use Rattle.swarm_filters.specs.Spellings.{constraint_text, key_text}
 use Rattle.swarm_grammar.specs.Words.{byte_number, name_of, number_of, port_number, split_at, ◌>>=◌}
-use Rattle.swarm_grammar.specs.Constraints.{constraint_of, constraint_text, key_of, key_text}
 
 -- ## Fields that hold a number
 

@@ -21,14 +21,13 @@ use Rattle.swarm_objects.specs.declared.services.Mode.{Mode}
 use Rattle.swarm_objects.specs.declared.services.Mode.TheVariants as mode
 use Rattle.swarm_objects.specs.declared.templates.End.{End}
 use Rattle.swarm_objects.specs.declared.templates.End.TheVariants as end
-use Rattle.swarm_objects.specs.declared.templates.Key.{Key}
-use Rattle.swarm_objects.specs.declared.templates.Key.TheVariants as key
 use Rattle.swarm_objects.specs.declared.templates.Port.{Port}
 use Rattle.swarm_grammar.specs.declared.fields.Field.{Field}
 use Rattle.swarm_grammar.specs.declared.fields.Field.TheVariants as field
 use Rattle.swarm_grammar.specs.declared.lines.Line.{Line}
 use Rattle.swarm_grammar.specs.declared.lines.Line.TheVariants as line
-use Rattle.swarm_grammar.specs.Words.{is_name, is_value}
+use Rattle.swarm_filters.specs.Grammar.{is_name}
+use Rattle.swarm_filters.specs.Spellings.{constraint_has_text, key_has_text}
 use Rattle.swarm_grammar.specs.Tables.{bytes_lt}
 use Rattle.swarm_grammar.specs.Pieces.{joined, node_pieces, old_node_pieces, service_pieces, session_pieces, settings_pieces}
 use Rattle.swarm_grammar.specs.Calls.{is_budget, is_empty}
@@ -53,11 +52,6 @@ where_some test None = true
 where_some test (Some x) = test x
 
 -- ## Fields
-
-abbrev pub key_has_text : Key → Bool
-key_has_text (key.Label name) = is_name name
-key_has_text (key.Engine name) = is_name name
-key_has_text k = true
 
 abbrev pub port_has_text : Port → Bool
 port_has_text p = is_port p.target && where_some is_port p.number
@@ -85,7 +79,7 @@ has_word (field.Label k v) = is_name k && is_name v
 has_word (field.Os name) = is_name name
 has_word (field.Arch name) = is_name name
 has_word (field.Engine k v) = is_name k && is_name v
-has_word (field.Constraint c) = key_has_text c.key && is_value c.value
+has_word (field.Constraint c) = constraint_has_text c
 has_word (field.Spread k) = key_has_text k
 has_word (field.Platform p) = is_name p.os && is_name p.arch
 has_word (field.Net name) = is_name name

@@ -1,6 +1,5 @@
 pub mod Words
 pub mod Machines
-pub mod Constraints
 pub mod Fields
 pub mod Tables
 pub mod Drafts

@@ -1,36 +1,16 @@
 -- Words, and what stands in one.
-use Rattle.std.specs.Prelude.{ℕ, nat_eq, nat_le, nat_lt, ◌^◌, List, [], ◌∷◌, length, decimal, Bool, false, ◌&&◌, ◌||◌, if◌then◌else◌, Option, Some, None}
+use Rattle.std.specs.Prelude.{ℕ, nat_eq, nat_lt, ◌^◌, List, [], ◌∷◌, decimal, ◌&&◌, if◌then◌else◌, Option, Some, None}
 use Rattle.std.specs.Str.{bytes_eq}
 use Rattle.std.specs.Str.Parse.{digits_value}
-use Rattle.std.specs.Char.{is_ascii_alphanumeric}
-use Rattle.std.specs.List.{slice_split, list_all}
+use Rattle.std.specs.List.{slice_split}
+use Rattle.swarm_filters.specs.Grammar.{is_name}
 
 -- what stands between single spaces; two spaces in a row have an empty word between them
 abbrev pub words_of : List ℕ → List (List ℕ)
 words_of = slice_split (λ b. nat_eq b 32)
 
--- a letter, a digit, or one of - _ .
-abbrev pub is_name_byte : ℕ → Bool
-is_name_byte b = is_ascii_alphanumeric b || (nat_eq b 45 || (nat_eq b 95 || nat_eq b 46))
-
--- the first byte is a letter or a digit
-abbrev pub begins_name : List ℕ → Bool
-begins_name [] = false
-begins_name (b ∷ bs) = is_ascii_alphanumeric b
-
--- a name has 1 to 63 bytes
-abbrev pub is_name : List ℕ → Bool
-is_name word = nat_le (length word) 63 && (begins_name word && list_all is_name_byte word)
-
--- the value of a constraint: 1 to 63 bytes of names
-abbrev pub is_value : List ℕ → Bool
-is_value word = nat_lt 0 (length word) && (nat_le (length word) 63 && list_all is_name_byte word)
-
 abbrev pub name_of : List ℕ → Option (List ℕ)
 name_of word = if is_name word then Some word else None
-
-abbrev pub value_of : List ℕ → Option (List ℕ)
-value_of word = if is_value word then Some word else None
 
 -- the number that the word writes: below the limit, without a sign or a leading zero
 abbrev pub number_below : ℕ → List ℕ → Option ℕ
