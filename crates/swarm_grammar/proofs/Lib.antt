@@ -30,3 +30,4 @@ pub mod Spaces
 pub mod EntryWords
 pub mod EntryLaws
 pub mod Fits
+pub mod Fitting
