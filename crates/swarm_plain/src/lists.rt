@@ -6,8 +6,8 @@ ghost use Rattle.swarm_plain.specs.Plain.{tables_of, world_of};
 
 use crate::Plain;
 use swarm_objects::{
-    Duplicate, Id, List, NoMemory, NodeShown, Note, NoteShown, Place, PlaceShown, Query, Reply, Rows,
-    Shown, Task, TaskShown, ViewReply, add,
+    Duplicate, Id, List, NoMemory, NodeShown, Note, NoteShown, Place, PlaceShown, Query, Reply,
+    Rows, Shown, Task, TaskShown, ViewReply, add,
 };
 
 impl Plain {
