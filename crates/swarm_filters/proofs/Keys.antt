@@ -12,7 +12,7 @@ use Rattle.swarm_objects.specs.declared.templates.Key.{Key}
 use Rattle.swarm_objects.specs.declared.templates.Key.TheVariants as key
 use Rattle.swarm_objects.specs.declared.templates.Constraint.{Constraint}
 use Rattle.swarm_filters.specs.Grammar.{is_name, is_value}
-use Rattle.swarm_filters.specs.Machine.{Reading, in_key, in_label, after_key, in_value, constraint_of, label_key, key_words, word_begun}
+use Rattle.swarm_filters.specs.Machine.{Reading, in_key, in_label, after_key, in_value, constraint_with, label_key, key_words, word_begun}
 use Rattle.swarm_filters.proofs.Suffixes.{InKey, KeyTail, Spelling, AfterKey, Suffix, at, same, never}
 
 small_rest : (bs : List ℕ) → list_all (λ b. to_ascii_lowercase b == b) bs ≡ true → str_to_ascii_lowercase bs ≡ bs
@@ -45,7 +45,7 @@ pub record IsGood (word : List ℕ) (r : Reading) : Type 0 where
   pub begins : (bytes rest : List ℕ) → Spelling bytes rest word → Completes (in_key bytes)
   pub fits : Completes r
 
-pub end_of : (k : Key) → AfterKey k (codes "==a") (constraint_of k true (codes "a"))
+pub end_of : (k : Key) → AfterKey k (codes "==a") (constraint_with k true (codes "a"))
 end_of k = record {
   gap = [];
   equal = true;
@@ -59,16 +59,16 @@ good_key : (k : Key) (word : List ℕ) → list_all (λ b. to_ascii_lowercase b 
 good_key k word small tail = record {
   small = small;
   finds = λ bytes b t c is suffix. record { raw = b ∷ []; found = k; rest = t; whole = refl; is_key = tail bytes (b ∷ []) (sym is); behind = suffix };
-  begins = λ bytes rest is. (tt, (rest ++ codes "==a", (constraint_of k true (codes "a"), record { raw = rest; found = k; rest = codes "==a"; whole = refl; is_key = tail bytes rest is; behind = end_of k })));
-  fits = (tt, (codes "==a", (constraint_of k true (codes "a"), end_of k)));
+  begins = λ bytes rest is. (tt, (rest ++ codes "==a", (constraint_with k true (codes "a"), record { raw = rest; found = k; rest = codes "==a"; whole = refl; is_key = tail bytes rest is; behind = end_of k })));
+  fits = (tt, (codes "==a", (constraint_with k true (codes "a"), end_of k)));
 }
 
 good_label : (g : Bool) (word : List ℕ) → list_all (λ b. to_ascii_lowercase b == b) word ≡ true → ((bytes front name : List ℕ) → Spelling bytes front word → IsTrue (is_name name) → KeyTail bytes (front ++ name) (label_key g name)) → IsGood word (in_label g [])
 good_label g word small tail = record {
   small = small;
   finds = λ bytes b t c is suffix. record { raw = b ∷ suffix.more; found = label_key g suffix.more; rest = suffix.rest; whole = ap (λ r. b ∷ r) suffix.whole; is_key = tail bytes (b ∷ []) suffix.more (sym is) suffix.named; behind = suffix.behind };
-  begins = λ bytes rest is. (tt, ((rest ++ codes "a") ++ codes "==a", (constraint_of (label_key g (codes "a")) true (codes "a"), record { raw = rest ++ codes "a"; found = label_key g (codes "a"); rest = codes "==a"; whole = refl; is_key = tail bytes rest (codes "a") is refl; behind = end_of (label_key g (codes "a")) })));
-  fits = (tt, (codes "a==a", (constraint_of (label_key g (codes "a")) true (codes "a"), record { more = codes "a"; rest = codes "==a"; whole = refl; named = refl; behind = end_of (label_key g (codes "a")) })));
+  begins = λ bytes rest is. (tt, ((rest ++ codes "a") ++ codes "==a", (constraint_with (label_key g (codes "a")) true (codes "a"), record { raw = rest ++ codes "a"; found = label_key g (codes "a"); rest = codes "==a"; whole = refl; is_key = tail bytes rest (codes "a") is refl; behind = end_of (label_key g (codes "a")) })));
+  fits = (tt, (codes "a==a", (constraint_with (label_key g (codes "a")) true (codes "a"), record { more = codes "a"; rest = codes "==a"; whole = refl; named = refl; behind = end_of (label_key g (codes "a")) })));
 }
 
 abbrev pub AllGood : List (List ℕ × Reading) → Type 0

@@ -7,3 +7,4 @@ pub mod FaultLemmas
 pub mod Places
 pub mod Steps
 pub mod Texts
+pub mod Constraints

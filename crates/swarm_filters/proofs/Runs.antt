@@ -7,7 +7,7 @@ use Rattle.swarm_objects.specs.declared.templates.Key.{Key}
 use Rattle.swarm_objects.specs.declared.templates.Key.TheVariants as key
 use Rattle.swarm_objects.specs.declared.templates.Constraint.{Constraint}
 use Rattle.swarm_filters.specs.Grammar.{is_value, is_name, IsKey, sign_of, IsConstraint}
-use Rattle.swarm_filters.specs.Machine.{Reading, start, in_key, in_label, after_key, in_sign, after_sign, in_value, finished, label_key, constraint_of, key_words, key_begun, behind_key, step, goes_on, run, whole_of}
+use Rattle.swarm_filters.specs.Machine.{Reading, start, in_key, in_label, after_key, in_sign, after_sign, in_value, finished, label_key, constraint_with, key_words, key_begun, behind_key, step, goes_on, run, whole_of}
 use Rattle.swarm_filters.proofs.Suffixes.{FromStart, InKey, KeyTail, AfterKey, AfterSign, ValueTail, Suffix, at, same, never, space_more, behind_key-suffix, in_sign-suffix, after_sign-suffix, finished-suffix, in_value-suffix, in_label-suffix}
 use Rattle.swarm_filters.proofs.Keys.{IsSound, Completes, completes_at, end_of, all_good, word_begun-suffix, word_begun-completes}
 
@@ -38,7 +38,7 @@ start_completes = (
   (
     codes "node.id==a",
     (
-      constraint_of key.NodeId true (codes "a"),
+      constraint_with key.NodeId true (codes "a"),
       record {
         gap = [];
         rest = codes "node.id==a";
@@ -51,25 +51,25 @@ start_completes = (
 )
 
 after_key_completes : (k : Key) → Completes (after_key k)
-after_key_completes k = (tt, (codes "==a", (constraint_of k true (codes "a"), end_of k)))
+after_key_completes k = (tt, (codes "==a", (constraint_with k true (codes "a"), end_of k)))
 
-behind_sign : (k : Key) (e : Bool) → AfterSign k e (codes "a") (constraint_of k e (codes "a"))
+behind_sign : (k : Key) (e : Bool) → AfterSign k e (codes "a") (constraint_with k e (codes "a"))
 behind_sign k e = record { gap = []; value = codes "a"; last = []; whole = refl; spaces = refl; valued = refl; last_spaces = refl; is = refl }
 
 in_sign_completes : (k : Key) (e : Bool) → Completes (in_sign k e)
-in_sign_completes k e = (tt, (codes "=a", (constraint_of k e (codes "a"), record { rest = codes "a"; whole = refl; behind = behind_sign k e })))
+in_sign_completes k e = (tt, (codes "=a", (constraint_with k e (codes "a"), record { rest = codes "a"; whole = refl; behind = behind_sign k e })))
 
 after_sign_completes : (k : Key) (e : Bool) → Completes (after_sign k e)
-after_sign_completes k e = (tt, (codes "a", (constraint_of k e (codes "a"), behind_sign k e)))
+after_sign_completes k e = (tt, (codes "a", (constraint_with k e (codes "a"), behind_sign k e)))
 
-value_whole : (k : Key) (e : Bool) (v : List ℕ) → IsTrue (is_value v) → ValueTail k e v [] (constraint_of k e v)
-value_whole k e v valued = record { more = []; gap = []; whole = refl; valued = subst (λ w. IsTrue (is_value w)) (sym (append-nil v)) valued; spaces = refl; is = ap (λ w. constraint_of k e w) (sym (append-nil v)) }
+value_whole : (k : Key) (e : Bool) (v : List ℕ) → IsTrue (is_value v) → ValueTail k e v [] (constraint_with k e v)
+value_whole k e v valued = record { more = []; gap = []; whole = refl; valued = subst (λ w. IsTrue (is_value w)) (sym (append-nil v)) valued; spaces = refl; is = ap (λ w. constraint_with k e w) (sym (append-nil v)) }
 
 in_value_completes : (k : Key) (e : Bool) (v : List ℕ) → IsTrue (is_value v) → Completes (in_value k e v)
-in_value_completes k e v valued = (valued, ([], (constraint_of k e v, value_whole k e v valued)))
+in_value_completes k e v valued = (valued, ([], (constraint_with k e v, value_whole k e v valued)))
 
 in_label_completes : (g : Bool) (n : List ℕ) → IsTrue (is_name n) → Completes (in_label g n)
-in_label_completes g n named = (tt, (codes "==a", (constraint_of (label_key g (n ++ [])) true (codes "a"), record { more = []; rest = codes "==a"; whole = refl; named = subst (λ w. IsTrue (is_name w)) (sym (append-nil n)) named; behind = end_of (label_key g (n ++ [])) })))
+in_label_completes g n named = (tt, (codes "==a", (constraint_with (label_key g (n ++ [])) true (codes "a"), record { more = []; rest = codes "==a"; whole = refl; named = subst (λ w. IsTrue (is_name w)) (sym (append-nil n)) named; behind = end_of (label_key g (n ++ [])) })))
 
 finished_completes : (c : Constraint) → Completes (finished c)
 finished_completes c = (tt, ([], (c, record { is = refl; spaces = refl })))
@@ -102,7 +102,7 @@ step-completes (after_sign k e) b s h =
     when (b == 32) (after_sign k e) (cond (is_value (b ∷ [])) (Some (in_value k e (b ∷ []))) None) s (λ _. after_sign_completes k e)
     (λ i. when (is_value (b ∷ [])) (in_value k e (b ∷ [])) None s (λ v. in_value_completes k e (b ∷ []) v) (nothing s) i) h
 step-completes (in_value k e v) b s h =
-    when (b == 32) (finished (constraint_of k e v)) (cond (is_value (v ++ b ∷ [])) (Some (in_value k e (v ++ b ∷ []))) None) s (λ _. finished_completes (constraint_of k e v))
+    when (b == 32) (finished (constraint_with k e v)) (cond (is_value (v ++ b ∷ [])) (Some (in_value k e (v ++ b ∷ []))) None) s (λ _. finished_completes (constraint_with k e v))
     (λ i. when (is_value (v ++ b ∷ [])) (in_value k e (v ++ b ∷ [])) None s (λ w. in_value_completes k e (v ++ b ∷ []) w) (nothing s) i) h
 step-completes (finished c) b s h = when (b == 32) (finished c) None s (λ _. finished_completes c) (nothing s) h
 
@@ -126,7 +126,7 @@ run-completes (b ∷ bs) r s done h = go (step r b) refl h (λ q i j. run-comple
 
 whole_of-suffix : (r : Reading) (c : Constraint) → IsSound r → whole_of r ≡ Some c → Suffix r [] c
 whole_of-suffix (in_value k e v) c sound h =
-    let is : constraint_of k e v ≡ c = cc in
+    let is : constraint_with k e v ≡ c = cc in
     subst (λ d. ValueTail k e v [] d) is (value_whole k e v sound)
 whole_of-suffix (finished known) c sound h = record { is = cc; spaces = refl }
 whole_of-suffix _ c sound h = absurd (cc)

@@ -4,7 +4,7 @@ use Rattle.std.specs.Prelude.{slice_index, ◌==◌}
 use Rattle.std.proofs.lemmas.Bool.Decides.{Decides-eqb}
 use Rattle.swarm_objects.specs.declared.templates.Key.{Key}
 use Rattle.swarm_filters.specs.Grammar.{is_name, is_value}
-use Rattle.swarm_filters.specs.Machine.{in_label, in_value, finished, label_key, constraint_of, behind_key, step}
+use Rattle.swarm_filters.specs.Machine.{in_label, in_value, finished, label_key, constraint_with, behind_key, step}
 use Rattle.swarm_filters.specs.Shown.{part}
 use Rattle.swarm_filters.proofs.Places.{part-next}
 
@@ -37,10 +37,10 @@ label_ends text from place g order below longer named =
 
 -- a value
 
-value_with : (x y : Bool) (text : List ℕ) (from place : ℕ) (k : Key) (e : Bool) → (slice_index text place == 32) ≡ x → is_value (part text from place ++ slice_index text place ∷ []) ≡ y → step (in_value k e (part text from place)) (slice_index text place) ≡ cond x (Some (finished (constraint_of k e (part text from place)))) (cond y (Some (in_value k e (part text from place ++ slice_index text place ∷ []))) None)
+value_with : (x y : Bool) (text : List ℕ) (from place : ℕ) (k : Key) (e : Bool) → (slice_index text place == 32) ≡ x → is_value (part text from place ++ slice_index text place ∷ []) ≡ y → step (in_value k e (part text from place)) (slice_index text place) ≡ cond x (Some (finished (constraint_with k e (part text from place)))) (cond y (Some (in_value k e (part text from place ++ slice_index text place ∷ []))) None)
 value_with x y text from place k e space longer =
-    ap (λ z. cond z (Some (finished (constraint_of k e (part text from place)))) (cond (is_value (part text from place ++ slice_index text place ∷ [])) (Some (in_value k e (part text from place ++ slice_index text place ∷ []))) None)) space
-    ∙ ap (λ z. cond x (Some (finished (constraint_of k e (part text from place)))) (cond z (Some (in_value k e (part text from place ++ slice_index text place ∷ []))) None)) longer
+    ap (λ z. cond z (Some (finished (constraint_with k e (part text from place)))) (cond (is_value (part text from place ++ slice_index text place ∷ [])) (Some (in_value k e (part text from place ++ slice_index text place ∷ []))) None)) space
+    ∙ ap (λ z. cond x (Some (finished (constraint_with k e (part text from place)))) (cond z (Some (in_value k e (part text from place ++ slice_index text place ∷ []))) None)) longer
 
 pub value_goes_on : (text : List ℕ) (from place : ℕ) (k : Key) (e : Bool) → from ≤ place → place < length text → (slice_index text place == 32) ≡ false → is_value (part text from (place + 1)) ≡ true → Some (in_value k e (part text from (place + 1))) ≡ step (in_value k e (part text from place)) (slice_index text place)
 value_goes_on text from place k e order below space longer =

@@ -9,7 +9,7 @@ use Rattle.swarm_objects.specs.declared.templates.Key.{Key}
 use Rattle.swarm_objects.specs.declared.templates.Key.TheVariants as key
 use Rattle.swarm_objects.specs.declared.templates.Constraint.{Constraint}
 use Rattle.swarm_filters.specs.Grammar.{is_space, AreSpaces, is_value, is_name, sign_of}
-use Rattle.swarm_filters.specs.Machine.{Reading, start, in_key, in_label, after_key, in_sign, after_sign, in_value, finished, label_key, constraint_of, behind_key, step}
+use Rattle.swarm_filters.specs.Machine.{Reading, start, in_key, in_label, after_key, in_sign, after_sign, in_value, finished, label_key, constraint_with, behind_key, step}
 
 pub record AfterWhole (known : Constraint) (text : List ℕ) (c : Constraint) : Type 0 where
   pub is : c ≡ known
@@ -21,7 +21,7 @@ pub record ValueTail (k : Key) (equal : Bool) (value text : List ℕ) (c : Const
   pub whole : text ≡ more ++ gap
   pub valued : IsTrue (is_value (value ++ more))
   pub spaces : AreSpaces gap
-  pub is : c ≡ constraint_of k equal (value ++ more)
+  pub is : c ≡ constraint_with k equal (value ++ more)
 
 pub record AfterSign (k : Key) (equal : Bool) (text : List ℕ) (c : Constraint) : Type 0 where
   pub gap : List ℕ
@@ -31,7 +31,7 @@ pub record AfterSign (k : Key) (equal : Bool) (text : List ℕ) (c : Constraint)
   pub spaces : AreSpaces gap
   pub valued : IsTrue (is_value value)
   pub last_spaces : AreSpaces last
-  pub is : c ≡ constraint_of k equal value
+  pub is : c ≡ constraint_with k equal value
 
 pub record SignTail (k : Key) (equal : Bool) (text : List ℕ) (c : Constraint) : Type 0 where
   pub rest : List ℕ
@@ -174,13 +174,13 @@ in_value-suffix k equal v b s t c valued = space (b == 32) refl
     value : (x : Bool) → is_value (v ++ b ∷ []) ≡ x → cond x (Some (in_value k equal (v ++ b ∷ []))) None ≡ Some s → Suffix s t c → ValueTail k equal v (b ∷ t) c
     value true e h suffix =
         let tail : ValueTail k equal (v ++ b ∷ []) t c = at (in_value k equal (v ++ b ∷ [])) s t c (same (in_value k equal (v ++ b ∷ [])) s h) suffix in
-        record { more = b ∷ tail.more; gap = tail.gap; whole = ap (λ r. b ∷ r) tail.whole; valued = subst (λ w. IsTrue (is_value w)) (joined tail.more) tail.valued; spaces = tail.spaces; is = tail.is ∙ ap (λ w. constraint_of k equal w) (joined tail.more) }
+        record { more = b ∷ tail.more; gap = tail.gap; whole = ap (λ r. b ∷ r) tail.whole; valued = subst (λ w. IsTrue (is_value w)) (joined tail.more) tail.valued; spaces = tail.spaces; is = tail.is ∙ ap (λ w. constraint_with k equal w) (joined tail.more) }
     value false e h suffix = never s h
 
-    space : (x : Bool) → (b == 32) ≡ x → cond x (Some (finished (constraint_of k equal v))) (cond (is_value (v ++ b ∷ [])) (Some (in_value k equal (v ++ b ∷ []))) None) ≡ Some s → Suffix s t c → ValueTail k equal v (b ∷ t) c
+    space : (x : Bool) → (b == 32) ≡ x → cond x (Some (finished (constraint_with k equal v))) (cond (is_value (v ++ b ∷ [])) (Some (in_value k equal (v ++ b ∷ []))) None) ≡ Some s → Suffix s t c → ValueTail k equal v (b ∷ t) c
     space true e h suffix =
-        let rest : AfterWhole (constraint_of k equal v) t c = at (finished (constraint_of k equal v)) s t c (same (finished (constraint_of k equal v)) s h) suffix in
-        record { more = []; gap = b ∷ t; whole = refl; valued = subst (λ w. IsTrue (is_value w)) (sym (append-nil v)) valued; spaces = space_more b t e rest.spaces; is = rest.is ∙ ap (λ w. constraint_of k equal w) (sym (append-nil v)) }
+        let rest : AfterWhole (constraint_with k equal v) t c = at (finished (constraint_with k equal v)) s t c (same (finished (constraint_with k equal v)) s h) suffix in
+        record { more = []; gap = b ∷ t; whole = refl; valued = subst (λ w. IsTrue (is_value w)) (sym (append-nil v)) valued; spaces = space_more b t e rest.spaces; is = rest.is ∙ ap (λ w. constraint_with k equal w) (sym (append-nil v)) }
     space false e h suffix = value (is_value (v ++ b ∷ [])) refl h suffix
 
 pub in_label-suffix : (g : Bool) (n : List ℕ) (b : ℕ) (s : Reading) (t : List ℕ) (c : Constraint) → step (in_label g n) b ≡ Some s → Suffix s t c → LabelTail g n (b ∷ t) c

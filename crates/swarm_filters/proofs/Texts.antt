@@ -11,7 +11,7 @@ use Rattle.swarm_objects.specs.declared.templates.Key.{Key}
 use Rattle.swarm_objects.specs.declared.templates.Key.TheVariants as key
 use Rattle.swarm_filters.specs.Grammar.{is_name_byte, is_name, begins_name, is_value, IsKey, IsConstraint, IsFault}
 use Rattle.swarm_filters.specs.Machine.{Reading, start, step, goes_on, run, whole_of}
-use Rattle.swarm_filters.specs.Shown.{IsNamed, PartsRead, PartsFit, key_of, whole_at}
+use Rattle.swarm_filters.specs.Shown.{IsNamed, PartsRead, PartsFit, key_at, whole_at}
 use Rattle.swarm_filters.specs.declared.states.Parts.{Parts}
 use Rattle.swarm_filters.proofs.Runs.{IsConstraint-read}
 use Rattle.swarm_filters.proofs.Wholes.{first_true, second_true, run-append}
@@ -54,7 +54,7 @@ named_key text (key.Engine name) is = is.1.1.1
 pub parts_read : (text : List ℕ) (s : Reading) (p : Parts) → run start (take (length text) text) ≡ Some s → whole_of s ≡ Some (whole_at text p) → PartsFit (length text) p → PartsRead text p
 parts_read text s p read whole fits =
     let is : IsConstraint text (whole_at text p) = IsConstraint-read text s (whole_at text p) (all_read text s read) whole in
-    record { fits = fits; is = is; named = named_key is.key_text (key_of text p.found) is.is_key; valued = is.valued }
+    record { fits = fits; is = is; named = named_key is.key_text (key_at text p.found) is.is_key; valued = is.valued }
 
 -- names are text
 

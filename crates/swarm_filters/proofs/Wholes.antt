@@ -11,7 +11,7 @@ use Rattle.swarm_objects.specs.declared.templates.Key.{Key}
 use Rattle.swarm_objects.specs.declared.templates.Key.TheVariants as key
 use Rattle.swarm_objects.specs.declared.templates.Constraint.{Constraint}
 use Rattle.swarm_filters.specs.Grammar.{is_space, AreSpaces, is_name_byte, is_value, is_name, begins_name, Spells, IsKey, sign_of, IsConstraint}
-use Rattle.swarm_filters.specs.Machine.{Reading, start, in_key, in_label, after_key, in_sign, after_sign, in_value, finished, label_key, constraint_of, key_begun, behind_key, step, goes_on, run, whole_of}
+use Rattle.swarm_filters.specs.Machine.{Reading, start, in_key, in_label, after_key, in_sign, after_sign, in_value, finished, label_key, constraint_with, key_begun, behind_key, step, goes_on, run, whole_of}
 use Rattle.swarm_filters.proofs.Suffixes.{same, never, is_byte}
 
 -- truth values
@@ -191,7 +191,7 @@ sign_reads k false rest = refl
 
 value_step : (k : Key) (e : Bool) (v : List ℕ) (b : ℕ) → is_value (v ++ b ∷ []) ≡ true → step (in_value k e v) b ≡ Some (in_value k e (v ++ b ∷ []))
 value_step k e v b valued =
-    ap (λ x. cond x (Some (finished (constraint_of k e v))) (cond (is_value (v ++ b ∷ [])) (Some (in_value k e (v ++ b ∷ []))) None)) (no_space b (value_byte v b valued))
+    ap (λ x. cond x (Some (finished (constraint_with k e v))) (cond (is_value (v ++ b ∷ [])) (Some (in_value k e (v ++ b ∷ []))) None)) (no_space b (value_byte v b valued))
     ∙ ap (λ x. cond x (Some (in_value k e (v ++ b ∷ []))) None) valued
 
 value_reads : (more : List ℕ) (k : Key) (e : Bool) (v rest : List ℕ) → is_value (v ++ more) ≡ true → run (in_value k e v) (more ++ rest) ≡ run (in_value k e (v ++ more)) rest
@@ -215,13 +215,13 @@ whole_value k e (b ∷ more) rest valued =
 abbrev Makes : Option Reading → Constraint → Type 0
 Makes o c = (s : Reading) × ((o ≡ Some s) × (whole_of s ≡ Some c))
 
-ends : (k : Key) (e : Bool) (value last : List ℕ) → AreSpaces last → Makes (run (in_value k e value) last) (constraint_of k e value)
+ends : (k : Key) (e : Bool) (value last : List ℕ) → AreSpaces last → Makes (run (in_value k e value) last) (constraint_with k e value)
 ends k e value [] spaces = (in_value k e value, (refl, refl))
 ends k e value (b ∷ last) spaces =
     let space : (b == 32) ≡ true = first_true (b == 32) (list_all is_space last) spaces in
-    let next : step (in_value k e value) b ≡ Some (finished (constraint_of k e value)) = ap (λ x. cond x (Some (finished (constraint_of k e value))) (cond (is_value (value ++ b ∷ [])) (Some (in_value k e (value ++ b ∷ []))) None)) space in
-    let stay : run (finished (constraint_of k e value)) (last ++ []) ≡ Some (finished (constraint_of k e value)) = stays (finished (constraint_of k e value)) (finished_keeps (constraint_of k e value)) last [] (second_true (b == 32) (list_all is_space last) spaces) in
-    (finished (constraint_of k e value), (go_on (in_value k e value) (finished (constraint_of k e value)) b last next ∙ ap (λ x. run (finished (constraint_of k e value)) x) (sym (append-nil last)) ∙ stay, refl))
+    let next : step (in_value k e value) b ≡ Some (finished (constraint_with k e value)) = ap (λ x. cond x (Some (finished (constraint_with k e value))) (cond (is_value (value ++ b ∷ [])) (Some (in_value k e (value ++ b ∷ []))) None)) space in
+    let stay : run (finished (constraint_with k e value)) (last ++ []) ≡ Some (finished (constraint_with k e value)) = stays (finished (constraint_with k e value)) (finished_keeps (constraint_with k e value)) last [] (second_true (b == 32) (list_all is_space last) spaces) in
+    (finished (constraint_with k e value), (go_on (in_value k e value) (finished (constraint_with k e value)) b last next ∙ ap (λ x. run (finished (constraint_with k e value)) x) (sym (append-nil last)) ∙ stay, refl))
 
 -- the machine makes a constraint of its text
 pub run-IsConstraint : (text : List ℕ) (c : Constraint) → IsConstraint text c → (s : Reading) × ((run start text ≡ Some s) × (whole_of s ≡ Some c))
@@ -234,5 +234,5 @@ run-IsConstraint text c is =
     ∙ sign_reads c.key c.equal (is.third ++ (c.value ++ is.fourth))
     ∙ stays (after_sign c.key c.equal) (after_sign_keeps c.key c.equal) is.third (c.value ++ is.fourth) is.third_spaces
     ∙ whole_value c.key c.equal c.value is.fourth is.valued in
-    let made : Makes (run (in_value c.key c.equal c.value) is.fourth) (constraint_of c.key c.equal c.value) = ends c.key c.equal c.value is.fourth is.fourth_spaces in
+    let made : Makes (run (in_value c.key c.equal c.value) is.fourth) (constraint_with c.key c.equal c.value) = ends c.key c.equal c.value is.fourth is.fourth_spaces in
     (made.0, (read ∙ made.1.0, made.1.1))

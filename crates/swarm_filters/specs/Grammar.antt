@@ -65,6 +65,10 @@ pub record IsConstraint (text : List ℕ) (c : Constraint) : Type 0 where
   pub valued : IsTrue (is_value c.value)
   pub fourth_spaces : AreSpaces fourth
 
+-- the text is no other constraint
+abbrev pub IsOnly : List ℕ → Constraint → Type 0
+IsOnly text c = (other : Constraint) → IsConstraint text other → other ≡ c
+
 -- some constraint begins with the text
 abbrev pub Continues : List ℕ → Type 0
 Continues text = (more : List ℕ) × ((c : Constraint) × IsConstraint (text ++ more) c)

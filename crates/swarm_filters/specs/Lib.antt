@@ -2,3 +2,5 @@ pub mod Grammar
 pub mod Machine
 pub mod Shown
 pub mod Faults
+pub mod Keys
+pub mod Spellings

@@ -2,6 +2,7 @@
 use Rattle.std.specs.Prelude.{ℕ, ◌==◌, List, [], ◌∷◌, ◌++◌, codes, nat_eq, Bool, true, false, if◌then◌else◌, Option, Some, None}
 use Rattle.std.specs.Char.{to_ascii_lowercase}
 use Rattle.std.specs.List.{starts_with}
+use Rattle.std.specs.Option.{option_and_then}
 use Rattle.std.specs.Str.{bytes_eq}
 use Rattle.swarm_objects.specs.declared.templates.Key.{Key}
 use Rattle.swarm_objects.specs.declared.templates.Key.TheVariants as key
@@ -24,8 +25,8 @@ abbrev pub label_key : Bool → List ℕ → Key
 label_key false name = key.Label name
 label_key true name = key.Engine name
 
-abbrev pub constraint_of : Key → Bool → List ℕ → Constraint
-constraint_of k equal value = record { key = k; equal = equal; value = value }
+abbrev pub constraint_with : Key → Bool → List ℕ → Constraint
+constraint_with k equal value = record { key = k; equal = equal; value = value }
 
 abbrev pub label_words : List (List ℕ × Reading)
 label_words = (codes "node.labels.", in_label false []) ∷ (codes "engine.labels.", in_label true []) ∷ []
@@ -68,7 +69,7 @@ step (in_sign k equal) b = if b == 61 then Some (after_sign k equal) else None
 step (after_sign k equal) b =
     if b == 32 then Some (after_sign k equal) else (if is_value (b ∷ []) then Some (in_value k equal (b ∷ [])) else None)
 step (in_value k equal value) b =
-    if b == 32 then Some (finished (constraint_of k equal value))
+    if b == 32 then Some (finished (constraint_with k equal value))
     else (if is_value (value ++ b ∷ []) then Some (in_value k equal (value ++ b ∷ [])) else None)
 step (finished c) b = if b == 32 then Some (finished c) else None
 
@@ -83,6 +84,10 @@ run r (b ∷ bs) = goes_on (step r b) (λ s. run s bs)
 
 -- the constraint that is whole
 abbrev pub whole_of : Reading → Option Constraint
-whole_of (in_value k equal value) = Some (constraint_of k equal value)
+whole_of (in_value k equal value) = Some (constraint_with k equal value)
 whole_of (finished c) = Some c
 whole_of _ = None
+
+-- the constraint that a text is, where it is one
+abbrev pub constraint_of : List ℕ → Option Constraint
+constraint_of text = option_and_then whole_of (run start text)

@@ -5,7 +5,7 @@ use Rattle.swarm_objects.specs.declared.templates.Key.{Key}
 use Rattle.swarm_objects.specs.declared.templates.Key.TheVariants as key
 use Rattle.swarm_objects.specs.declared.templates.Constraint.{Constraint}
 use Rattle.swarm_filters.specs.Grammar.{IsConstraint, is_name, is_value}
-use Rattle.swarm_filters.specs.Machine.{Reading, start, in_key, in_label, after_key, in_sign, after_sign, in_value, finished, label_key, constraint_of}
+use Rattle.swarm_filters.specs.Machine.{Reading, start, in_key, in_label, after_key, in_sign, after_sign, in_value, finished, label_key, constraint_with}
 use Rattle.swarm_filters.specs.declared.states.Span.{Span}
 use Rattle.swarm_filters.specs.declared.states.Found.{Found}
 use Rattle.swarm_filters.specs.declared.states.Found.TheVariants as found
@@ -20,26 +20,26 @@ part text from end = take (end - from) (drop from text)
 abbrev pub span_of : List ℕ → Span → List ℕ
 span_of text s = part text s.from s.end
 
-abbrev pub key_of : List ℕ → Found → Key
-key_of text found.NodeId = key.NodeId
-key_of text found.Hostname = key.Hostname
-key_of text found.Role = key.Role
-key_of text found.Os = key.Os
-key_of text found.Arch = key.Arch
-key_of text (found.Label engine s) = label_key engine (span_of text s)
+abbrev pub key_at : List ℕ → Found → Key
+key_at text found.NodeId = key.NodeId
+key_at text found.Hostname = key.Hostname
+key_at text found.Role = key.Role
+key_at text found.Os = key.Os
+key_at text found.Arch = key.Arch
+key_at text (found.Label engine s) = label_key engine (span_of text s)
 
 abbrev pub whole_at : List ℕ → Parts → Constraint
-whole_at text p = constraint_of (key_of text p.found) p.equal (span_of text p.value)
+whole_at text p = constraint_with (key_at text p.found) p.equal (span_of text p.value)
 
 -- what was read of the text up to a place
 abbrev pub shown : List ℕ → ℕ → State → Reading
 shown text place state.Start = start
 shown text place (state.InKey from) = in_key (str_to_ascii_lowercase (part text from place))
 shown text place (state.InLabel engine from) = in_label engine (part text from place)
-shown text place (state.AfterKey f) = after_key (key_of text f)
-shown text place (state.InSign f equal) = in_sign (key_of text f) equal
-shown text place (state.AfterSign f equal) = after_sign (key_of text f) equal
-shown text place (state.InValue f equal from) = in_value (key_of text f) equal (part text from place)
+shown text place (state.AfterKey f) = after_key (key_at text f)
+shown text place (state.InSign f equal) = in_sign (key_at text f) equal
+shown text place (state.AfterSign f equal) = after_sign (key_at text f) equal
+shown text place (state.InValue f equal from) = in_value (key_at text f) equal (part text from place)
 shown text place (state.Finished p) = finished (whole_at text p)
 
 abbrev pub option_shown : List ℕ → ℕ → Option State → Option Reading
@@ -82,7 +82,7 @@ IsNamed _ = Unit {0}
 pub record PartsRead (text : List ℕ) (p : Parts) : Type 0 where
   pub fits : PartsFit (length text) p
   pub is : IsConstraint text (whole_at text p)
-  pub named : IsNamed (key_of text p.found)
+  pub named : IsNamed (key_at text p.found)
   pub valued : IsTrue (is_value (span_of text p.value))
 
 abbrev pub option_whole : List ℕ → Option Parts → Option Constraint

@@ -1,9 +1,9 @@
 // Constraints from their texts.
 ghost use Rattle.std.specs.Prelude.{◌≡◌, ◌≤◌, length, IfErr, IfOk, IsTrue};
-ghost use Rattle.swarm_filters.specs.Grammar.{IsConstraint, IsFault, is_value};
-ghost use Rattle.swarm_filters.specs.Machine.{whole_of};
-ghost use Rattle.swarm_filters.specs.Shown.{FoundFits, IsNamed, OptionPartsFit, PartsFit, PartsRead, SpanFits, StateFits, key_of as key_at, option_whole, shown, span_of, whole_at};
-ghost use Rattle.swarm_filters.specs.Faults.{IsParseFault};
+ghost use Rattle.swarm_filters.specs.Grammar.{IsConstraint, IsFault, IsOnly, is_value};
+ghost use Rattle.swarm_filters.specs.Machine.{constraint_of, whole_of};
+ghost use Rattle.swarm_filters.specs.Shown.{FoundFits, IsNamed, OptionPartsFit, PartsFit, PartsRead, SpanFits, StateFits, key_at, option_whole, shown, span_of, whole_at};
+ghost use Rattle.swarm_filters.specs.Faults.{IsAnswer, IsParseFault};
 
 use crate::parsing::step;
 use crate::states::{Found, Parts, Span, State};
@@ -34,7 +34,9 @@ impl From<NoMemory> for ParseFault {
 /// The constraint that a text is: a key, `==` or `!=` and a value, with any spaces at the ends and round the sign.
 pub fn parse_constraint(alloc: Global, text: &str) -> Result<Constraint, ParseFault>
     ensures read { IfOk result (λ c. IsConstraint text.now c) }
+    ensures one { IfOk result (λ c. IsOnly text.now c) }
     ensures fault { IfErr result (λ f. IsParseFault text.now f) }
+    ensures meaning { IsAnswer (constraint_of text.now) result }
 {
     let bytes = text.as_bytes();
     match read(bytes) {

@@ -5,7 +5,7 @@ ghost use Rattle.std.specs.Str.{bytes_eq, str_eq_ignore_ascii_case, str_to_ascii
 ghost use Rattle.swarm_filters.specs.Grammar.{begins_name as begins_test, is_name as name_test, is_name_byte as name_byte, is_value as value_test};
 ghost use Rattle.swarm_filters.specs.Machine.{behind_key as behind_key_of, key_words, label_words, platform_words, step as step_of, word_begun};
 ghost use Rattle.swarm_filters.specs.declared.states.State.TheVariants.{AfterSign, InKey, InLabel, InValue, Start};
-ghost use Rattle.swarm_filters.specs.Shown.{FoundFits, OptionFits, StateFits, key_of, option_shown, part, shown};
+ghost use Rattle.swarm_filters.specs.Shown.{FoundFits, OptionFits, StateFits, key_at, option_shown, part, shown};
 
 use crate::states::{Found, Parts, Span, State};
 
@@ -133,7 +133,7 @@ fn label_begun(text: &[u8], from: usize, end: usize) -> Option<State>
 // What a byte behind a whole key makes.
 fn behind_key(text: &[u8], place: usize, found: Found, byte: u8) -> Option<State>
     requires { FoundFits place found }
-    ensures shows { option_shown text.now place result ≡ behind_key_of (key_of text.now found) byte }
+    ensures shows { option_shown text.now place result ≡ behind_key_of (key_at text.now found) byte }
     ensures fits { OptionFits place result }
 {
     match byte {
