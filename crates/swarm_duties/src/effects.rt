@@ -209,7 +209,7 @@ fn explain_task(plain: &mut Plain, task: Id)
     note(plain.tasks.as_mut_slice(), plain.entries, reasons, task);
 }
 
-/// Does a duty, as an entry. Want of memory changes nothing.
+/// Does a duty, as an entry. One of a control loop that isn't written yet does nothing. Want of memory changes nothing.
 pub fn do_duty(plain: &mut Plain, duty: &Duty) -> Result<(), NoMemory>
     requires small { IsSmall (world_of plain.old) }
     requires due { is_due (world_of plain.old).tables duty.now ≡ true }
@@ -229,6 +229,10 @@ pub fn do_duty(plain: &mut Plain, duty: &Duty) -> Result<(), NoMemory>
         }
         Duty::Explain(task) => {
             explain_task(plain, task);
+            Ok(())
+        }
+        _ => {
+            plain.entries += 1;
             Ok(())
         }
     }

@@ -1,5 +1,5 @@
 -- What lists show.
-use Rattle.std.specs.Prelude.{ℕ, List, map, Option, Some, None}
+use Rattle.std.specs.Prelude.{ℕ, List, Option, Some, None}
 use Rattle.std.specs.Option.{option_map}
 use Rattle.swarm_objects.specs.Rows.{row_at, node_id, service_id, network_id}
 use Rattle.swarm_objects.specs.World.{Tables}

@@ -95,6 +95,7 @@ impl Plain {
         match op {
             Op::CreateNode(name, draft) => self.create_node(version, name, draft),
             Op::CreateService(name, draft) => self.create_service(version, name, draft),
+            _ => Ok(0),
         }
     }
 
@@ -191,20 +192,20 @@ impl Plain {
         }
     }
 
-    fn view(&mut self, query: Query) -> Reply
+    fn view(&mut self, query: &Query) -> Reply
         requires { IsSmall (world_of self.old) }
-        ensures { Meets (call_outcome (world_of self.old) (Call.View query)) (world_of self.old) result (world_of self.new) }
+        ensures { Meets (call_outcome (world_of self.old) (Call.View query.now)) (world_of self.old) result (world_of self.new) }
     {
         match self.answer(query) {
-            Ok(answer) => {
+            Ok(reply) => {
                 self.entries += 1;
-                Reply::View(answer)
+                reply
             }
             Err(NoMemory) => Reply::Refused(Refusal::NoMemory),
         }
     }
 
-    /// Answers the call, which isn't the settle test. A call that becomes an entry counts as one, also where it is refused; `Halted`, `Full` and
+    /// Answers the call, which isn't the settle test. A call that can't be done yet does nothing and is answered `Did`. A call that becomes an entry counts as one, also where it is refused; `Halted`, `Full` and
     /// `NoMemory` change nothing at all. `Halt` takes no memory.
     pub fn call(&mut self, call: &Call) -> Reply
         requires small { IsSmall (world_of self.old) }
@@ -223,8 +224,12 @@ impl Plain {
             }
             _ if self.entries >= HISTORY => Reply::Refused(Refusal::Full(self.entries)),
             Call::Txn(ops) => self.txn(ops.as_slice()),
-            Call::View(query) => self.view(*query),
+            Call::View(query) => self.view(query),
             Call::Settle(_) => unreachable!(),
+            _ => {
+                self.entries += 1;
+                Reply::Did
+            }
         }
     }
 }

@@ -1,23 +1,24 @@
 // What lists show.
 ghost use Rattle.std.specs.Prelude.{◌≡◌, map, IfOk};
-ghost use Rattle.swarm_objects.specs.Calls.{view_answer};
+ghost use Rattle.swarm_objects.specs.Calls.{view_outcome};
 ghost use Rattle.swarm_objects.specs.Shown.{network_shown as shown_network, node_shown as shown_node, note_of, place_of, service_shown as shown_service, shown, task_shown};
-ghost use Rattle.swarm_plain.specs.Plain.{tables_of};
+ghost use Rattle.swarm_plain.specs.Plain.{tables_of, world_of};
 
 use crate::Plain;
 use swarm_objects::{
-    Duplicate, Id, List, NoMemory, NodeShown, Note, NoteShown, Place, PlaceShown, Query, Rows,
-    Shown, Task, TaskShown, ViewReply, add,
+    Duplicate, Id, List, NoMemory, NodeShown, Note, NoteShown, Place, PlaceShown, Query, Reply,
+    Rows, Shown, Task, TaskShown, ViewReply, add,
 };
 
 impl Plain {
     // The answer to a query.
-    pub(crate) fn answer(&self, query: Query) -> Result<ViewReply, NoMemory>
-        ensures { IfOk result (λ answer. answer ≡ view_answer (tables_of self.now) query) }
+    pub(crate) fn answer(&self, query: &Query) -> Result<Reply, NoMemory>
+        ensures { IfOk result (λ reply. reply ≡ (view_outcome (world_of self.now) query.now).reply) }
     {
         match query {
-            Query::ListNodes => Ok(ViewReply::Nodes(self.show_nodes()?)),
-            Query::ListTasks => Ok(ViewReply::Tasks(self.show_tasks()?)),
+            Query::ListNodes => Ok(Reply::View(ViewReply::Nodes(self.show_nodes()?))),
+            Query::ListTasks(None) => Ok(Reply::View(ViewReply::Tasks(self.show_tasks()?))),
+            _ => Ok(Reply::Did),
         }
     }
 

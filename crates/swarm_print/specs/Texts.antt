@@ -34,6 +34,7 @@ refusal_words (TooMany kind count) = codes "19" ∷ codes "TooMany" ∷ kind_wor
 refusal_words Halted = codes "20" ∷ codes "Halted" ∷ []
 refusal_words (Full entries) = codes "21" ∷ codes "Full" ∷ decimal entries ∷ []
 refusal_words NoMemory = codes "22" ∷ codes "NoMemory" ∷ []
+refusal_words _ = []
 
 abbrev pub node_line : NodeShown → List ℕ
 node_line n =
@@ -60,11 +61,13 @@ task_line t =
 abbrev pub view_text : ViewReply → List ℕ
 view_text (Nodes rows) = line (codes "nodes" ∷ decimal (length rows) ∷ []) ++ flat_map node_line rows
 view_text (Tasks rows) = line (codes "tasks" ∷ decimal (length rows) ∷ []) ++ flat_map task_line rows
+view_text _ = []
 
 -- what a line with this budget is answered: all is settled, or the duty that is left
 abbrev pub settle_words : ℕ → Settle → List (List ℕ)
 settle_words budget Settled = codes "settled" ∷ []
 settle_words budget (Busy duty) = codes "unsettled" ∷ decimal budget ∷ duty_text duty ∷ []
+settle_words budget _ = []
 
 -- an id after a space
 abbrev pub id_text : ℕ → List ℕ
@@ -76,5 +79,4 @@ reply_text (Txn ids) = codes "ok" ++ flat_map id_text ids ++ codes "\n"
 reply_text (Refused refusal) = codes "refused " ++ line (refusal_words refusal)
 reply_text (View view) = view_text view
 reply_text (Settles budget settle) = line (settle_words budget settle)
-reply_text HaltDone = []
-reply_text Did = []
+reply_text _ = []

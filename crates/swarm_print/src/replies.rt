@@ -43,6 +43,7 @@ fn put_refusal(text: &mut String, refusal: &Refusal) -> Result<(), AllocError>
         Refusal::Halted => text.push_str("20 Halted\n"),
         Refusal::Full(entries) => write!(text, "21 Full {entries}\n"),
         Refusal::NoMemory => text.push_str("22 NoMemory\n"),
+        _ => text.push_str("\n"),
     }
 }
 
@@ -143,6 +144,7 @@ fn put_settle(text: &mut String, budget: u64, settle: Settle) -> Result<(), Allo
             put_duty(text, &duty)?;
             text.push_str("\n")
         }
+        _ => text.push_str("\n"),
     }
 }
 
@@ -160,6 +162,7 @@ fn put_view(alloc: Global, text: &mut String, view: &ViewReply) -> Result<(), Al
             write!(text, "tasks {count}\n")?;
             put_tasks(alloc, text, rows.as_slice())
         }
+        _ => Ok(()),
     }
 }
 
@@ -177,7 +180,7 @@ pub fn reply_text(alloc: Global, reply: &Reply) -> Result<List<u8>, NoMemory>
         }
         Reply::View(view) => put_view(alloc, &mut text, view)?,
         Reply::Settle(budget, settle) => put_settle(&mut text, *budget, *settle)?,
-        Reply::HaltDone | Reply::Did => {}
+        _ => {}
     }
     Ok(List::from_vec(text.into_bytes()))
 }

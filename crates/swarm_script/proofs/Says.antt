@@ -81,7 +81,7 @@ created_of name n e small = inr (inr (inl (name, n, e, small, refl, refl)))
 listed_nodes : IsLine (codes "list" ∷ codes "nodes" ∷ []) (Called (View ListNodes))
 listed_nodes = inr (inr (inr (inl (inl (refl, refl)))))
 
-listed_tasks : IsLine (codes "list" ∷ codes "tasks" ∷ []) (Called (View ListTasks))
+listed_tasks : IsLine (codes "list" ∷ codes "tasks" ∷ []) (Called (View (ListTasks None)))
 listed_tasks = inr (inr (inr (inl (inr (refl, refl)))))
 
 settled : IsLine (codes "settle" ∷ []) (Settle 100000)
@@ -264,14 +264,14 @@ says_nodes : (ws : List (List ℕ)) → Says (codes "list" ∷ codes "nodes" ∷
 says_nodes [] = listed_nodes
 says_nodes (w ∷ ws) = (omega arith, omega arith, whole _ _ listed_nodes, λ h. elim (lists _ _ h.2) [ inl c ↦ let k = c.0 in cc | inr c ↦ let k = c.0 in cc ])
 
-says_tasks : (ws : List (List ℕ)) → Says (codes "list" ∷ codes "tasks" ∷ ws) (ends 3 (Called (View ListTasks)) ws)
+says_tasks : (ws : List (List ℕ)) → Says (codes "list" ∷ codes "tasks" ∷ ws) (ends 3 (Called (View (ListTasks None))) ws)
 says_tasks [] = listed_tasks
 says_tasks (w ∷ ws) = (omega arith, omega arith, whole _ _ listed_tasks, λ h. elim (lists _ _ h.2) [ inl c ↦ let k = c.0 in cc | inr c ↦ let k = c.0 in cc ])
 
 says_list : (w : List ℕ) (ws : List (List ℕ)) (b c : Bool) → bytes_eq w (codes "nodes") ≡ b → bytes_eq w (codes "tasks") ≡ c →
-    Says (codes "list" ∷ w ∷ ws) (cond b (ends 3 (Called (View ListNodes)) ws) (cond c (ends 3 (Called (View ListTasks)) ws) (Err (Word 2))))
+    Says (codes "list" ∷ w ∷ ws) (cond b (ends 3 (Called (View ListNodes)) ws) (cond c (ends 3 (Called (View (ListTasks None))) ws) (Err (Word 2))))
 says_list w ws true c e f = subst (λ v. Says (codes "list" ∷ v ∷ ws) (ends 3 (Called (View ListNodes)) ws)) (sym (same w (codes "nodes") e)) (says_nodes ws)
-says_list w ws false true e f = subst (λ v. Says (codes "list" ∷ v ∷ ws) (ends 3 (Called (View ListTasks)) ws)) (sym (same w (codes "tasks") f)) (says_tasks ws)
+says_list w ws false true e f = subst (λ v. Says (codes "list" ∷ v ∷ ws) (ends 3 (Called (View (ListTasks None))) ws)) (sym (same w (codes "tasks") f)) (says_tasks ws)
 says_list w ws false false e f = (
   omega arith,
   omega arith,

@@ -18,10 +18,9 @@ use Rattle.swarm_script.specs.declared.LineFault.TheVariants.{Long, Byte, Word}
 
 -- what a line of a script may call: no halt, and no settle test but by a settle line
 abbrev pub is_scripted : Call → Bool
-is_scripted (Txn ops) = true
-is_scripted (View query) = true
 is_scripted (Settle budget) = false
 is_scripted Halt = false
+is_scripted _ = true
 
 abbrev pub is_scripted_line : Line → Bool
 is_scripted_line Blank = true
@@ -86,7 +85,7 @@ good_list : (words : List (List ℕ)) → IsGood (after_list words)
 good_list [] = tt
 good_list (word ∷ words) =
     good_if (bytes_eq word (codes "nodes")) (ends 3 (CallLine (View ListNodes)) words) _ (good_end 3 (CallLine (View ListNodes)) words refl refl)
-    (good_if (bytes_eq word (codes "tasks")) (ends 3 (CallLine (View ListTasks)) words) (Err (Word 2)) (good_end 3 (CallLine (View ListTasks)) words refl refl) tt)
+    (good_if (bytes_eq word (codes "tasks")) (ends 3 (CallLine (View (ListTasks None))) words) (Err (Word 2)) (good_end 3 (CallLine (View (ListTasks None))) words refl refl) tt)
 
 good_turns : (n : ℕ) (words : List (List ℕ)) (b : Bool) → is_budget n ≡ b → IsGood (cond b (ends 3 (SettleLine n) words) (Err (Word 2)))
 good_turns n words true e = good_end 3 (SettleLine n) words e refl

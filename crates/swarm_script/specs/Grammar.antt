@@ -1,5 +1,5 @@
 -- The grammar of a script's lines, and what a line says by it.
-use Rattle.std.specs.Prelude.{ℕ, ◌≡◌, ◌⊎◌, ◌<◌, ◌≤◌, ◌-◌, List, [], ◌∷◌, ◌++◌, ◌^◌, length, take, codes, decimal, true, not, MatchBool, Result, Ok, Err}
+use Rattle.std.specs.Prelude.{ℕ, ◌≡◌, ◌⊎◌, ◌<◌, ◌≤◌, ◌-◌, List, [], ◌∷◌, ◌++◌, ◌^◌, length, take, codes, decimal, true, not, MatchBool, Result, Ok, Err, None}
 use Rattle.swarm_objects.specs.declared.calls.Call.TheVariants.{View}
 use Rattle.swarm_objects.specs.declared.calls.Query.TheVariants.{ListNodes, ListTasks}
 use Rattle.swarm_script.specs.Names.{is_name}
@@ -31,7 +31,7 @@ IsCreateOf words line =
 abbrev pub IsList : List (List ℕ) → Line → Type 0
 IsList words line =
     ((words ≡ codes "list" ∷ codes "nodes" ∷ []) × (line ≡ Called (View ListNodes))) ⊎
-    ((words ≡ codes "list" ∷ codes "tasks" ∷ []) × (line ≡ Called (View ListTasks)))
+    ((words ≡ codes "list" ∷ codes "tasks" ∷ []) × (line ≡ Called (View (ListTasks None))))
 
 -- `settle`, which has 100,000 turns
 abbrev pub IsSettle : List (List ℕ) → Line → Type 0

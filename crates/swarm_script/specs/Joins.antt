@@ -27,24 +27,3 @@ default_draft = record {
 -- one node of this name joins
 abbrev pub join_call : List ℕ → Call
 join_call name = Txn (CreateNode name default_draft ∷ [])
-
-abbrev pub is_worker : NodeRole → Bool
-is_worker Worker = true
-is_worker Manager = false
-
-abbrev pub is_active : Availability → Bool
-is_active Active = true
-is_active Pause = false
-is_active Drain = false
-
-abbrev pub has_no_labels : List (List ℕ × List ℕ) → Bool
-has_no_labels [] = true
-has_no_labels (label ∷ labels) = false
-
--- each field has its default, so that no field need be written
-abbrev pub is_default_draft : NodeDraft → Bool
-is_default_draft draft =
-    has_no_labels draft.labels && (is_worker draft.role && (is_active draft.availability
-    && (nat_eq draft.cpu 4000 && (nat_eq draft.mem 8589934592
-    && (bytes_eq draft.os (codes "linux") && (bytes_eq draft.arch (codes "amd64")
-    && (has_no_labels draft.engine && not draft.remote)))))))

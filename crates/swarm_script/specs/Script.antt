@@ -70,7 +70,7 @@ abbrev pub after_list : List (List ℕ) → Result Line LineFault
 after_list [] = Err Cut
 after_list (word ∷ words) =
     if bytes_eq word (codes "nodes") then ends 3 (Called (View ListNodes)) words
-    else (if bytes_eq word (codes "tasks") then ends 3 (Called (View ListTasks)) words else Err (Word 2))
+    else (if bytes_eq word (codes "tasks") then ends 3 (Called (View (ListTasks None))) words else Err (Word 2))
 
 -- a number of turns that a settle line may have
 abbrev pub is_budget : ℕ → Bool

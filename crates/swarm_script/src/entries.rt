@@ -29,6 +29,7 @@ fn put_op(text: &mut String, op: &Op) -> Result<(), AllocError>
             text.push_str(name.as_str())?;
             put_mode(text, draft.spec.mode)
         }
+        _ => Ok(()),
     }
 }
 
@@ -62,12 +63,13 @@ fn put_call(text: &mut String, call: &Call) -> Result<(), AllocError>
     match call {
         Call::Txn(ops) => put_ops(text, ops.as_slice()),
         Call::View(Query::ListNodes) => text.push_str("list nodes"),
-        Call::View(Query::ListTasks) => text.push_str("list tasks"),
+        Call::View(Query::ListTasks(None)) => text.push_str("list tasks"),
         Call::Settle(budget) => {
             text.push_str("settle")?;
             put_budget(text, *budget)
         }
         Call::Halt => text.push_str("halt"),
+        _ => Ok(()),
     }
 }
 

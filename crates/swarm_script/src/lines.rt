@@ -212,7 +212,7 @@ fn read_list(words: &mut Words<'_>) -> Result<Line, LineFault>
             read_end(words, 3, Line::Call(Call::View(Query::ListNodes)))
         }
         Some(word) if word == b"tasks".as_slice() => {
-            read_end(words, 3, Line::Call(Call::View(Query::ListTasks)))
+            read_end(words, 3, Line::Call(Call::View(Query::ListTasks(None))))
         }
         Some(_) => Err(LineFault::Word(2)),
         None => Err(LineFault::Cut),

@@ -1,5 +1,5 @@
 -- A settle line: its duties, and then the call that asks.
-use Rattle.std.proofs.Common.{◌≡◌, ℕ, zero, suc, ◌+◌, ◌-◌, ◌≤◌, ◌<◌, List, [], ◌∷◌, ◌++◌, length, take, Bool, true, false, ◌||◌, refl, Option, Result, Ok, Err, sym, ◌∙◌, ap, subst, append_assoc, arith}
+use Rattle.std.proofs.Common.{◌≡◌, ℕ, zero, suc, ◌+◌, ◌-◌, ◌≤◌, ◌<◌, List, [], ◌∷◌, ◌++◌, length, take, Bool, true, false, ◌||◌, refl, Option, Some, None, Result, Ok, Err, sym, ◌∙◌, ap, subst, append_assoc, arith}
 use Rattle.std.specs.List.{flat_map, list_any}
 use Rattle.std.specs.Io.KnownBytes.{Appends}
 use Rattle.std.proofs.lemmas.Grind.{flat_map-append}
@@ -7,15 +7,13 @@ use Rattle.std.proofs.lemmas.List.{append-nil, length-append, take-append-le, ta
 use Rattle.std.proofs.lemmas.List.Folds.{list_any-append}
 use Rattle.swarm_objects.specs.World.{World, empty_world}
 use Rattle.swarm_objects.specs.Calls.{most_entries}
-use Rattle.swarm_objects.specs.Duties.{settle_answer}
+use Rattle.swarm_objects.specs.Duties.{settle_answer, duty_named}
 use Rattle.swarm_objects.specs.History.{replay, replay_from, replies_from, step_world}
 use Rattle.swarm_objects.specs.Outside.{AppendsPrefix}
 use Rattle.swarm_objects.specs.declared.calls.Call.{Call}
 use Rattle.swarm_objects.specs.declared.calls.Call.TheVariants.{Settle}
 use Rattle.swarm_objects.specs.declared.calls.Entry.{Entry}
 use Rattle.swarm_objects.specs.declared.duties.Duty.{Duty}
-use Rattle.swarm_objects.specs.declared.duties.Settle.{Settle as Answer}
-use Rattle.swarm_objects.specs.declared.duties.Settle.TheVariants.{Busy, Settled}
 use Rattle.swarm_objects.proofs.Histories.{replay-snoc, replay-append}
 use Rattle.swarm_print.specs.Texts.{reply_text}
 use Rattle.swarm_script.specs.declared.Line.{Line}
@@ -28,34 +26,34 @@ use Rattle.swarm_top.proofs.Readings.{replies-append}
 
 -- Duties put nothing out, and none is refused.
 
-settle_step : (w : World) (n : ℕ) (answer : Answer) → settle_answer w ≡ answer → settle_entries (suc n) w ≡ elim answer [ Busy duty ↦ duty_entry duty ∷ settle_entries n (step_world w (duty_entry duty)) | Settled ↦ [] ]
-settle_step w n answer e = ap (λ (a : Answer). elim a [ Busy duty ↦ duty_entry duty ∷ settle_entries n (step_world w (duty_entry duty)) | Settled ↦ [] ]) e
+settle_step : (w : World) (n : ℕ) (named : Option Duty) → duty_named (settle_answer w) ≡ named → settle_entries (suc n) w ≡ elim named [ Some duty ↦ duty_entry duty ∷ settle_entries n (step_world w (duty_entry duty)) | None ↦ [] ]
+settle_step w n named e = ap (λ (o : Option Duty). elim o [ Some duty ↦ duty_entry duty ∷ settle_entries n (step_world w (duty_entry duty)) | None ↦ [] ]) e
 
-pub busy_step : (w : World) (n : ℕ) (duty : Duty) → settle_answer w ≡ Busy duty → settle_entries (suc n) w ≡ duty_entry duty ∷ settle_entries n (step_world w (duty_entry duty))
-busy_step w n duty e = settle_step w n (Busy duty) e
+pub busy_step : (w : World) (n : ℕ) (duty : Duty) → duty_named (settle_answer w) ≡ Some duty → settle_entries (suc n) w ≡ duty_entry duty ∷ settle_entries n (step_world w (duty_entry duty))
+busy_step w n duty e = settle_step w n (Some duty) e
 
-pub settled_step : (w : World) (n : ℕ) → settle_answer w ≡ Settled → settle_entries n w ≡ []
+pub settled_step : (w : World) (n : ℕ) → duty_named (settle_answer w) ≡ None → settle_entries n w ≡ []
 settled_step w zero e = refl
-settled_step w (suc n) e = settle_step w n Settled e
+settled_step w (suc n) e = settle_step w n None e
 
-silent_next : (k n : ℕ) (w : World) (answer : Answer) → settle_answer w ≡ answer → ((v : World) → flat_map reply_text (replies_from v (take k (settle_entries n v))) ≡ []) →
+silent_next : (k n : ℕ) (w : World) (named : Option Duty) → duty_named (settle_answer w) ≡ named → ((v : World) → flat_map reply_text (replies_from v (take k (settle_entries n v))) ≡ []) →
     flat_map reply_text (replies_from w (take (suc k) (settle_entries (suc n) w))) ≡ []
-silent_next k n w (Busy duty) e rest = ap (λ (es : List Entry). flat_map reply_text (replies_from w (take (suc k) es))) (busy_step w n duty e) ∙ rest (step_world w (duty_entry duty))
-silent_next k n w Settled e rest = ap (λ (es : List Entry). flat_map reply_text (replies_from w (take (suc k) es))) (settled_step w (suc n) e)
+silent_next k n w (Some duty) e rest = ap (λ (es : List Entry). flat_map reply_text (replies_from w (take (suc k) es))) (busy_step w n duty e) ∙ rest (step_world w (duty_entry duty))
+silent_next k n w None e rest = ap (λ (es : List Entry). flat_map reply_text (replies_from w (take (suc k) es))) (settled_step w (suc n) e)
 
 silent : (k n : ℕ) (w : World) → flat_map reply_text (replies_from w (take k (settle_entries n w))) ≡ []
 silent zero n w = refl
 silent (suc k) zero w = refl
-silent (suc k) (suc n) w = silent_next k n w (settle_answer w) refl (λ v. silent k n v)
+silent (suc k) (suc n) w = silent_next k n w (duty_named (settle_answer w)) refl (λ v. silent k n v)
 
-unrefused_next : (n : ℕ) (w : World) (answer : Answer) → settle_answer w ≡ answer → ((v : World) → list_any is_refused (replies_from v (settle_entries n v)) ≡ false) →
+unrefused_next : (n : ℕ) (w : World) (named : Option Duty) → duty_named (settle_answer w) ≡ named → ((v : World) → list_any is_refused (replies_from v (settle_entries n v)) ≡ false) →
     list_any is_refused (replies_from w (settle_entries (suc n) w)) ≡ false
-unrefused_next n w (Busy duty) e rest = ap (λ (es : List Entry). list_any is_refused (replies_from w es)) (busy_step w n duty e) ∙ rest (step_world w (duty_entry duty))
-unrefused_next n w Settled e rest = ap (λ (es : List Entry). list_any is_refused (replies_from w es)) (settled_step w (suc n) e)
+unrefused_next n w (Some duty) e rest = ap (λ (es : List Entry). list_any is_refused (replies_from w es)) (busy_step w n duty e) ∙ rest (step_world w (duty_entry duty))
+unrefused_next n w None e rest = ap (λ (es : List Entry). list_any is_refused (replies_from w es)) (settled_step w (suc n) e)
 
 unrefused : (n : ℕ) (w : World) → list_any is_refused (replies_from w (settle_entries n w)) ≡ false
 unrefused zero w = refl
-unrefused (suc n) w = unrefused_next n w (settle_answer w) refl (λ v. unrefused n v)
+unrefused (suc n) w = unrefused_next n w (duty_named (settle_answer w)) refl (λ v. unrefused n v)
 
 silent_all : (n : ℕ) (w : World) → flat_map reply_text (replies_from w (settle_entries n w)) ≡ []
 silent_all n w =
@@ -78,7 +76,7 @@ part_silent w (SettleLine budget) k inside =
 pub settling_start : (budget : ℕ) (H : List Entry) → Settling budget budget H H
 settling_start budget H = record { taken = []; history = sym (append-nil H); whole = refl }
 
-pub settling_more : (budget left : ℕ) (old now new : List Entry) (duty : Duty) → Settling budget (suc left) old now → settle_answer (replay now) ≡ Busy duty → new ≡ now ++ duty_entry duty ∷ [] → Settling budget left old new
+pub settling_more : (budget left : ℕ) (old now new : List Entry) (duty : Duty) → Settling budget (suc left) old now → duty_named (settle_answer (replay now)) ≡ Some duty → new ≡ now ++ duty_entry duty ∷ [] → Settling budget left old new
 settling_more budget left old now new duty s busy e = record {
   taken = s.taken ++ duty_entry duty ∷ [];
   history = e ∙ ap (λ (l : List Entry). l ++ duty_entry duty ∷ []) s.history ∙ append_assoc old s.taken (duty_entry duty ∷ []);
@@ -90,7 +88,7 @@ settling_more budget left old now new duty s busy e = record {
 all_taken : (budget left : ℕ) (old now : List Entry) → Settling budget left old now → settle_entries left (replay now) ≡ [] → now ≡ old ++ settle_entries budget (replay old)
 all_taken budget left old now s none = s.history ∙ ap (λ (l : List Entry). old ++ l) (sym (s.whole ∙ ap (λ (l : List Entry). s.taken ++ l) none ∙ append-nil s.taken))
 
-pub settling_settled : (budget left : ℕ) (old now : List Entry) → Settling budget left old now → settle_answer (replay now) ≡ Settled → now ≡ old ++ settle_entries budget (replay old)
+pub settling_settled : (budget left : ℕ) (old now : List Entry) → Settling budget left old now → duty_named (settle_answer (replay now)) ≡ None → now ≡ old ++ settle_entries budget (replay old)
 settling_settled budget left old now s e = all_taken budget left old now s (settled_step (replay now) left e)
 
 pub settling_end : (budget : ℕ) (old now : List Entry) → Settling budget 0 old now → now ≡ old ++ settle_entries budget (replay old)
@@ -103,7 +101,7 @@ taken_part budget left old now s =
 pub settling_no_memory : (budget left : ℕ) (old now : List Entry) → Settling budget left old now → StopsSettling NoMemory budget old now
 settling_no_memory budget left old now s = (length s.taken, s.history ∙ ap (λ (l : List Entry). old ++ l) (taken_part budget left old now s))
 
-pub settling_full : (budget left : ℕ) (old now : List Entry) (duty : Duty) → Settling budget (suc left) old now → settle_answer (replay now) ≡ Busy duty → length now ≡ most_entries → StopsSettling Full budget old now
+pub settling_full : (budget left : ℕ) (old now : List Entry) (duty : Duty) → Settling budget (suc left) old now → duty_named (settle_answer (replay now)) ≡ Some duty → length now ≡ most_entries → StopsSettling Full budget old now
 settling_full budget left old now duty s busy count =
     let one = ap (λ (l : List Entry). length l) (s.whole ∙ ap (λ (l : List Entry). s.taken ++ l) (busy_step (replay now) left duty busy)) in (
       length s.taken,

@@ -2,6 +2,7 @@
 use Rattle.std.specs.Prelude.{ℕ, ◌≡◌, ◌+◌, ◌≤◌, ◌<◌, take, List, [], ◌∷◌, ◌++◌, length, Bool, true, false, not, if◌then◌else◌, Option, Some, None, Result, Ok, Err, ⊤}
 use Rattle.std.specs.List.{flat_map, list_any}
 use Rattle.std.specs.Io.KnownBytes.{Appends}
+use Rattle.swarm_objects.specs.CanDo.{can_do}
 use Rattle.swarm_objects.specs.Calls.{most_entries, is_halt}
 use Rattle.swarm_objects.specs.History.{replay, replies_from}
 use Rattle.swarm_objects.specs.Outside.{AppendsPrefix}
@@ -136,6 +137,12 @@ abbrev pub line_runs : Line → Bool
 line_runs Blank = true
 line_runs (CallLine call) = not (is_halt call)
 line_runs (SettleLine budget) = true
+
+-- a line's call can be done
+abbrev pub line_can : Line → Bool
+line_can Blank = true
+line_can (CallLine call) = can_do call
+line_can (SettleLine budget) = true
 
 -- A settle line's duties.
 

@@ -1,17 +1,16 @@
 -- The history that a single caller makes of a script's lines, and what it writes of a history.
-use Rattle.std.specs.Prelude.{ℕ, zero, suc, List, [], ◌∷◌, ◌++◌, codes, Bool, true, false}
+use Rattle.std.specs.Prelude.{ℕ, zero, suc, List, [], ◌∷◌, ◌++◌, codes, Bool, true, false, Some, None}
 use Rattle.std.specs.List.{flat_map, list_any}
 use Rattle.swarm_objects.specs.World.{World, empty_world}
-use Rattle.swarm_objects.specs.Duties.{settle_answer}
+use Rattle.swarm_objects.specs.Duties.{settle_answer, duty_named}
 use Rattle.swarm_objects.specs.History.{replay_from, replies, step_world}
 use Rattle.swarm_objects.specs.declared.calls.Call.{Call}
 use Rattle.swarm_objects.specs.declared.calls.Call.TheVariants.{Halt, Settle}
 use Rattle.swarm_objects.specs.declared.calls.Entry.{Entry}
 use Rattle.swarm_objects.specs.declared.calls.What.TheVariants.{Call as Called, Duty as WhatDuty}
 use Rattle.swarm_objects.specs.declared.duties.Duty.{Duty}
-use Rattle.swarm_objects.specs.declared.duties.Settle.TheVariants.{Busy, Settled}
 use Rattle.swarm_objects.specs.declared.replies.Reply.{Reply}
-use Rattle.swarm_objects.specs.declared.replies.Reply.TheVariants.{Txn, Refused, View, Settle as SettleReply, HaltDone, Did}
+use Rattle.swarm_objects.specs.declared.replies.Reply.TheVariants.{Refused}
 use Rattle.swarm_print.specs.Texts.{reply_text}
 use Rattle.swarm_script.specs.Journal.{entry_text}
 use Rattle.swarm_script.specs.declared.Line.{Line}
@@ -28,7 +27,7 @@ duty_entry duty = record { by = 0; what = WhatDuty duty }
 -- the duties that the settle test names one after the other, at most so many, until it names none
 abbrev pub settle_entries : ℕ → World → List Entry
 settle_entries zero w = []
-settle_entries (suc n) w = elim (settle_answer w) [ Busy duty ↦ duty_entry duty ∷ settle_entries n (step_world w (duty_entry duty)) | Settled ↦ [] ]
+settle_entries (suc n) w = elim (duty_named (settle_answer w)) [ Some duty ↦ duty_entry duty ∷ settle_entries n (step_world w (duty_entry duty)) | None ↦ [] ]
 
 -- the entries that a line makes in a world: a settle line takes duties, and then asks
 abbrev pub line_entries : World → Line → List Entry
@@ -58,11 +57,7 @@ journal history = codes "swarm journal 1\n" ++ flat_map entry_text history
 
 abbrev pub is_refused : Reply → Bool
 is_refused (Refused refusal) = true
-is_refused (Txn ids) = false
-is_refused (View view) = false
-is_refused (SettleReply budget answer) = false
-is_refused HaltDone = false
-is_refused Did = false
+is_refused _ = false
 
 -- a reply is a refusal
 abbrev pub has_refusal : List Entry → Bool

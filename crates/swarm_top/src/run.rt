@@ -1,8 +1,9 @@
 // The calls of a single caller on the plain world, and their history.
-ghost use Rattle.std.specs.Prelude.{◌≡◌, ◌+◌, ◌<◌, ◌≤◌, [], ◌∷◌, ◌++◌, true, false, IfOk, IfErr, OnOk, OnErr, vec_len, vec_capacity};
+ghost use Rattle.std.specs.Prelude.{◌≡◌, ◌+◌, ◌<◌, ◌≤◌, [], ◌∷◌, ◌++◌, true, false, Some, IfOk, IfErr, OnOk, OnErr, vec_len, vec_capacity};
 ghost use Rattle.std.specs.List.{list_all};
 ghost use Rattle.swarm_objects.specs.Calls.{is_halt, outcome};
-ghost use Rattle.swarm_objects.specs.Duties.{settle_answer};
+ghost use Rattle.swarm_objects.specs.CanDo.{can_do};
+ghost use Rattle.swarm_objects.specs.Duties.{duty_named, settle_answer};
 ghost use Rattle.swarm_objects.specs.History.{IsLegal, replay};
 ghost use Rattle.swarm_objects.specs.World.{IsSmall};
 ghost use Rattle.swarm_plain.specs.Plain.{world_of, Meets};
@@ -13,7 +14,7 @@ ghost use Rattle.swarm_top.specs.Kept.{AppendsCall, AppendsDuty, AppendsNothing}
 use std::alloc::{AllocError, Global};
 use std::marker::Model;
 use swarm_duties::{do_duty, settle, settle_call};
-use swarm_objects::{Call, Duty, Entry, NoMemory, Reply, Settle, What};
+use swarm_objects::{Call, Duty, Entry, NoMemory, Reply, What};
 use swarm_plain::{HISTORY, Plain};
 
 /// Why a call is no entry.
@@ -68,6 +69,7 @@ impl Run {
     /// Appends caller 0's call and answers it, or says why it could not. The journal must be able to write the call.
     pub fn call(&mut self, call: Call) -> Result<Reply, Unanswered>
         requires running { is_halt call ≡ false }
+        requires can { can_do call ≡ true }
         requires text { call_has_text call ≡ true }
         ensures ok { IfOk result (λ reply. AppendsCall self.old call reply self.new) }
         ensures err { IfErr result (λ cause. AppendsNothing cause self.old self.new) }
@@ -94,16 +96,19 @@ impl Run {
         }
     }
 
-    /// Whether the world has settled, and what is to be done if it hasn't.
-    pub fn settle(&self) -> Result<Settle, NoMemory>
-        ensures { IfOk result (λ answer. answer ≡ settle_answer (replay self.now)) }
+    /// The duty that the settle test names, if it names one.
+    pub fn next_duty(&self) -> Result<Option<Duty>, NoMemory>
+        ensures { IfOk result (λ named. named ≡ duty_named (settle_answer (replay self.now))) }
     {
-        settle(&self.plain)
+        match settle(&self.plain) {
+            Ok(answer) => Ok(answer.duty()),
+            Err(NoMemory) => Err(NoMemory),
+        }
     }
 
     /// Does the duty that the settle test names, as caller 0, or says why it could not.
     pub fn turn(&mut self, duty: Duty) -> Result<(), Unanswered>
-        requires { settle_answer (replay self.old) ≡ Settle.Busy duty }
+        requires { duty_named (settle_answer (replay self.old)) ≡ Some duty }
         ensures ok { OnOk result (AppendsDuty self.old duty self.new) }
         ensures err { IfErr result (λ cause. AppendsNothing cause self.old self.new) }
     {

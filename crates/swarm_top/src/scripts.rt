@@ -2,13 +2,14 @@
 ghost use Rattle.std.specs.Prelude.{◌≡◌, [], ◌++◌, ◌≤◌, true, false, IfOk, OnOk, IfErr, Ok, Err};
 ghost use Rattle.std.specs.Io.KnownBytes.{Appends};
 ghost use Rattle.swarm_objects.specs.Calls.{is_halt};
+ghost use Rattle.swarm_objects.specs.CanDo.{can_do};
 ghost use Rattle.swarm_objects.specs.History.{replay};
 ghost use Rattle.swarm_objects.specs.Outside.{Rose, PutsPiece, HasCause};
 ghost use Rattle.swarm_script.specs.Journal.{call_has_text, line_has_text};
 ghost use Rattle.swarm_top.specs.Reading.{bad_line, meaning_at, in_text};
 ghost use Rattle.swarm_top.specs.Serial.{is_refused, settle_entries};
 ghost use Rattle.swarm_top.specs.Ends.{end_of};
-ghost use Rattle.swarm_top.specs.Parts.{StopsSettling, ending_of, whole_ending, DoesLine, IsRead, TellsEnding, SaysLine, line_runs};
+ghost use Rattle.swarm_top.specs.Parts.{StopsSettling, ending_of, whole_ending, DoesLine, IsRead, TellsEnding, SaysLine, line_can, line_runs};
 ghost use Rattle.swarm_script.specs.Script.{meaning_of};
 
 use crate::endings::Ending;
@@ -16,7 +17,7 @@ use crate::faults::{Fault, bad_line};
 use crate::input::{Input, ReadFault};
 use crate::run::{Run, Unanswered};
 use std::alloc::Global;
-use swarm_objects::{Call, Failed, NoMemory, Reply, Settle, Sink, Source};
+use swarm_objects::{Call, Failed, NoMemory, Reply, Sink, Source};
 use swarm_print::reply_text;
 use swarm_script::{Line, LineFault, read_line};
 
@@ -62,6 +63,7 @@ fn put_text<O: Sink>(out: &mut O, text: &[u8]) -> Result<(), Failed>
 // Makes a line's call and puts the text of its reply. Says whether it was refused, or how the run ends.
 fn answer<O: Sink>(alloc: Global, run: &mut Run, out: &mut O, call: Call) -> Result<bool, Ending>
     requires running { is_halt call ≡ false }
+    requires can { can_do call ≡ true }
     requires text { call_has_text call ≡ true }
     ensures line { DoesLine result (Line.Call call) run.old run.new (O.written out.old) (O.written out.new) }
     ensures later { O.faults out.old ≤ O.faults out.new }
@@ -88,9 +90,9 @@ fn take_duties(run: &mut Run, budget: u64) -> Result<(), Ending>
     ensures err { IfErr result (λ ending. StopsSettling ending budget run.old run.new) }
 {
     for _ in 0..budget {
-        let duty = match run.settle() {
-            Ok(Settle::Busy(duty)) => duty,
-            Ok(Settle::Settled) => return Ok(()),
+        let duty = match run.next_duty() {
+            Ok(Some(duty)) => duty,
+            Ok(None) => return Ok(()),
             Err(NoMemory) => return Err(Ending::NoMemory),
         };
         match run.turn(duty) {
@@ -118,6 +120,7 @@ fn settle<O: Sink>(alloc: Global, run: &mut Run, out: &mut O, budget: u64) -> Re
 // Does what a line says. Says whether a call of it was refused, or how the run ends.
 fn take_line<O: Sink>(alloc: Global, run: &mut Run, out: &mut O, said: Line) -> Result<bool, Ending>
     requires running { line_runs said ≡ true }
+    requires can { line_can said ≡ true }
     requires text { line_has_text said ≡ true }
     ensures line { DoesLine result said run.old run.new (O.written out.old) (O.written out.new) }
     ensures later { O.faults out.old ≤ O.faults out.new }
@@ -135,6 +138,7 @@ fn say(alloc: Global, number: u64, line: &[u8]) -> Result<Line, Ending>
     ensures says { SaysLine number (meaning_of line.now) result }
     ensures text { IfOk result (λ said. line_has_text said ≡ true) }
     ensures running { IfOk result (λ said. line_runs said ≡ true) }
+    ensures can { IfOk result (λ said. line_can said ≡ true) }
 {
     match read_line(alloc, line) {
         Ok(said) => Ok(said),

@@ -39,7 +39,7 @@ invariant_of-self-2 c =
     let kept = c.self.invariant in
     let before = world_of c.self.inside.plain in
     let after = world_of c.answer-reply.new.plain in
-    let went = going before after c.self.inside.history.items c.args.call c.answer-reply.result kept.legal kept.world kept.running c.requires.running (omega arith) c.answer-reply.ensures c.if-self-before.false in
+    let went = going before after c.self.inside.history.items c.args.call c.answer-reply.result kept.legal kept.world kept.running c.requires.running c.requires.can (omega arith) c.answer-reply.ensures c.if-self-before.false in
     let more = c.in-Ok-push.ensures.items ∙ ap (λ (H : List Entry). H ++ entry_of c.args.call ∷ []) c.reserve.ensures.items in
     record {
       legal = subst IsLegal (sym more) went.legal;
