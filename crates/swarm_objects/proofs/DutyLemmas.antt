@@ -1,6 +1,6 @@
 -- What the settle test names is to be done.
-use Rattle.std.proofs.Common.{◌≡◌, ℕ, Bool, true, false, cond, eqb, ltb, ◌⊎◌, inl, inr, List, [], ◌∷◌, length, Option, Some, None, refl, sym, ap, ◌∙◌, subst, arith}
-use Rattle.std.specs.Prelude.{flat_map, ◌||◌, ◌&&◌}
+use Rattle.std.proofs.Common.{◌≡◌, ℕ, Bool, true, false, cond, eqb, ltb, inl, inr, List, [], ◌∷◌, length, Option, Some, None, refl, sym, ap, ◌∙◌, subst, arith}
+use Rattle.std.specs.Prelude.{◌||◌, ◌&&◌}
 use Rattle.std.specs.List.{list_any}
 use Rattle.std.proofs.lemmas.Bool.Decides.{nat_tests}
 use Rattle.std.proofs.lemmas.Slice.Eq.{bytes_eq-Decides}
@@ -21,7 +21,7 @@ use Rattle.swarm_objects.specs.declared.changes.Role.{Role}
 use Rattle.swarm_objects.specs.declared.changes.Role.TheVariants as role
 use Rattle.swarm_objects.specs.declared.duties.Duty.{Duty}
 use Rattle.swarm_objects.specs.declared.duties.Duty.TheVariants as duty
-use Rattle.swarm_objects.specs.declared.duties.Settle.TheVariants.{Busy, Settled}
+use Rattle.swarm_objects.specs.declared.duties.Settle.TheVariants.{Busy}
 use Rattle.swarm_objects.specs.declared.nodes.Node.{Node}
 use Rattle.swarm_objects.specs.declared.services.Mode.{Mode}
 use Rattle.swarm_objects.specs.declared.services.Mode.TheVariants as mode

@@ -1,0 +1,12 @@
+pub mod Words
+pub mod Machines
+pub mod Fields
+pub mod Tables
+pub mod Drafts
+pub mod Pieces
+pub mod Calls
+pub mod Duties
+pub mod Lines
+pub mod Texts
+pub mod Entries
+pub mod HasText
