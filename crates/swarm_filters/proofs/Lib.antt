@@ -10,3 +10,4 @@ pub mod Texts
 pub mod Constraints
 pub mod KeyTexts
 pub mod Written
+pub mod Examples
