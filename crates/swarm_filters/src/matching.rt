@@ -1,7 +1,7 @@
 // Which nodes a constraint admits.
 ghost use Rattle.std.specs.Prelude.{◌≡◌, decimal};
 ghost use Rattle.std.specs.Str.{str_eq_ignore_ascii_case};
-ghost use Rattle.swarm_objects.specs.Constraints.{has_value as value_at, label_value, meets, role_word as word_of};
+ghost use Rattle.swarm_objects.specs.Constraints.{has_value as value_at, label_value, meets};
 
 use itoa::Buffer;
 use swarm_objects::{Constraint, Key, Labels, Node, NodeRole};
@@ -20,7 +20,7 @@ fn has_value(node: &Node, key: &Key, value: &str) -> bool
     match key {
         Key::NodeId => is_number(node.id, value),
         Key::Hostname => is_same_text(node.name.as_str(), value),
-        Key::Role => is_same_text(role_word(node.role), value),
+        Key::Role => is_same_text(node.role.as_str(), value),
         Key::Os => is_same_text(node.os.as_str(), value),
         Key::Arch => is_same_text(node.arch.as_str(), value),
         Key::Label(name) => is_same_text(value_of(&node.labels, name.as_str()), value),
@@ -40,15 +40,6 @@ fn is_number(number: u64, text: &str) -> bool
     ensures { result ≡ str_eq_ignore_ascii_case (decimal number) text.now }
 {
     is_same_text(Buffer::new().format(number), text)
-}
-
-fn role_word(role: NodeRole) -> &'static str
-    ensures { result.now ≡ word_of role }
-{
-    match role {
-        NodeRole::Worker => "worker",
-        NodeRole::Manager => "manager",
-    }
 }
 
 // The value of a label, or the empty one.

@@ -15,6 +15,7 @@ use Rattle.swarm_objects.specs.declared.nodes.NodeRole.{NodeRole}
 use Rattle.swarm_objects.specs.declared.tasks.TaskState.{TaskState}
 use Rattle.swarm_objects.specs.declared.tasks.TaskState.TheVariants as task_state
 use Rattle.swarm_objects.specs.declared.watches.Filter.{Filter}
+use Rattle.swarm_objects.specs.ValueTexts.{state_text}
 use Rattle.swarm_grammar.specs.declared.fields.Field.{Field}
 use Rattle.swarm_grammar.specs.declared.fields.Head.{Head}
 use Rattle.swarm_grammar.specs.declared.fields.Head.TheVariants as head
@@ -31,7 +32,7 @@ use Rattle.swarm_grammar.specs.declared.states.Verb.{Verb}
 use Rattle.swarm_grammar.specs.declared.states.Verb.TheVariants as verb
 use Rattle.swarm_filters.specs.Grammar.{is_name}
 use Rattle.swarm_grammar.specs.Words.{number_of, ◌>>=◌}
-use Rattle.swarm_grammar.specs.Calls.{call_grammar, call_named, call_numbered, is_budget, is_empty, may_write, op_of, state_of, state_text, step, usual_budget, version_of, whole, with_name, with_session}
+use Rattle.swarm_grammar.specs.Calls.{call_grammar, call_named, call_numbered, is_budget, is_empty, may_write, op_of, state_of, step, usual_budget, version_of, whole, with_name, with_session}
 use Rattle.swarm_grammar.specs.HasText.{call_has_text, draft_has_text, has_word, have_words, is_address, is_byte, is_number, is_watched, keys_rise, node_has_text, op_has_text, query_has_text, where_some}
 use Rattle.swarm_grammar.specs.Machines.{IsSaid, run}
 use Rattle.swarm_grammar.specs.Pieces.{joined, node_pieces, old_node_pieces, service_pieces, session_pieces, settings_pieces}

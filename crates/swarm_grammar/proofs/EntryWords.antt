@@ -30,6 +30,7 @@ use Rattle.swarm_objects.specs.declared.templates.End.TheVariants as end
 use Rattle.swarm_objects.specs.declared.templates.Key.{Key}
 use Rattle.swarm_objects.specs.declared.templates.Key.TheVariants as key
 use Rattle.swarm_objects.specs.declared.templates.RestartCondition.TheVariants as condition
+use Rattle.swarm_objects.specs.ValueTexts.{state_text}
 use Rattle.swarm_grammar.specs.declared.fields.Field.{Field}
 use Rattle.swarm_grammar.specs.declared.fields.Field.TheVariants as field
 use Rattle.swarm_grammar.specs.declared.fields.NumberField.{NumberField}
@@ -38,7 +39,7 @@ use Rattle.swarm_filters.specs.Spellings.{key_has_text}
 use Rattle.swarm_filters.specs.Grammar.{is_value}
 use Rattle.swarm_filters.specs.Grammar.{is_name, sign_of}
 use Rattle.swarm_filters.specs.Spellings.{key_text}
-use Rattle.swarm_grammar.specs.Calls.{is_budget, is_empty, state_text, usual_budget}
+use Rattle.swarm_grammar.specs.Calls.{is_budget, is_empty, usual_budget}
 use Rattle.swarm_grammar.specs.Fields.{field_text, number_word, port_text, udp_text}
 use Rattle.swarm_grammar.specs.HasText.{call_has_text, draft_has_text, duty_has_text, has_text, has_word, have_words, is_address, is_byte, is_number, is_port, is_watched, keys_rise, node_has_text, op_has_text, query_has_text, what_has_text, where_some}
 use Rattle.swarm_grammar.specs.Pieces.{joined, node_pieces, old_node_pieces, service_pieces, session_pieces, settings_pieces}

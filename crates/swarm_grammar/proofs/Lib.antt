@@ -31,3 +31,4 @@ pub mod EntryWords
 pub mod EntryLaws
 pub mod Fits
 pub mod Fitting
+pub mod Running

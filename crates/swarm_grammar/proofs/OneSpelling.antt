@@ -10,6 +10,7 @@ use Rattle.swarm_objects.specs.declared.calls.Call.TheVariants as call
 use Rattle.swarm_objects.specs.declared.calls.Query.TheVariants as query
 use Rattle.swarm_objects.specs.declared.nodes.Kind.TheVariants as kind
 use Rattle.swarm_objects.specs.declared.watches.Filter.{Filter}
+use Rattle.swarm_objects.specs.ValueTexts.{state_text}
 use Rattle.swarm_grammar.specs.declared.fields.Field.{Field}
 use Rattle.swarm_grammar.specs.declared.fields.Head.{Head}
 use Rattle.swarm_grammar.specs.declared.fields.Head.TheVariants as head
@@ -31,7 +32,7 @@ use Rattle.swarm_grammar.specs.declared.states.State.TheVariants as state
 use Rattle.swarm_grammar.specs.declared.states.Verb.{Verb}
 use Rattle.swarm_grammar.specs.declared.states.Verb.TheVariants as verb
 use Rattle.swarm_grammar.specs.Words.{name_of, number_of, ◌>>=◌}
-use Rattle.swarm_grammar.specs.Calls.{all_of, begins_version, behind_call, behind_op, budget_of, call_grammar, call_named, call_numbered, call_opening, call_second, filter_of, in_fields, in_operation, is_budget, is_empty, may_write, next_field, node_call, noun_of, op_of, opening, second, state_of, state_text, step, subnet_of, table_of, task_states, usual_budget, version_of, versioned, whole, with_id, with_name, with_session}
+use Rattle.swarm_grammar.specs.Calls.{all_of, begins_version, behind_call, behind_op, budget_of, call_grammar, call_named, call_numbered, call_opening, call_second, filter_of, in_fields, in_operation, is_budget, is_empty, may_write, next_field, node_call, noun_of, op_of, opening, second, state_of, step, subnet_of, table_of, task_states, usual_budget, version_of, versioned, whole, with_id, with_name, with_session}
 use Rattle.swarm_grammar.specs.Fields.{field_of, field_text}
 use Rattle.swarm_grammar.specs.Machines.{IsSaid, run}
 use Rattle.swarm_grammar.specs.Tables.{belongs, comes_before, follows, is_default, may_stand}

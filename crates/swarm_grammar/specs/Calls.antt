@@ -11,6 +11,7 @@ use Rattle.swarm_objects.specs.declared.nodes.Kind.TheVariants as kind
 use Rattle.swarm_objects.specs.declared.tasks.TaskState.{TaskState}
 use Rattle.swarm_objects.specs.declared.tasks.TaskState.TheVariants as task_state
 use Rattle.swarm_objects.specs.declared.watches.Filter.{Filter}
+use Rattle.swarm_objects.specs.ValueTexts.{state_text}
 use Rattle.swarm_grammar.specs.declared.fields.Field.{Field}
 use Rattle.swarm_grammar.specs.declared.fields.NumberField.TheVariants as number
 use Rattle.swarm_grammar.specs.declared.fields.Table.{Table}
@@ -92,22 +93,6 @@ may_write form.Journal n = is_budget n && not (nat_eq n usual_budget)
 
 abbrev pub budget_of : Form → List ℕ → Option ℕ
 budget_of m word = number_of word >>= λ n. if may_write m n then Some n else None
-
-abbrev pub state_text : TaskState → List ℕ
-state_text task_state.New = codes "NEW"
-state_text task_state.Pending = codes "PENDING"
-state_text task_state.Assigned = codes "ASSIGNED"
-state_text task_state.Accepted = codes "ACCEPTED"
-state_text task_state.Preparing = codes "PREPARING"
-state_text task_state.Ready = codes "READY"
-state_text task_state.Starting = codes "STARTING"
-state_text task_state.Running = codes "RUNNING"
-state_text task_state.Complete = codes "COMPLETE"
-state_text task_state.Shutdown = codes "SHUTDOWN"
-state_text task_state.Failed = codes "FAILED"
-state_text task_state.Rejected = codes "REJECTED"
-state_text task_state.Remove = codes "REMOVE"
-state_text task_state.Orphaned = codes "ORPHANED"
 
 abbrev pub task_states : List TaskState
 task_states =

@@ -12,10 +12,10 @@ use Rattle.swarm_objects.specs.declared.services.FailureAction.{FailureAction}
 use Rattle.swarm_objects.specs.declared.services.FailureAction.TheVariants as action
 use Rattle.swarm_objects.specs.declared.services.UpdateOrder.{UpdateOrder}
 use Rattle.swarm_objects.specs.declared.services.UpdateOrder.TheVariants as order
-use Rattle.swarm_objects.specs.declared.nodes.NodeRole.{NodeRole}
 use Rattle.swarm_objects.specs.declared.nodes.NodeRole.TheVariants as role
 use Rattle.swarm_objects.specs.declared.nodes.Availability.{Availability}
 use Rattle.swarm_objects.specs.declared.nodes.Availability.TheVariants as availability
+use Rattle.swarm_objects.specs.ValueTexts.{role_text}
 use Rattle.swarm_grammar.specs.declared.fields.NumberField.{NumberField}
 use Rattle.swarm_grammar.specs.declared.fields.NumberField.TheVariants as number
 use Rattle.swarm_grammar.specs.declared.fields.Field.{Field}
@@ -223,10 +223,6 @@ failure_text action.Rollback = codes "rollback"
 abbrev pub order_text : UpdateOrder → List ℕ
 order_text order.StopFirst = codes "stop-first"
 order_text order.StartFirst = codes "start-first"
-
-abbrev pub role_text : NodeRole → List ℕ
-role_text role.Worker = codes "worker"
-role_text role.Manager = codes "manager"
 
 abbrev pub availability_text : Availability → List ℕ
 availability_text availability.Active = codes "active"

@@ -4,6 +4,7 @@ use Rattle.std.specs.Str.{bytes_eq}
 use Rattle.std.specs.Int.{is_in_range}
 use Rattle.std.specs.List.{list_all}
 use Rattle.std.specs.Option.{option_map}
+use Rattle.swarm_objects.specs.Calls.{is_halt}
 use Rattle.swarm_objects.specs.declared.calls.Call.{Call}
 use Rattle.swarm_objects.specs.declared.calls.Call.TheVariants as call
 use Rattle.swarm_grammar.specs.declared.lines.Line.{Line}
@@ -42,6 +43,11 @@ line_whole line_state.Opening = None
 line_whole (line_state.Call s) = option_map line_of (whole s)
 line_whole line_state.Wait = None
 line_whole (line_state.Waited n) = Some (line.Wait n)
+
+-- the line's call doesn't halt the world
+abbrev pub line_runs : Line → Bool
+line_runs (line.Call c) = not (is_halt c)
+line_runs l = true
 
 -- the grammar of a script's lines
 abbrev pub script_grammar : Machine LineState Line

@@ -11,11 +11,11 @@ use Rattle.swarm_objects.specs.declared.calls.Query.TheVariants as query
 use Rattle.swarm_objects.specs.declared.calls.What.{What}
 use Rattle.swarm_objects.specs.declared.calls.What.TheVariants as what
 use Rattle.swarm_objects.specs.declared.nodes.Kind.{Kind}
-use Rattle.swarm_objects.specs.declared.nodes.Kind.TheVariants as kind
+use Rattle.swarm_objects.specs.ValueTexts.{kind_text, state_text}
 use Rattle.swarm_grammar.specs.declared.fields.Field.{Field}
 use Rattle.swarm_grammar.specs.Fields.{field_text}
 use Rattle.swarm_grammar.specs.Pieces.{joined, node_pieces, old_node_pieces, service_pieces, session_pieces, settings_pieces}
-use Rattle.swarm_grammar.specs.Calls.{state_text, usual_budget}
+use Rattle.swarm_grammar.specs.Calls.{usual_budget}
 
 -- ## Operations
 
@@ -74,13 +74,6 @@ query_words (query.InspectTask id) = codes "inspect" ∷ codes "task" ∷ decima
 query_words query.Clock = codes "clock" ∷ []
 
 -- no watcher is watched, so that `watcher` is no word of the grammar
-abbrev pub kind_text : Kind → List ℕ
-kind_text kind.Node = codes "node"
-kind_text kind.Service = codes "service"
-kind_text kind.Task = codes "task"
-kind_text kind.Network = codes "network"
-kind_text kind.Watcher = codes "watcher"
-
 abbrev pub filter_text : Option Kind → List ℕ
 filter_text None = codes "all"
 filter_text (Some k) = kind_text k

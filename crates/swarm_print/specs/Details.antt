@@ -10,7 +10,8 @@ use Rattle.swarm_objects.specs.declared.views.TaskDetail.{TaskDetail}
 use Rattle.swarm_objects.specs.declared.templates.Port.{Port}
 use Rattle.swarm_print.specs.Notes.{note_text}
 use Rattle.swarm_print.specs.Objects.{address_text, place_text, subnet_text}
-use Rattle.swarm_print.specs.Words.{availability_word, desired_word, mode_word, protocol_word, role_word, state_word, task_state_word, update_word}
+use Rattle.swarm_objects.specs.ValueTexts.{role_text, state_text}
+use Rattle.swarm_print.specs.Words.{availability_word, desired_word, mode_word, protocol_word, state_word, update_word}
 
 abbrev pub count : ℕ → Data
 count n = number (unsigned n)
@@ -34,7 +35,7 @@ node_data n = object
     (member (codes "labels") (object (label_members n.labels))
     (member (codes "mem") (count n.mem)
     (member (codes "name") (string n.name)
-    (member (codes "role") (string (role_word n.role))
+    (member (codes "role") (string (role_text n.role))
     (member (codes "state") (string (state_word n.state))
     (member (codes "version") (count n.version)
     no_members))))))))))
@@ -81,7 +82,7 @@ task_data t = object
     (member (codes "note") (string (note_text t.note))
     (member (codes "place") (string (place_text t.place))
     (member (codes "service") (count t.service)
-    (member (codes "state") (string (task_state_word t.state))
+    (member (codes "state") (string (state_text t.state))
     (member (codes "version") (count t.version)
     no_members))))))))))
 

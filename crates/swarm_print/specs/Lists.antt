@@ -11,11 +11,12 @@ use Rattle.swarm_objects.specs.declared.watches.Event.{Event}
 use Rattle.swarm_print.specs.Lines.{line}
 use Rattle.swarm_print.specs.Notes.{note_text}
 use Rattle.swarm_print.specs.Objects.{node_text, service_place_text, subnet_text}
-use Rattle.swarm_print.specs.Words.{availability_word, desired_word, extent_word, kind_word, mode_word, role_word, state_word, task_state_word, update_word, verb_word}
+use Rattle.swarm_objects.specs.ValueTexts.{kind_text, role_text, state_text}
+use Rattle.swarm_print.specs.Words.{availability_word, desired_word, extent_word, mode_word, state_word, update_word, verb_word}
 
 abbrev pub node_line : NodeShown → List ℕ
 node_line n =
-    line (codes "node" ∷ decimal n.id ∷ n.name ∷ state_word n.state ∷ availability_word n.availability ∷ role_word n.role ∷ decimal n.cpu ∷ decimal n.mem ∷ [])
+    line (codes "node" ∷ decimal n.id ∷ n.name ∷ state_word n.state ∷ availability_word n.availability ∷ role_text n.role ∷ decimal n.cpu ∷ decimal n.mem ∷ [])
 
 -- so many of so many
 abbrev pub share_text : ℕ → ℕ → List ℕ
@@ -29,11 +30,11 @@ network_line n = line (codes "network" ∷ decimal n.id ∷ n.name ∷ subnet_te
 
 abbrev pub task_line : TaskShown → List ℕ
 task_line t =
-    line (codes "task" ∷ decimal t.id ∷ service_place_text t.service t.place ∷ node_text t.node ∷ task_state_word t.state ∷ desired_word t.desired ∷ note_text t.note ∷ [])
+    line (codes "task" ∷ decimal t.id ∷ service_place_text t.service t.place ∷ node_text t.node ∷ state_text t.state ∷ desired_word t.desired ∷ note_text t.note ∷ [])
 
 -- an event begins with the number of its entry
 abbrev pub event_line : Event → List ℕ
-event_line e = line (decimal e.entry ∷ verb_word e.verb ∷ kind_word e.kind ∷ decimal e.id ∷ [])
+event_line e = line (decimal e.entry ∷ verb_word e.verb ∷ kind_text e.kind ∷ decimal e.id ∷ [])
 
 abbrev pub change_line : AssignChange → List ℕ
 change_line (Update assigned) = line (codes "update" ∷ decimal assigned.task ∷ desired_word assigned.desired ∷ [])

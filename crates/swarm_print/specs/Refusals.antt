@@ -4,7 +4,8 @@ use Rattle.swarm_objects.specs.declared.replies.Refusal.{Refusal}
 use Rattle.swarm_objects.specs.declared.replies.Refusal.TheVariants as refusal
 use Rattle.swarm_objects.specs.declared.replies.Wanted.{Wanted}
 use Rattle.swarm_objects.specs.declared.replies.Wanted.TheVariants as wanted
-use Rattle.swarm_print.specs.Words.{kind_word, rule_word, state_word, task_state_word}
+use Rattle.swarm_objects.specs.ValueTexts.{kind_text, state_text}
+use Rattle.swarm_print.specs.Words.{rule_word, state_word}
 
 -- an object that was asked for, as it was named
 abbrev pub wanted_text : Wanted → List ℕ
@@ -18,7 +19,7 @@ session_text (Some id) = decimal id
 
 -- a refusal: its number, its name and its values
 abbrev pub refusal_words : Refusal → List (List ℕ)
-refusal_words (refusal.NotFound kind wanted) = codes "1" ∷ codes "NotFound" ∷ kind_word kind ∷ wanted_text wanted ∷ []
+refusal_words (refusal.NotFound kind wanted) = codes "1" ∷ codes "NotFound" ∷ kind_text kind ∷ wanted_text wanted ∷ []
 refusal_words (refusal.NameTaken id) = codes "2" ∷ codes "NameTaken" ∷ decimal id ∷ []
 refusal_words (refusal.SequenceConflict version) = codes "3" ∷ codes "SequenceConflict" ∷ decimal version ∷ []
 refusal_words (refusal.BadSpec rule) = codes "4" ∷ codes "BadSpec" ∷ rule_word rule ∷ []
@@ -32,11 +33,11 @@ refusal_words (refusal.BadTick ms) = codes "11" ∷ codes "BadTick" ∷ decimal 
 refusal_words (refusal.InvalidSession session) = codes "12" ∷ codes "InvalidSession" ∷ session_text session ∷ []
 refusal_words (refusal.SessionExpired deadline) = codes "13" ∷ codes "SessionExpired" ∷ decimal deadline ∷ []
 refusal_words (refusal.NotThisNode task) = codes "14" ∷ codes "NotThisNode" ∷ decimal task ∷ []
-refusal_words (refusal.BadState state) = codes "15" ∷ codes "BadState" ∷ task_state_word state ∷ []
+refusal_words (refusal.BadState state) = codes "15" ∷ codes "BadState" ∷ state_text state ∷ []
 refusal_words (refusal.WrongKind node) = codes "16" ∷ codes "WrongKind" ∷ decimal node ∷ []
 refusal_words (refusal.UnknownWatcher id) = codes "17" ∷ codes "UnknownWatcher" ∷ decimal id ∷ []
 refusal_words (refusal.Lagged events) = codes "18" ∷ codes "Lagged" ∷ decimal events ∷ []
-refusal_words (refusal.TooMany kind count) = codes "19" ∷ codes "TooMany" ∷ kind_word kind ∷ decimal count ∷ []
+refusal_words (refusal.TooMany kind count) = codes "19" ∷ codes "TooMany" ∷ kind_text kind ∷ decimal count ∷ []
 refusal_words refusal.Halted = codes "20" ∷ codes "Halted" ∷ []
 refusal_words (refusal.Full entries) = codes "21" ∷ codes "Full" ∷ decimal entries ∷ []
 refusal_words refusal.NoMemory = codes "22" ∷ codes "NoMemory" ∷ []

@@ -11,7 +11,8 @@ use Rattle.swarm_print.specs.Details.{json_line, network_data, node_data, servic
 use Rattle.swarm_print.specs.Lines.{line, listing}
 use Rattle.swarm_print.specs.Lists.{event_line, message_text, network_line, node_line, service_line, task_line}
 use Rattle.swarm_print.specs.Refusals.{refusal_words}
-use Rattle.swarm_print.specs.Words.{cause_word, report_word, task_state_word}
+use Rattle.swarm_objects.specs.ValueTexts.{state_text}
+use Rattle.swarm_print.specs.Words.{cause_word, report_word}
 
 -- the clock, a list, or an object that was inspected
 abbrev pub view_text : ViewReply → List ℕ
@@ -50,7 +51,7 @@ reply_text (reply.Events events) = listing (codes "events") event_line events
 reply_text (reply.SessionBegun session deadline) = line (codes "session" ∷ decimal session ∷ decimal deadline ∷ [])
 reply_text (reply.Beat deadline) = line (codes "beat" ∷ decimal deadline ∷ [])
 reply_text (reply.Pulled message) = message_text message
-reply_text (reply.Status raised state) = line (report_word raised ∷ task_state_word state ∷ [])
+reply_text (reply.Status raised state) = line (report_word raised ∷ state_text state ∷ [])
 reply_text (reply.View view) = view_text view
 reply_text (reply.Settle budget settle) = line (settle_words budget settle)
 reply_text reply.Did = []

@@ -2,10 +2,6 @@
 use Rattle.std.specs.Prelude.{ℕ, List, Bool, true, false, codes, Option, Some, None}
 use Rattle.swarm_objects.specs.declared.changes.Cause.{Cause}
 use Rattle.swarm_objects.specs.declared.changes.Cause.TheVariants as cause
-use Rattle.swarm_objects.specs.declared.nodes.Kind.{Kind}
-use Rattle.swarm_objects.specs.declared.nodes.Kind.TheVariants.{Node, Service, Task, Network, Watcher}
-use Rattle.swarm_objects.specs.declared.nodes.NodeRole.{NodeRole}
-use Rattle.swarm_objects.specs.declared.nodes.NodeRole.TheVariants.{Worker, Manager}
 use Rattle.swarm_objects.specs.declared.nodes.Availability.{Availability}
 use Rattle.swarm_objects.specs.declared.nodes.Availability.TheVariants.{Active, Pause, Drain}
 use Rattle.swarm_objects.specs.declared.nodes.NodeState.{NodeState}
@@ -16,23 +12,10 @@ use Rattle.swarm_objects.specs.declared.services.RunStatus.{RunStatus}
 use Rattle.swarm_objects.specs.declared.services.RunStatus.TheVariants as status
 use Rattle.swarm_objects.specs.declared.rules.SpecRule.{SpecRule}
 use Rattle.swarm_objects.specs.declared.rules.SpecRule.TheVariants.{Replicas, Concurrent, Time, Reservation, Count, Ports, Spread, Ratio, Resources, Subnet, Settings}
-use Rattle.swarm_objects.specs.declared.tasks.TaskState.{TaskState}
-use Rattle.swarm_objects.specs.declared.tasks.TaskState.TheVariants as State
 use Rattle.swarm_objects.specs.declared.tasks.Desired.{Desired}
 use Rattle.swarm_objects.specs.declared.tasks.Desired.TheVariants as Wanted
 use Rattle.swarm_objects.specs.declared.watches.Verb.{Verb}
 use Rattle.swarm_objects.specs.declared.watches.Verb.TheVariants as verb
-
-abbrev pub kind_word : Kind → List ℕ
-kind_word Node = codes "node"
-kind_word Service = codes "service"
-kind_word Task = codes "task"
-kind_word Network = codes "network"
-kind_word Watcher = codes "watcher"
-
-abbrev pub role_word : NodeRole → List ℕ
-role_word Worker = codes "worker"
-role_word Manager = codes "manager"
 
 abbrev pub availability_word : Availability → List ℕ
 availability_word Active = codes "ACTIVE"
@@ -57,22 +40,6 @@ rule_word Ratio = codes "ratio"
 rule_word Resources = codes "resources"
 rule_word Subnet = codes "subnet"
 rule_word Settings = codes "settings"
-
-abbrev pub task_state_word : TaskState → List ℕ
-task_state_word State.New = codes "NEW"
-task_state_word State.Pending = codes "PENDING"
-task_state_word State.Assigned = codes "ASSIGNED"
-task_state_word State.Accepted = codes "ACCEPTED"
-task_state_word State.Preparing = codes "PREPARING"
-task_state_word State.Ready = codes "READY"
-task_state_word State.Starting = codes "STARTING"
-task_state_word State.Running = codes "RUNNING"
-task_state_word State.Complete = codes "COMPLETE"
-task_state_word State.Shutdown = codes "SHUTDOWN"
-task_state_word State.Failed = codes "FAILED"
-task_state_word State.Rejected = codes "REJECTED"
-task_state_word State.Remove = codes "REMOVE"
-task_state_word State.Orphaned = codes "ORPHANED"
 
 abbrev pub desired_word : Desired → List ℕ
 desired_word Wanted.Ready = codes "READY"

@@ -10,8 +10,7 @@ ghost use Rattle.swarm_print.specs.Objects.{place_text, subnet_text};
 use crate::notes::put_note;
 use crate::objects::{put_address, put_place, put_subnet};
 use crate::words::{
-    availability_word, desired_word, mode_word, protocol_word, role_word, state_word,
-    task_state_word, update_word,
+    availability_word, desired_word, mode_word, protocol_word, state_word, update_word,
 };
 use serde_json::{Map, Value, json};
 use std::alloc::{AllocError, Global};
@@ -44,7 +43,7 @@ fn node_value(alloc: Global, node: &NodeDetail) -> Result<Value, AllocError>
         "labels": labels,
         "mem": node.mem,
         "name": node.name.as_str(),
-        "role": role_word(node.role),
+        "role": node.role.as_str(),
         "state": state_word(node.state),
         "version": node.version
     })
@@ -175,7 +174,7 @@ fn task_value(alloc: Global, task: &TaskDetail) -> Result<Value, AllocError>
         "note": note,
         "place": place,
         "service": task.service,
-        "state": task_state_word(task.state),
+        "state": task.state.as_str(),
         "version": task.version
     })
 }

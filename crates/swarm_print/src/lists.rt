@@ -3,13 +3,13 @@ ghost use Rattle.std.specs.Prelude.{◌≡◌, [], ◌∷◌, ◌++◌, codes, d
 ghost use Rattle.swarm_print.specs.Lines.{line, listing};
 ghost use Rattle.swarm_print.specs.Lists.{node_line, share_text, service_line, network_line, task_line, event_line, change_line, message_text};
 ghost use Rattle.swarm_print.specs.Notes.{note_text};
-ghost use Rattle.swarm_print.specs.Words.{desired_word, task_state_word, update_word};
+ghost use Rattle.swarm_objects.specs.ValueTexts.{state_text};
+ghost use Rattle.swarm_print.specs.Words.{desired_word, update_word};
 
 use crate::notes::put_note;
 use crate::objects::{put_node_of, put_service_place, put_subnet};
 use crate::words::{
-    availability_word, desired_word, extent_word, kind_word, mode_word, role_word, state_word,
-    task_state_word, update_word, verb_word,
+    availability_word, desired_word, extent_word, mode_word, state_word, update_word, verb_word,
 };
 use std::alloc::{AllocError, Global};
 use std::fmt::Write;
@@ -30,7 +30,7 @@ fn put_node(text: &mut String, node: &NodeShown) -> Result<(), AllocError>
     let name = node.name.as_str();
     let state = state_word(node.state);
     let availability = availability_word(node.availability);
-    let role = role_word(node.role);
+    let role = node.role.as_str();
     let cpu = node.cpu;
     let mem = node.mem;
     write!(
@@ -94,9 +94,9 @@ pub fn put_networks(text: &mut String, networks: &[NetworkShown]) -> Result<(), 
 
 // The states and the note of a task, to the end of its line.
 fn put_states(alloc: Global, text: &mut String, task: &TaskShown) -> Result<(), AllocError>
-    ensures { OnOk result (string_bytes text.new ≡ string_bytes text.old ++ line (task_state_word task.now.state ∷ desired_word task.now.desired ∷ note_text task.now.note ∷ [])) }
+    ensures { OnOk result (string_bytes text.new ≡ string_bytes text.old ++ line (state_text task.now.state ∷ desired_word task.now.desired ∷ note_text task.now.note ∷ [])) }
 {
-    let state = task_state_word(task.state);
+    let state = task.state.as_str();
     let desired = desired_word(task.desired);
     write!(text, "{state} {desired} ")?;
     put_note(alloc, text, &task.note)?;
@@ -130,7 +130,7 @@ fn put_event(text: &mut String, event: &Event) -> Result<(), AllocError>
 {
     let entry = event.entry;
     let verb = verb_word(event.verb);
-    let kind = kind_word(event.kind);
+    let kind = event.kind.as_str();
     let id = event.id;
     write!(text, "{entry} {verb} {kind} {id}\n")
 }

@@ -2,9 +2,9 @@
 ghost use Rattle.std.specs.Prelude.{◌≡◌, [], ◌∷◌, ◌++◌, codes, decimal, OnOk, string_bytes};
 ghost use Rattle.swarm_print.specs.Lines.{line};
 ghost use Rattle.swarm_print.specs.Refusals.{wanted_text, session_text, refusal_words};
-ghost use Rattle.swarm_print.specs.Words.{kind_word};
+ghost use Rattle.swarm_objects.specs.ValueTexts.{kind_text};
 
-use crate::words::{kind_word, rule_word, state_word, task_state_word};
+use crate::words::{rule_word, state_word};
 use std::alloc::AllocError;
 use std::fmt::Write;
 use swarm_objects::{Id, Kind, Refusal, Wanted};
@@ -19,9 +19,9 @@ fn put_wanted(text: &mut String, wanted: &Wanted) -> Result<(), AllocError>
 }
 
 fn put_not_found(text: &mut String, kind: Kind, wanted: &Wanted) -> Result<(), AllocError>
-    ensures { OnOk result (string_bytes text.new ≡ string_bytes text.old ++ line (codes "1" ∷ codes "NotFound" ∷ kind_word kind ∷ wanted_text wanted.now ∷ [])) }
+    ensures { OnOk result (string_bytes text.new ≡ string_bytes text.old ++ line (codes "1" ∷ codes "NotFound" ∷ kind_text kind ∷ wanted_text wanted.now ∷ [])) }
 {
-    let kind = kind_word(kind);
+    let kind = kind.as_str();
     write!(text, "1 NotFound {kind} ")?;
     put_wanted(text, wanted)?;
     text.push_str("\n")
@@ -67,12 +67,12 @@ pub fn put_refusal(text: &mut String, refusal: &Refusal) -> Result<(), AllocErro
         Refusal::InvalidSession(session) => put_session(text, "12 InvalidSession", *session),
         Refusal::SessionExpired(deadline) => put_number(text, "13 SessionExpired", *deadline),
         Refusal::NotThisNode(task) => put_number(text, "14 NotThisNode", *task),
-        Refusal::BadState(state) => put_word(text, "15 BadState", task_state_word(*state)),
+        Refusal::BadState(state) => put_word(text, "15 BadState", state.as_str()),
         Refusal::WrongKind(node) => put_number(text, "16 WrongKind", *node),
         Refusal::UnknownWatcher(id) => put_number(text, "17 UnknownWatcher", *id),
         Refusal::Lagged(events) => put_number(text, "18 Lagged", *events),
         Refusal::TooMany(kind, count) => {
-            let word = kind_word(*kind);
+            let word = kind.as_str();
             write!(text, "19 TooMany {word} {count}\n")
         }
         Refusal::Halted => text.push_str("20 Halted\n"),

@@ -2,12 +2,13 @@
 ghost use Rattle.std.specs.Prelude.{◌≡◌, [], ◌∷◌, ◌++◌, codes, decimal, flat_map, IfOk, OnOk, string_bytes};
 ghost use Rattle.swarm_print.specs.Lines.{line};
 ghost use Rattle.swarm_print.specs.Texts.{id_text, view_text, settle_words, reply_text};
-ghost use Rattle.swarm_print.specs.Words.{report_word, task_state_word};
+ghost use Rattle.swarm_objects.specs.ValueTexts.{state_text};
+ghost use Rattle.swarm_print.specs.Words.{report_word};
 
 use crate::details::{put_network_detail, put_node_detail, put_service_detail, put_task_detail};
 use crate::lists::{put_events, put_message, put_networks, put_nodes, put_services, put_tasks};
 use crate::refusals::put_refusal;
-use crate::words::{cause_word, report_word, task_state_word};
+use crate::words::{cause_word, report_word};
 use std::alloc::{AllocError, Global};
 use std::fmt::Write;
 use swarm_objects::{Id, List, NoMemory, Reply, Settle, TaskState, ViewReply, put_duty};
@@ -23,10 +24,10 @@ fn put_done(text: &mut String, ids: &[Id]) -> Result<(), AllocError>
 }
 
 fn put_report(text: &mut String, raised: bool, state: TaskState) -> Result<(), AllocError>
-    ensures { OnOk result (string_bytes text.new ≡ string_bytes text.old ++ line (report_word raised ∷ task_state_word state ∷ [])) }
+    ensures { OnOk result (string_bytes text.new ≡ string_bytes text.old ++ line (report_word raised ∷ state_text state ∷ [])) }
 {
     let report = report_word(raised);
-    let state = task_state_word(state);
+    let state = state.as_str();
     write!(text, "{report} {state}\n")
 }
 

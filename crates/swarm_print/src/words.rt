@@ -1,32 +1,8 @@
 // The words that replies have.
 ghost use Rattle.std.specs.Prelude.{◌≡◌};
-ghost use Rattle.swarm_print.specs.Words.{kind_word, role_word, availability_word, state_word, rule_word, task_state_word, desired_word, mode_word, status_word, update_word, verb_word, cause_word, extent_word, report_word, protocol_word};
+ghost use Rattle.swarm_print.specs.Words.{availability_word, state_word, rule_word, desired_word, mode_word, status_word, update_word, verb_word, cause_word, extent_word, report_word, protocol_word};
 
-use swarm_objects::{
-    Availability, Cause, Desired, Kind, Mode, NodeRole, NodeState, RunStatus, SpecRule, TaskState,
-    Verb,
-};
-
-pub fn kind_word(kind: Kind) -> &'static str
-    ensures { result.now ≡ kind_word kind }
-{
-    match kind {
-        Kind::Node => "node",
-        Kind::Service => "service",
-        Kind::Task => "task",
-        Kind::Network => "network",
-        Kind::Watcher => "watcher",
-    }
-}
-
-pub fn role_word(role: NodeRole) -> &'static str
-    ensures { result.now ≡ role_word role }
-{
-    match role {
-        NodeRole::Worker => "worker",
-        NodeRole::Manager => "manager",
-    }
-}
+use swarm_objects::{Availability, Cause, Desired, Mode, NodeState, RunStatus, SpecRule, Verb};
 
 pub fn availability_word(availability: Availability) -> &'static str
     ensures { result.now ≡ availability_word availability }
@@ -64,27 +40,6 @@ pub fn rule_word(rule: SpecRule) -> &'static str
         SpecRule::Resources => "resources",
         SpecRule::Subnet => "subnet",
         SpecRule::Settings => "settings",
-    }
-}
-
-pub fn task_state_word(state: TaskState) -> &'static str
-    ensures { result.now ≡ task_state_word state }
-{
-    match state {
-        TaskState::New => "NEW",
-        TaskState::Pending => "PENDING",
-        TaskState::Assigned => "ASSIGNED",
-        TaskState::Accepted => "ACCEPTED",
-        TaskState::Preparing => "PREPARING",
-        TaskState::Ready => "READY",
-        TaskState::Starting => "STARTING",
-        TaskState::Running => "RUNNING",
-        TaskState::Complete => "COMPLETE",
-        TaskState::Shutdown => "SHUTDOWN",
-        TaskState::Failed => "FAILED",
-        TaskState::Rejected => "REJECTED",
-        TaskState::Remove => "REMOVE",
-        TaskState::Orphaned => "ORPHANED",
     }
 }
 
