@@ -1,5 +1,5 @@
 // Keys from their texts.
-ghost use Rattle.std.specs.Prelude.{◌≡◌, IfOk, IfSome, IsTrue, option_copied};
+ghost use Rattle.std.specs.Prelude.{◌≡◌, if◌then◌else◌, Some, None, IfOk, IfSome, IsTrue, option_copied};
 ghost use Rattle.std.specs.Str.{str_to_ascii_lowercase};
 ghost use Rattle.swarm_filters.specs.Grammar.{HoldsExactly, IsKey, is_name as name_test, is_value};
 ghost use Rattle.swarm_filters.specs.Keys.{fixed_key as fixed_key_in, key_of, label_of as label_in, name_behind as name_behind_in};
@@ -24,6 +24,18 @@ pub fn read_key(alloc: Global, word: &[u8]) -> Result<Option<Key>, NoMemory>
     match fixed_key(word) {
         Some(key) => Ok(Some(key)),
         None => label_of(alloc, word),
+    }
+}
+
+/// The name that a word's bytes are, if they are one: 1 to 63 letters, digits and bytes `-`, `_` and `.`, of which the first
+/// is a letter or a digit.
+pub fn read_name(alloc: Global, word: &[u8]) -> Result<Option<Name>, NoMemory>
+    ensures { IfOk result (λ name. name ≡ if name_test word.now then Some word.now else None) }
+{
+    if is_name(word) {
+        Ok(Some(name_of(alloc, word)?))
+    } else {
+        Ok(None)
     }
 }
 

@@ -1,5 +1,5 @@
 // Texts of constraints, and nodes that they admit.
-use crate::{ParseFault, matches, parse_constraint, parse_key, read_constraint};
+use crate::{ParseFault, matches, parse_constraint, parse_key, read_constraint, read_name};
 use std::alloc::Global;
 use std::test::Fail;
 use swarm_objects::{
@@ -137,5 +137,15 @@ fn words_that_are_constraints(rt: HostRuntime) -> Result<(), Fail> {
         Some(true)
     );
     assert!(rt; read_constraint(alloc, b"node.role=worker")?.is_none());
+    Ok(())
+}
+
+#[test]
+fn words_that_are_names(rt: HostRuntime) -> Result<(), Fail> {
+    let alloc = rt.alloc();
+    let name = read_name(alloc, b"9a-_.B")?;
+    assert!(rt; name.is_some_and(|name| name.as_str() == "9a-_.B"));
+    assert!(rt; read_name(alloc, b".n1")?.is_none());
+    assert!(rt; read_name(alloc, b"")?.is_none());
     Ok(())
 }
