@@ -1,20 +1,30 @@
 -- What a script says, line by line, up to its first line outside the grammar.
-use Rattle.std.specs.Prelude.{ℕ, ◌+◌, nat_lt, nat_le, List, [], ◌∷◌, ◌++◌, length, codes, decimal, Bool, ◌&&◌, if◌then◌else◌, Option, Some, None, Result, Ok, Err}
-use Rattle.swarm_script.specs.Script.{meaning_of, is_long}
-use Rattle.swarm_script.specs.declared.Line.{Line}
-use Rattle.swarm_script.specs.declared.LineFault.{LineFault}
-use Rattle.swarm_script.specs.declared.LineFault.TheVariants.{Long, Byte, Word, Cut, NoMemory}
+use Rattle.std.specs.Prelude.{ℕ, ◌+◌, nat_lt, nat_le, List, [], ◌∷◌, ◌++◌, length, codes, decimal, Bool, true, false, ◌&&◌, if◌then◌else◌, Option, Some, None, Result, Ok, Err}
+use Rattle.swarm_grammar.specs.Lines.{meaning_of, is_long}
+use Rattle.swarm_objects.specs.CanDo.{can_do}
+use Rattle.swarm_grammar.specs.declared.lines.Line.{Line}
+use Rattle.swarm_grammar.specs.declared.lines.Line.TheVariants.{Blank, Call as CallLine, Wait, Settle as SettleLine}
+use Rattle.swarm_grammar.specs.declared.lines.LineFault.{LineFault}
+use Rattle.swarm_grammar.specs.declared.lines.LineFault.TheVariants.{Long, Byte, Word, Cut, NoMemory}
 use Rattle.swarm_top.specs.Lines.{lines_of, bytes_of}
 use Rattle.swarm_top.specs.declared.faults.Fault.{Fault}
-use Rattle.swarm_top.specs.declared.faults.Fault.TheVariants.{Size, Text}
+use Rattle.swarm_top.specs.declared.faults.Fault.TheVariants.{Size, Text, Later}
 use Rattle.swarm_top.specs.declared.input.ScriptLine.{ScriptLine}
 
 -- the bytes of a script: 16 MiB
 abbrev pub most_bytes : ℕ
 most_bytes = 16777216
 
+-- the program can do so far what the line says
+abbrev pub line_can : Line → Bool
+line_can Blank = true
+line_can (CallLine call) = can_do call
+line_can (Wait time) = false
+line_can (SettleLine budget) = true
+
+-- what is taken of what a line's text says: a line that can't be done yet is put off
 abbrev pub in_text : Result Line LineFault → Result Line Fault
-in_text (Ok said) = Ok said
+in_text (Ok said) = if line_can said then Ok said else Err Later
 in_text (Err fault) = Err (Text fault)
 
 -- its byte 8,193 is none of its newline, and is at most the first byte beyond the limit
@@ -60,6 +70,7 @@ line_fault_text NoMemory = codes "NoMemory"
 
 abbrev pub fault_text : Fault → List ℕ
 fault_text Size = codes "Size"
+fault_text Later = codes "Later"
 fault_text (Text fault) = line_fault_text fault
 
 -- the line that is put for the first line outside the grammar

@@ -4,15 +4,17 @@ ghost use Rattle.swarm_top.specs.Reading.{line_fault_text, fault_text, bad_line}
 
 use std::alloc::{AllocError, Global};
 use std::fmt::Write;
-use swarm_script::LineFault;
+use swarm_grammar::LineFault;
 
-/// Why a line of a script is outside the grammar.
+/// Why a script isn't done beyond a line.
 #[derive(Clone, Copy, Debug, PartialEq, Eq)]
 pub enum Fault {
     /// The script's first byte beyond 16 MiB is one of the line's.
     Size,
     /// The line's text can't be read.
     Text(LineFault),
+    /// The line is in the grammar, and the program can't do it yet.
+    Later,
 }
 
 fn put_line_fault(text: &mut String, fault: LineFault) -> Result<(), AllocError>
@@ -32,6 +34,7 @@ fn put_fault(text: &mut String, fault: Fault) -> Result<(), AllocError>
 {
     match fault {
         Fault::Size => text.push_str("Size"),
+        Fault::Later => text.push_str("Later"),
         Fault::Text(fault) => put_line_fault(text, fault),
     }
 }

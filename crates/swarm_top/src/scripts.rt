@@ -5,21 +5,22 @@ ghost use Rattle.swarm_objects.specs.Calls.{is_halt};
 ghost use Rattle.swarm_objects.specs.CanDo.{can_do};
 ghost use Rattle.swarm_objects.specs.History.{replay};
 ghost use Rattle.swarm_objects.specs.Outside.{Rose, PutsPiece, HasCause};
-ghost use Rattle.swarm_script.specs.Journal.{call_has_text, line_has_text};
-ghost use Rattle.swarm_top.specs.Reading.{bad_line, meaning_at, in_text};
+ghost use Rattle.swarm_grammar.specs.HasText.{call_has_text, line_has_text};
+ghost use Rattle.swarm_top.specs.Reading.{bad_line, meaning_at, in_text, line_can};
 ghost use Rattle.swarm_top.specs.Serial.{is_refused, settle_entries};
 ghost use Rattle.swarm_top.specs.Ends.{end_of};
-ghost use Rattle.swarm_top.specs.Parts.{StopsSettling, ending_of, whole_ending, DoesLine, IsRead, TellsEnding, SaysLine, line_can, line_runs};
-ghost use Rattle.swarm_script.specs.Script.{meaning_of};
+ghost use Rattle.swarm_top.specs.Parts.{StopsSettling, ending_of, whole_ending, DoesLine, IsRead, TellsEnding, SaysLine};
+ghost use Rattle.swarm_grammar.specs.Lines.{line_runs, meaning_of};
 
 use crate::endings::Ending;
 use crate::faults::{Fault, bad_line};
 use crate::input::{Input, ReadFault};
 use crate::run::{Run, Unanswered};
 use std::alloc::Global;
+use swarm_grammar::{Line, LineFault};
 use swarm_objects::{Call, Failed, NoMemory, Reply, Sink, Source};
 use swarm_print::reply_text;
-use swarm_script::{Line, LineFault, read_line};
+use swarm_reader::read_line;
 
 // How the run ends by a fault of the reader at the line with this number.
 fn ending_of(number: u64, fault: ReadFault) -> Ending
@@ -127,21 +128,38 @@ fn take_line<O: Sink>(alloc: Global, run: &mut Run, out: &mut O, said: Line) -> 
     ensures cause { result ≡ Err Ending.OutFault → Rose (O.faults out.old) (O.faults out.new) }
 {
     match said {
-        Line::Blank => Ok(false),
+        Line::Blank | Line::Wait(_) => Ok(false),
         Line::Call(call) => answer(alloc, run, out, call),
         Line::Settle(budget) => settle(alloc, run, out, budget),
     }
 }
 
+// Whether the program can do so far what the line says.
+fn can_do(said: &Line) -> bool
+    ensures { result ≡ line_can said.now }
+{
+    match said {
+        Line::Call(call) => call.can_do(),
+        Line::Wait(_) => false,
+        Line::Blank | Line::Settle(_) => true,
+    }
+}
+
 // Reads a line's text, or says how the run ends there.
 fn say(alloc: Global, number: u64, line: &[u8]) -> Result<Line, Ending>
-    ensures says { SaysLine number (meaning_of line.now) result }
+    ensures says { SaysLine number (in_text (meaning_of line.now)) result }
     ensures text { IfOk result (λ said. line_has_text said ≡ true) }
     ensures running { IfOk result (λ said. line_runs said ≡ true) }
     ensures can { IfOk result (λ said. line_can said ≡ true) }
 {
     match read_line(alloc, line) {
-        Ok(said) => Ok(said),
+        Ok(said) => {
+            if can_do(&said) {
+                Ok(said)
+            } else {
+                Err(Ending::BadLine(number, Fault::Later))
+            }
+        }
         Err(LineFault::NoMemory) => Err(Ending::NoMemory),
         Err(fault) => Err(Ending::BadLine(number, Fault::Text(fault))),
     }

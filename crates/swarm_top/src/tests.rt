@@ -138,6 +138,32 @@ fn lines_outside_the_grammar(rt: HostRuntime) -> Result<(), Fail> {
 }
 
 #[test]
+fn lines_that_are_put_off(rt: HostRuntime) -> Result<(), Fail> {
+    let left = run(&rt, b"node join n1\nclock\nnode join n2\n", &SOUND)?;
+    assert_eq!(rt; left.status, 6);
+    assert_eq!(rt; left.out.as_slice(), b"ok 1\nbad line 2 Later\n".as_slice());
+    assert_eq!(rt;
+        left.journal.as_slice(),
+        b"swarm journal 1\n0 node join n1\n0 halt\n".as_slice()
+    );
+
+    // a field at its default is as if it weren't named
+    let left = run(
+        &rt,
+        b"node join n1 cpu=4000\nnode join n2 cpu=3999\n",
+        &SOUND,
+    )?;
+    assert_eq!(rt; left.out.as_slice(), b"ok 1\nbad line 2 Later\n".as_slice());
+    assert_eq!(rt;
+        left.journal.as_slice(),
+        b"swarm journal 1\n0 node join n1\n0 halt\n".as_slice()
+    );
+    let left = run(&rt, b"wait 1\n", &SOUND)?;
+    assert_eq!(rt; left.out.as_slice(), b"bad line 1 Later\n".as_slice());
+    Ok(())
+}
+
+#[test]
 fn line_that_is_too_long(rt: HostRuntime) -> Result<(), Fail> {
     let alloc = rt.alloc();
     let mut script = b"#".to_vec(alloc)?;
