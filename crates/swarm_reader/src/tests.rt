@@ -249,13 +249,11 @@ fn line_and(alloc: Global, words: &[&str], last: &str) -> Result<String, Fail> {
 
 // Whether another word is wrong at each place, by its number.
 fn is_wrong_everywhere(alloc: Global, other: &str) -> Result<bool, Fail> {
-    let mut number = 1;
     for at in 0..SERVICE.len() {
         let text = line_with(alloc, &SERVICE, at, other)?;
-        if fault_of(alloc, text.as_str()) != Some(LineFault::Word(number)) {
+        if fault_of(alloc, text.as_str()) != Some(LineFault::Word(at as u64 + 1)) {
             return Ok(false);
         }
-        number += 1;
     }
     Ok(true)
 }
