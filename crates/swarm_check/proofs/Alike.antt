@@ -2,7 +2,7 @@
 use Rattle.std.proofs.Common.{◌≡◌, Bool, true, false, List, ◌∷◌, ap}
 use Rattle.std.specs.Prelude.{◌||◌}
 use Rattle.std.specs.List.{list_any}
-use Rattle.swarm_objects.specs.ServiceRules.{has_alike}
+use Rattle.swarm_objects.specs.Rules.Services.{has_alike}
 
 -- the first is like no later one
 pub has_alike-passed : {X : Type 0} (alike : X → X → Bool) (x : X) (xs : List X) → list_any (alike x) xs ≡ false → has_alike alike (x ∷ xs) ≡ has_alike alike xs

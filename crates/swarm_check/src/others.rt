@@ -1,7 +1,9 @@
 // The rules of nodes, networks and settings.
 ghost use Rattle.std.specs.Prelude.{◌≡◌, ◌≤◌, find};
 ghost use Rattle.std.specs.Result.{result_err};
-ghost use Rattle.swarm_objects.specs.OtherRules.{has_host_bits as host_bits_in, node_breaks, node_rules, resource_rules, resources_break, settings_break, settings_rules, subnet_breaks, subnet_rules};
+ghost use Rattle.swarm_objects.specs.Rules.Networks.{has_host_bits as host_bits_in, subnet_breaks, subnet_rules};
+ghost use Rattle.swarm_objects.specs.Rules.Nodes.{node_breaks, node_rules, resource_rules, resources_break};
+ghost use Rattle.swarm_objects.specs.Rules.Settings.{settings_break, settings_rules};
 
 use crate::{LONGEST_TIME, MOST_CPU, MOST_ITEMS, MOST_MEM};
 use swarm_objects::{Node, Settings, SpecRule};

@@ -3,7 +3,7 @@ ghost use Rattle.std.specs.Prelude.{◌≡◌, find, not};
 ghost use Rattle.std.specs.List.{list_any};
 ghost use Rattle.std.specs.Str.{bytes_eq};
 ghost use Rattle.std.specs.Result.{result_err};
-ghost use Rattle.swarm_objects.specs.ServiceRules.{service_breaks, has_alike, has_too_many_items as too_many_items_in, extent_rules, field_rules, has_wrong_hosts as wrong_hosts_in, has_wrong_ingress as wrong_ingress_in, has_wrong_exit as wrong_exit_in, has_wrong_time as wrong_time_in, has_wrong_work as wrong_work_in, is_empty_job as empty_job, is_host_clash as host_clash, is_ingress_clash as ingress_clash, is_label as label_key, is_too_long as too_long, is_wrong_work_time as wrong_work_time, is_zero_port as zero_port, names_twice as twice_named, service_rules, wants_too_many as too_many_wanted};
+ghost use Rattle.swarm_objects.specs.Rules.Services.{service_breaks, has_alike, has_too_many_items as too_many_items_in, extent_rules, field_rules, has_wrong_hosts as wrong_hosts_in, has_wrong_ingress as wrong_ingress_in, has_wrong_exit as wrong_exit_in, has_wrong_time as wrong_time_in, has_wrong_work as wrong_work_in, is_empty_job as empty_job, is_host_clash as host_clash, is_ingress_clash as ingress_clash, is_label as label_key, is_too_long as too_long, is_wrong_work_time as wrong_work_time, is_zero_port as zero_port, names_twice as twice_named, service_rules, wants_too_many as too_many_wanted};
 
 use crate::{LONGEST_TIME, MOST_CPU, MOST_ITEMS, MOST_MEM};
 use swarm_objects::{Draft, End, Key, Mode, Ms, Name, Port, ServiceSpec, SpecRule, Workload};

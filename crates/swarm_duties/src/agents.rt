@@ -1,6 +1,6 @@
 // The agents' duties.
 ghost use Rattle.std.specs.Prelude.{◌≡◌, IfOk};
-ghost use Rattle.swarm_objects.specs.Agents.{agents, wants_session as wants_a_session};
+ghost use Rattle.swarm_objects.specs.Today.Agents.{agents, wants_session as wants_a_session};
 ghost use Rattle.swarm_plain.specs.Plain.{world_of};
 
 use swarm_objects::{Duty, List, NoMemory, Node, Rows, add};

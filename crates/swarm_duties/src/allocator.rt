@@ -1,11 +1,6 @@
 // The allocator's duties.
 ghost use Rattle.std.specs.Prelude.{◌≡◌, ◌==◌, ◌&&◌, IfOk};
-ghost use Rattle.swarm_objects.specs.Allocator.{
-  allocator,
-  has_number as has_a_number,
-  has_numbered_ports as has_all_numbers,
-  wants_address as wants_an_address,
-};
+ghost use Rattle.swarm_objects.specs.Today.Allocator.{allocator, has_number as has_a_number, has_numbered_ports as has_all_numbers, wants_address as wants_an_address};
 ghost use Rattle.std.specs.List.{list_any};
 ghost use Rattle.swarm_objects.specs.Same.{same_bool};
 ghost use Rattle.swarm_plain.specs.Plain.{world_of};

@@ -1,17 +1,10 @@
 // Doing the duties.
 ghost use Rattle.std.specs.Prelude.{◌≡◌, ◌+◌, IfOk, OnOk, OnErr};
-ghost use Rattle.swarm_objects.specs.Effects.{
-  addressed,
-  bound_node as bound_node_of,
-  effect,
-  goal_of as goal_of_mode,
-  new_session as new_session_of,
-  new_task as new_task_of,
-  noted,
-  placed,
-  ready_node,
-};
-ghost use Rattle.swarm_objects.specs.History.{duty_outcome};
+ghost use Rattle.swarm_objects.specs.Changes.{addressed, noted, placed};
+ghost use Rattle.swarm_objects.specs.Tasks.New.{bound_node as bound_node_of, goal_of as goal_of_mode, new_task as new_task_of};
+ghost use Rattle.swarm_objects.specs.Today.Duties.{effect};
+ghost use Rattle.swarm_objects.specs.Nodes.Sessions.{new_session as new_session_of, ready_node};
+ghost use Rattle.swarm_model.specs.Today.History.{duty_outcome};
 ghost use Rattle.swarm_objects.specs.Rows.{change_row, node_id, task_id};
 ghost use Rattle.swarm_objects.specs.World.{IsSmall};
 ghost use Rattle.swarm_plain.specs.Plain.{world_of};

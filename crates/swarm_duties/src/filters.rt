@@ -1,14 +1,6 @@
 // Which nodes admit a task.
 ghost use Rattle.std.specs.Prelude.{◌≡◌};
-ghost use Rattle.swarm_objects.specs.Scheduler.{
-  admits as admits_task,
-  is_tested_on as is_tested_on_node,
-  refusal_counts as counts_of,
-  refusals as refusals_of,
-  refused_by as refusal_of,
-  refuses as refuses_node,
-  takes_tasks as may_take_tasks,
-};
+ghost use Rattle.swarm_objects.specs.Today.Scheduler.{admits as admits_task, is_tested_on as is_tested_on_node, refusal_counts as counts_of, refusals as refusals_of, refused_by as refusal_of, refuses as refuses_node, takes_tasks as may_take_tasks};
 ghost use Rattle.swarm_plain.specs.Plain.{world_of};
 
 use swarm_objects::{Availability, Id, Node, NodeState, Place, Rows, Task};

@@ -2,16 +2,7 @@
 ghost use Rattle.std.specs.Prelude.{◌≡◌, filter, None, IfOk, [], option_to_list};
 ghost use Rattle.std.specs.Option.{option_copied};
 ghost use Rattle.swarm_objects.specs.Rows.{keep_least, least_by};
-ghost use Rattle.swarm_objects.specs.Scheduler.{
-  best_node as best_node_of,
-  here as here_of,
-  load as load_of,
-  node_cmp,
-  placing,
-  says_counts as note_says_counts,
-  schedule as schedule_of,
-  scheduler,
-};
+ghost use Rattle.swarm_objects.specs.Today.Scheduler.{best_node as best_node_of, here as here_of, load as load_of, node_cmp, placing, says_counts as note_says_counts, schedule as schedule_of, scheduler};
 ghost use Rattle.swarm_plain.specs.Plain.{world_of};
 
 use crate::filters::{admits, refusal_counts};

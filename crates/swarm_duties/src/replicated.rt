@@ -1,15 +1,7 @@
 // The duties on replicated services.
 ghost use Rattle.std.specs.Prelude.{◌≡◌, length, IfOk, option_to_list};
-ghost use Rattle.swarm_objects.specs.Places.{
-  closes as closes_place,
-  counts_for as counts_for_service,
-  held_slots as held_slots_of,
-  is_held as is_held_place,
-  is_in_place as is_task_in_place,
-  numbers_of as numbers_of_places,
-  place_number as number_of_place,
-};
-ghost use Rattle.swarm_objects.specs.Replicated.{create_slot as create_slot_duty, replicated};
+ghost use Rattle.swarm_objects.specs.Tasks.Places.{closes as closes_place, counts_for as counts_for_service, held_slots as held_slots_of, is_held as is_held_place, is_in_place as is_task_in_place, numbers_of as numbers_of_places, place_number as number_of_place};
+ghost use Rattle.swarm_objects.specs.Today.Replicated.{create_slot as create_slot_duty, replicated};
 ghost use Rattle.swarm_objects.specs.Rows.{first_gap as first_gap_of};
 ghost use Rattle.swarm_plain.specs.Plain.{world_of};
 

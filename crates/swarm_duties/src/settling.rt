@@ -1,8 +1,10 @@
 // The duties of each control loop, and the settle test on them.
 ghost use Rattle.std.specs.Prelude.{◌≡◌, IfOk};
-ghost use Rattle.swarm_objects.specs.Calls.{outcome};
-ghost use Rattle.swarm_objects.specs.Duties.{duties as duties_of, settle_answer};
-ghost use Rattle.swarm_plain.specs.Plain.{world_of, Meets};
+ghost use Rattle.swarm_model.specs.Today.Calls.{outcome};
+ghost use Rattle.swarm_objects.specs.Today.Duties.{duties as duties_of};
+ghost use Rattle.swarm_model.specs.Today.Settle.{settle_answer};
+ghost use Rattle.swarm_plain.specs.Plain.{world_of};
+ghost use Rattle.swarm_model.specs.Outcome.{Meets};
 
 use crate::agents::agent_duties;
 use crate::allocator::allocator_duties;

@@ -1,11 +1,6 @@
 // Words on a task, a node and a service.
 ghost use Rattle.std.specs.Prelude.{◌≡◌};
-ghost use Rattle.swarm_objects.specs.TaskWords.{
-  is_live as is_live_row,
-  is_on as is_on_row,
-  is_placed as is_placed_row,
-  is_wanted as is_wanted_row,
-};
+ghost use Rattle.swarm_objects.specs.Tasks.Words.{is_live as is_live_row, is_on as is_on_row, is_placed as is_placed_row, is_wanted as is_wanted_row};
 
 use swarm_objects::{Desired, Id, Task, TaskState, desired_rank, rank};
 

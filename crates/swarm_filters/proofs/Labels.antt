@@ -1,7 +1,7 @@
 -- The labels from some place on.
 use Rattle.std.proofs.Common.{◌≡◌, ℕ, suc, ◌+◌, ◌<◌, true, false, cond, List, ◌∷◌, length, get_or, drop, sym, ap, ◌∙◌, drop-cons, add-one}
 use Rattle.std.specs.Str.{bytes_eq}
-use Rattle.swarm_objects.specs.Constraints.{label_value}
+use Rattle.swarm_objects.specs.Nodes.Constraints.{label_value}
 
 drop_next : (ls : List (List ℕ × List ℕ)) (i : ℕ) (l : List ℕ × List ℕ) → i < length ls → l ≡ get_or ls i l → drop i ls ≡ l ∷ drop (i + 1) ls
 drop_next ls i l below is = rw (add-one, drop-cons ls i l) (ap (λ x. x ∷ drop (suc i) ls) (sym is))

@@ -1,7 +1,7 @@
 // Which nodes a constraint admits.
 ghost use Rattle.std.specs.Prelude.{◌≡◌, decimal};
 ghost use Rattle.std.specs.Str.{str_eq_ignore_ascii_case};
-ghost use Rattle.swarm_objects.specs.Constraints.{has_value as value_at, label_value, meets};
+ghost use Rattle.swarm_objects.specs.Nodes.Constraints.{has_value as value_at, label_value, meets};
 
 use itoa::Buffer;
 use swarm_objects::{Constraint, Key, Labels, Node, NodeRole};

@@ -1,7 +1,7 @@
 // Objects that callers create.
 ghost use Rattle.std.specs.Prelude.{◌≡◌, ◌⊎◌, ◌+◌, ◌^◌, ◌<◌, ◌≤◌, IfOk, IfErr, OnErr, Ok, Err};
-ghost use Rattle.swarm_objects.specs.Calls.{node_named, new_node, apply_op};
-ghost use Rattle.swarm_objects.specs.Services.{drafted_spec as drafted, new_service, service_named};
+ghost use Rattle.swarm_model.specs.Today.Calls.{node_named, new_node, apply_op};
+ghost use Rattle.swarm_model.specs.Today.Services.{drafted_spec as drafted, new_service, service_named};
 ghost use Rattle.swarm_objects.specs.declared.calls.Op.TheVariants.{CreateNode as node_op, CreateService as service_op};
 ghost use Rattle.swarm_plain.specs.Plain.{world_of};
 

@@ -7,13 +7,15 @@ mod reads;
 
 ghost use Rattle.std.specs.Prelude.{◌≡◌, [], ◌∷◌, ◌⊎◌, ◌+◌, ◌^◌, ◌<◌, ◌≤◌, false, length, IfOk, IfErr, OnErr, Ok, Err};
 ghost use Rattle.swarm_objects.specs.World.{empty_world, IsSmall};
-ghost use Rattle.swarm_objects.specs.Calls.{apply_op, apply_ops, call_outcome, is_settle, outcome};
-ghost use Rattle.swarm_plain.specs.Plain.{world_of, Meets, Gives};
+ghost use Rattle.swarm_model.specs.Today.Calls.{apply_op, apply_ops, call_outcome, outcome};
+ghost use Rattle.swarm_objects.specs.CallWords.{is_settle};
+ghost use Rattle.swarm_plain.specs.Plain.{world_of};
+ghost use Rattle.swarm_model.specs.Outcome.{Meets, Gives};
 
 use std::alloc::Global;
 use swarm_objects::{
-    Attempt, Call, Duplicate, Id, List, Ms, Network, NoMemory, Node, NodeSession, Op, Query,
-    Refusal, Reply, Service, Settings, Task, Version,
+    Attempt, Call, Duplicate, Event, Id, List, Ms, Network, NoMemory, Node, NodeAgent, NodeSent,
+    NodeSession, Op, Query, Refusal, Reply, Service, Settings, Task, Version, Watcher,
 };
 
 /// The most entries of a history, not counting Halt.
@@ -40,6 +42,13 @@ pub struct Plain {
     /// At most one of each node, by rising node.
     pub sessions: List<NodeSession>,
     pub settings: Settings,
+    /// What was sent to each node in its session, by rising node.
+    pub sent: List<NodeSent>,
+    /// The agents of the nodes that are inside, by rising node.
+    pub agents: List<NodeAgent>,
+    pub watchers: List<Watcher>,
+    /// The events that a watcher waits for, in order.
+    pub events: List<Event>,
     pub halted: bool,
 }
 
@@ -60,6 +69,10 @@ impl Plain {
             attempts: List::new(alloc),
             sessions: List::new(alloc),
             settings: Settings::usual(),
+            sent: List::new(alloc),
+            agents: List::new(alloc),
+            watchers: List::new(alloc),
+            events: List::new(alloc),
             halted: false,
         }
     }
@@ -79,6 +92,10 @@ impl Plain {
             attempts: self.attempts.duplicate(self.alloc)?,
             sessions: self.sessions.duplicate(self.alloc)?,
             settings: self.settings,
+            sent: self.sent.duplicate(self.alloc)?,
+            agents: self.agents.duplicate(self.alloc)?,
+            watchers: self.watchers.duplicate(self.alloc)?,
+            events: self.events.duplicate(self.alloc)?,
             halted: self.halted,
         })
     }

@@ -1,7 +1,7 @@
 // What lists show.
 ghost use Rattle.std.specs.Prelude.{◌≡◌, map, IfOk};
-ghost use Rattle.swarm_objects.specs.Calls.{view_outcome};
-ghost use Rattle.swarm_objects.specs.Shown.{network_shown as shown_network, node_shown as shown_node, note_of, place_of, service_shown as shown_service, shown, task_shown};
+ghost use Rattle.swarm_model.specs.Today.Calls.{view_outcome};
+ghost use Rattle.swarm_model.specs.Calls.Views.{network_shown as shown_network, node_shown as shown_node, note_of, place_of, service_shown as shown_service, shown, task_shown};
 ghost use Rattle.swarm_plain.specs.Plain.{tables_of, world_of};
 
 use crate::Plain;

@@ -52,6 +52,10 @@ impl Rows for Plain {
         self.tasks.as_slice().iter().find(|row| row.id > after)
     }
 
+    fn next_network(&self, after: Id) -> Option<&Network> {
+        self.networks.as_slice().iter().find(|row| row.id > after)
+    }
+
     fn next_task_of(&self, service: Id, after: Id) -> Option<&Task> {
         self.tasks
             .as_slice()

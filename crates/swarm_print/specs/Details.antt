@@ -10,7 +10,7 @@ use Rattle.swarm_objects.specs.declared.views.TaskDetail.{TaskDetail}
 use Rattle.swarm_objects.specs.declared.templates.Port.{Port}
 use Rattle.swarm_print.specs.Notes.{note_text}
 use Rattle.swarm_print.specs.Objects.{address_text, place_text, subnet_text}
-use Rattle.swarm_objects.specs.ValueTexts.{role_text, state_text}
+use Rattle.swarm_objects.specs.Values.Texts.{role_text, state_text}
 use Rattle.swarm_print.specs.Words.{availability_word, desired_word, mode_word, protocol_word, state_word, update_word}
 
 abbrev pub count : ℕ → Data

@@ -1,8 +1,8 @@
 -- The lines of lists, of events and of messages.
 use Rattle.std.specs.Prelude.{ℕ, List, [], ◌∷◌, ◌++◌, length, flat_map, codes, decimal, Option, Some, None}
-use Rattle.swarm_objects.specs.declared.agents.AssignChange.{AssignChange}
-use Rattle.swarm_objects.specs.declared.agents.AssignChange.TheVariants.{Update, Remove}
-use Rattle.swarm_objects.specs.declared.agents.Message.{Message}
+use Rattle.swarm_objects.specs.declared.messages.AssignChange.{AssignChange}
+use Rattle.swarm_objects.specs.declared.messages.AssignChange.TheVariants.{Update, Remove}
+use Rattle.swarm_objects.specs.declared.messages.Message.{Message}
 use Rattle.swarm_objects.specs.declared.views.NetworkShown.{NetworkShown}
 use Rattle.swarm_objects.specs.declared.views.NodeShown.{NodeShown}
 use Rattle.swarm_objects.specs.declared.views.ServiceShown.{ServiceShown}
@@ -11,7 +11,7 @@ use Rattle.swarm_objects.specs.declared.watches.Event.{Event}
 use Rattle.swarm_print.specs.Lines.{line}
 use Rattle.swarm_print.specs.Notes.{note_text}
 use Rattle.swarm_print.specs.Objects.{node_text, service_place_text, subnet_text}
-use Rattle.swarm_objects.specs.ValueTexts.{kind_text, role_text, state_text}
+use Rattle.swarm_objects.specs.Values.Texts.{kind_text, role_text, state_text}
 use Rattle.swarm_print.specs.Words.{availability_word, desired_word, extent_word, mode_word, state_word, update_word, verb_word}
 
 abbrev pub node_line : NodeShown → List ℕ

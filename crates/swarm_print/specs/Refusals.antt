@@ -4,7 +4,7 @@ use Rattle.swarm_objects.specs.declared.replies.Refusal.{Refusal}
 use Rattle.swarm_objects.specs.declared.replies.Refusal.TheVariants as refusal
 use Rattle.swarm_objects.specs.declared.replies.Wanted.{Wanted}
 use Rattle.swarm_objects.specs.declared.replies.Wanted.TheVariants as wanted
-use Rattle.swarm_objects.specs.ValueTexts.{kind_text, state_text}
+use Rattle.swarm_objects.specs.Values.Texts.{kind_text, state_text}
 use Rattle.swarm_print.specs.Words.{rule_word, state_word}
 
 -- an object that was asked for, as it was named

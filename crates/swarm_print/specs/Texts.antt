@@ -11,7 +11,7 @@ use Rattle.swarm_print.specs.Details.{json_line, network_data, node_data, servic
 use Rattle.swarm_print.specs.Lines.{line, listing}
 use Rattle.swarm_print.specs.Lists.{event_line, message_text, network_line, node_line, service_line, task_line}
 use Rattle.swarm_print.specs.Refusals.{refusal_words}
-use Rattle.swarm_objects.specs.ValueTexts.{state_text}
+use Rattle.swarm_objects.specs.Values.Texts.{state_text}
 use Rattle.swarm_print.specs.Words.{cause_word, report_word}
 
 -- the clock, a list, or an object that was inspected

@@ -1,7 +1,7 @@
 -- The words that replies have: those of states, availabilities and how an update stands are in capitals, the others in small letters.
 use Rattle.std.specs.Prelude.{ℕ, List, Bool, true, false, codes, Option, Some, None}
-use Rattle.swarm_objects.specs.declared.changes.Cause.{Cause}
-use Rattle.swarm_objects.specs.declared.changes.Cause.TheVariants as cause
+use Rattle.swarm_objects.specs.declared.duties.Cause.{Cause}
+use Rattle.swarm_objects.specs.declared.duties.Cause.TheVariants as cause
 use Rattle.swarm_objects.specs.declared.nodes.Availability.{Availability}
 use Rattle.swarm_objects.specs.declared.nodes.Availability.TheVariants.{Active, Pause, Drain}
 use Rattle.swarm_objects.specs.declared.nodes.NodeState.{NodeState}

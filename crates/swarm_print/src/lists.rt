@@ -3,7 +3,7 @@ ghost use Rattle.std.specs.Prelude.{◌≡◌, [], ◌∷◌, ◌++◌, codes, d
 ghost use Rattle.swarm_print.specs.Lines.{line, listing};
 ghost use Rattle.swarm_print.specs.Lists.{node_line, share_text, service_line, network_line, task_line, event_line, change_line, message_text};
 ghost use Rattle.swarm_print.specs.Notes.{note_text};
-ghost use Rattle.swarm_objects.specs.ValueTexts.{state_text};
+ghost use Rattle.swarm_objects.specs.Values.Texts.{state_text};
 ghost use Rattle.swarm_print.specs.Words.{desired_word, update_word};
 
 use crate::notes::put_note;

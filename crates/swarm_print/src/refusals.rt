@@ -2,7 +2,7 @@
 ghost use Rattle.std.specs.Prelude.{◌≡◌, [], ◌∷◌, ◌++◌, codes, decimal, OnOk, string_bytes};
 ghost use Rattle.swarm_print.specs.Lines.{line};
 ghost use Rattle.swarm_print.specs.Refusals.{wanted_text, session_text, refusal_words};
-ghost use Rattle.swarm_objects.specs.ValueTexts.{kind_text};
+ghost use Rattle.swarm_objects.specs.Values.Texts.{kind_text};
 
 use crate::words::{rule_word, state_word};
 use std::alloc::AllocError;

@@ -2,7 +2,7 @@
 ghost use Rattle.std.specs.Prelude.{◌≡◌, [], ◌∷◌, ◌++◌, codes, decimal, flat_map, IfOk, OnOk, string_bytes};
 ghost use Rattle.swarm_print.specs.Lines.{line};
 ghost use Rattle.swarm_print.specs.Texts.{id_text, view_text, settle_words, reply_text};
-ghost use Rattle.swarm_objects.specs.ValueTexts.{state_text};
+ghost use Rattle.swarm_objects.specs.Values.Texts.{state_text};
 ghost use Rattle.swarm_print.specs.Words.{report_word};
 
 use crate::details::{put_network_detail, put_node_detail, put_service_detail, put_task_detail};

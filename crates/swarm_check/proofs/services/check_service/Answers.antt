@@ -1,6 +1,6 @@
 use Rattle.std.proofs.Common.{◌≡◌, Some, None, find, ap, sym, ◌∙◌, rules}
 use Rattle.std.specs.Result.{result_err}
-use Rattle.swarm_objects.specs.ServiceRules.{service_breaks, extent_rules, field_rules}
+use Rattle.swarm_objects.specs.Rules.Services.{service_breaks, extent_rules, field_rules}
 use Rattle.swarm_check.proofs.Rules.{find-front, find-back}
 use Rattle.swarm_check.proofs.services.check_service.Goals as goal
 

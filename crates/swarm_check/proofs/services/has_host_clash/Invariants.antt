@@ -1,5 +1,5 @@
 use Rattle.std.proofs.Common.{◌≡◌, length}
-use Rattle.swarm_objects.specs.ServiceRules.{has_alike, is_host_clash}
+use Rattle.swarm_objects.specs.Rules.Services.{has_alike, is_host_clash}
 use Rattle.swarm_check.proofs.services.has_host_clash.Given as goal
 
 abbrev pub invariant-loop-first : goal.invariant-loop-first

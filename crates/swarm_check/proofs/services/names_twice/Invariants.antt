@@ -1,5 +1,5 @@
 use Rattle.std.proofs.Common.{◌≡◌, length}
-use Rattle.swarm_objects.specs.ServiceRules.{names_twice}
+use Rattle.swarm_objects.specs.Rules.Services.{names_twice}
 use Rattle.swarm_check.proofs.services.names_twice.Given as goal
 
 abbrev pub invariant-loop-first : goal.invariant-loop-first

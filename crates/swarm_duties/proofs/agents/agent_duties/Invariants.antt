@@ -1,7 +1,7 @@
 use Rattle.std.proofs.Common.{◌≡◌, take}
 use Rattle.std.specs.Prelude.{filter, map}
 use Rattle.swarm_objects.specs.declared.duties.Duty.TheVariants as duty
-use Rattle.swarm_objects.specs.Agents.{wants_session}
+use Rattle.swarm_objects.specs.Today.Agents.{wants_session}
 use Rattle.swarm_plain.specs.Plain.{world_of}
 use Rattle.swarm_duties.proofs.agents.agent_duties.Given as goal
 

@@ -1,5 +1,5 @@
 use Rattle.std.proofs.Common.{◌≡◌, ◌++◌, drop, take}
-use Rattle.swarm_objects.specs.Effects.{noted}
+use Rattle.swarm_objects.specs.Changes.{noted}
 use Rattle.swarm_objects.specs.Rows.{change_row, task_id}
 use Rattle.swarm_duties.proofs.effects.note.Given as goal
 

@@ -1,5 +1,5 @@
 use Rattle.std.proofs.Common.{◌≡◌, ◌++◌, drop, take}
-use Rattle.swarm_objects.specs.Effects.{placed}
+use Rattle.swarm_objects.specs.Changes.{placed}
 use Rattle.swarm_objects.specs.Rows.{change_row, task_id}
 use Rattle.swarm_duties.proofs.effects.place.Given as goal
 

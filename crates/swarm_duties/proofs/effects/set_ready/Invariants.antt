@@ -1,5 +1,5 @@
 use Rattle.std.proofs.Common.{◌≡◌, ◌++◌, drop, take}
-use Rattle.swarm_objects.specs.Effects.{ready_node}
+use Rattle.swarm_objects.specs.Nodes.Sessions.{ready_node}
 use Rattle.swarm_objects.specs.Rows.{change_row, node_id}
 use Rattle.swarm_duties.proofs.effects.set_ready.Given as goal
 

@@ -2,7 +2,7 @@ use Rattle.std.proofs.Common.{◌≡◌, drop}
 use Rattle.std.specs.Option.{option_copied}
 use Rattle.std.specs.Prelude.{filter}
 use Rattle.swarm_objects.specs.Rows.{least_by}
-use Rattle.swarm_objects.specs.Scheduler.{admits, best_node, node_cmp}
+use Rattle.swarm_objects.specs.Today.Scheduler.{admits, best_node, node_cmp}
 use Rattle.swarm_plain.specs.Plain.{world_of}
 use Rattle.swarm_duties.proofs.placing.best_node.Given as goal
 

@@ -1,6 +1,6 @@
 use Rattle.std.proofs.Common.{◌≡◌, take}
 use Rattle.std.specs.Prelude.{flat_map}
-use Rattle.swarm_objects.specs.Scheduler.{schedule}
+use Rattle.swarm_objects.specs.Today.Scheduler.{schedule}
 use Rattle.swarm_plain.specs.Plain.{world_of}
 use Rattle.swarm_duties.proofs.placing.scheduler_duties.Given as goal
 

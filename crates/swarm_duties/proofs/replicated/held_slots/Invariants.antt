@@ -1,6 +1,6 @@
 use Rattle.std.proofs.Common.{◌≡◌, take}
 use Rattle.std.specs.Prelude.{filter}
-use Rattle.swarm_objects.specs.Places.{is_held}
+use Rattle.swarm_objects.specs.Tasks.Places.{is_held}
 use Rattle.swarm_objects.specs.declared.tasks.Place.TheVariants.{Slot}
 use Rattle.swarm_duties.proofs.replicated.held_slots.Given as goal
 

@@ -2,8 +2,9 @@ use Rattle.std.proofs.Common.{◌<◌, length, None, sym, ◌∙◌, ap, arith}
 use Rattle.std.specs.Prelude.{filter, ◌||◌}
 use Rattle.std.specs.List.{list_any, last_or}
 use Rattle.std.specs.Option.{option_copied}
-use Rattle.swarm_objects.specs.Places.{is_in_place, closes, newest}
-use Rattle.swarm_objects.specs.TaskWords.{is_live, is_some_and}
+use Rattle.swarm_objects.specs.Tasks.Places.{is_in_place, closes, newest}
+use Rattle.swarm_objects.specs.Tasks.Words.{is_live}
+use Rattle.swarm_objects.specs.Rows.{is_some_and}
 use Rattle.swarm_duties.proofs.Steps.{any_passed, any_still, last_passed, none_passed}
 use Rattle.swarm_duties.proofs.replicated.is_held.Goals as goal
 use Rattle.swarm_duties.proofs.replicated.is_held.Goals.{then-is_in_place+else-is_live, else-is_in_place}

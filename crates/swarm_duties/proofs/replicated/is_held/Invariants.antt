@@ -1,8 +1,8 @@
 use Rattle.std.proofs.Common.{◌≡◌, take, false}
 use Rattle.std.specs.List.{list_any}
 use Rattle.std.specs.Option.{option_copied}
-use Rattle.swarm_objects.specs.Places.{newest, tasks_of_place}
-use Rattle.swarm_objects.specs.TaskWords.{is_live}
+use Rattle.swarm_objects.specs.Tasks.Places.{newest, tasks_of_place}
+use Rattle.swarm_objects.specs.Tasks.Words.{is_live}
 use Rattle.swarm_duties.proofs.replicated.is_held.Given as goal
 
 abbrev pub invariant-loop-task : goal.invariant-loop-task

@@ -1,5 +1,5 @@
 use Rattle.std.proofs.Common.{◌≡◌, take}
-use Rattle.swarm_objects.specs.Places.{numbers_of}
+use Rattle.swarm_objects.specs.Tasks.Places.{numbers_of}
 use Rattle.swarm_duties.proofs.replicated.numbers_of.Given as goal
 
 abbrev pub invariant-loop-task : goal.invariant-loop-task

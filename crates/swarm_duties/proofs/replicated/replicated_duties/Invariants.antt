@@ -1,7 +1,7 @@
 use Rattle.std.proofs.Common.{◌≡◌, take}
 use Rattle.std.specs.Prelude.{flat_map}
-use Rattle.swarm_objects.specs.Places.{held_slots}
-use Rattle.swarm_objects.specs.Replicated.{create_slot}
+use Rattle.swarm_objects.specs.Tasks.Places.{held_slots}
+use Rattle.swarm_objects.specs.Today.Replicated.{create_slot}
 use Rattle.swarm_plain.specs.Plain.{world_of}
 use Rattle.swarm_duties.proofs.replicated.replicated_duties.Given as goal
 

@@ -1,6 +1,6 @@
 use Rattle.std.proofs.Common.{◌≡◌, sym, ap, ◌∙◌, true, false}
 use Rattle.std.specs.Str.{bytes_eq}
-use Rattle.swarm_objects.specs.Constraints.{label_value}
+use Rattle.swarm_objects.specs.Nodes.Constraints.{label_value}
 use Rattle.swarm_filters.proofs.Labels.{label_value-found, label_value-passed}
 use Rattle.swarm_filters.proofs.matching.value_of.Goals as goal
 

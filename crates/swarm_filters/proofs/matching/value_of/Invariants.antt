@@ -1,5 +1,5 @@
 use Rattle.std.proofs.Common.{◌≡◌, drop}
-use Rattle.swarm_objects.specs.Constraints.{label_value}
+use Rattle.swarm_objects.specs.Nodes.Constraints.{label_value}
 use Rattle.swarm_filters.proofs.matching.value_of.Given as goal
 
 abbrev pub invariant-loop-label : goal.invariant-loop-label

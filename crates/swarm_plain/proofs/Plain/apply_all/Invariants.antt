@@ -1,5 +1,5 @@
 use Rattle.std.proofs.Common.{◌≡◌, ◌+◌, ◌<◌, ◌^◌, length, drop, []}
-use Rattle.swarm_objects.specs.Calls.{apply_ops}
+use Rattle.swarm_model.specs.Today.Calls.{apply_ops}
 use Rattle.swarm_plain.specs.Plain.{world_of}
 use Rattle.swarm_plain.proofs.Plain.apply_all.Given as goal
 

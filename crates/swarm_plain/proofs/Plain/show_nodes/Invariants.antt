@@ -1,6 +1,6 @@
 use Rattle.std.proofs.Common.{◌≡◌, take}
 use Rattle.std.specs.Prelude.{map}
-use Rattle.swarm_objects.specs.Shown.{shown}
+use Rattle.swarm_model.specs.Calls.Views.{shown}
 use Rattle.swarm_plain.proofs.Plain.show_nodes.Given as goal
 
 abbrev pub invariant-loop-node : goal.invariant-loop-node

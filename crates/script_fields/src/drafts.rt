@@ -1,0 +1,315 @@
+// What the fields of a line say together.
+ghost use Rattle.std.specs.Prelude.{◌≡◌, [], ◌∷◌, ◌++◌, codes, IfOk, filter_map, true, false};
+ghost use Rattle.swarm_objects.specs.declared.services.Mode.TheVariants as mode;
+ghost use Rattle.swarm_objects.specs.declared.templates.End.TheVariants as end;
+ghost use Rattle.swarm_objects.specs.declared.templates.RestartCondition.TheVariants as condition;
+ghost use Rattle.swarm_objects.specs.declared.services.FailureAction.TheVariants as action;
+ghost use Rattle.swarm_objects.specs.declared.services.UpdateOrder.TheVariants as order;
+ghost use Rattle.swarm_objects.specs.declared.nodes.NodeRole.TheVariants as role;
+ghost use Rattle.swarm_objects.specs.declared.nodes.Availability.TheVariants as availability;
+ghost use Rattle.script_grammar.specs.Drafts.{named_or, number_in, number_named, number_given, mode_in, end_in, restart_in, failure_in, order_in, role_in, availability_in, os_in, arch_in, remote_in, constraint_in, spread_in, net_in, port_in, host_in, platform_in, draft_of, node_draft_of, settings_of};
+
+use crate::labels::{engines_named, labels_named};
+use crate::tables::number_default;
+use std::alloc::Global;
+use script_grammar::{Field, NumberField, Table};
+use swarm_objects::{
+    Availability, Constraint, Draft, Duplicate, End, FailureAction, Key, List, Mode, Name,
+    NoMemory, NodeDraft, NodeRole, Platform, Port, RestartCondition, RestartPolicy, ServiceSpec,
+    Settings, Template, UpdateConfig, UpdateOrder, Workload, add,
+};
+
+// The number in the field, if it is this one.
+fn number_in(which: NumberField, field: &Field) -> Option<u64>
+    ensures { result ≡ number_in which field.now }
+{
+    match field {
+        Field::Number(other, number) if *other == which => Some(*number),
+        _ => None,
+    }
+}
+
+fn number_named(table: Table, which: NumberField, fields: &[Field]) -> u64
+    ensures { result ≡ number_named table which fields.now }
+{
+    for field in fields {
+        if let Some(number) = number_in(which, field) {
+            return number;
+        }
+    }
+    number_default(table, which)
+}
+
+/// The number that the first such field says, where there is one.
+pub fn number_given(which: NumberField, fields: &[Field]) -> Option<u64>
+    ensures { result ≡ number_given which fields.now }
+{
+    for field in fields {
+        if let Some(number) = number_in(which, field) {
+            return Some(number);
+        }
+    }
+    None
+}
+
+fn mode_named(fields: &[Field]) -> Mode
+    ensures { result ≡ named_or mode_in (mode.Replicated 1) fields.now }
+{
+    for field in fields {
+        if let Field::Mode(value) = field {
+            return *value;
+        }
+    }
+    Mode::Replicated(1)
+}
+
+fn end_named(fields: &[Field]) -> End
+    ensures { result ≡ named_or end_in end.Never fields.now }
+{
+    for field in fields {
+        if let Field::End(value) = field {
+            return *value;
+        }
+    }
+    End::Never
+}
+
+fn restart_named(fields: &[Field]) -> RestartCondition
+    ensures { result ≡ named_or restart_in condition.Any fields.now }
+{
+    for field in fields {
+        if let Field::Restart(value) = field {
+            return *value;
+        }
+    }
+    RestartCondition::Any
+}
+
+fn failure_named(fields: &[Field]) -> FailureAction
+    ensures { result ≡ named_or failure_in action.Pause fields.now }
+{
+    for field in fields {
+        if let Field::Failure(value) = field {
+            return *value;
+        }
+    }
+    FailureAction::Pause
+}
+
+fn order_named(fields: &[Field]) -> UpdateOrder
+    ensures { result ≡ named_or order_in order.StopFirst fields.now }
+{
+    for field in fields {
+        if let Field::Order(value) = field {
+            return *value;
+        }
+    }
+    UpdateOrder::StopFirst
+}
+
+/// The role that the fields of a node name, or else a worker's.
+pub fn role_named(fields: &[Field]) -> NodeRole
+    ensures { result ≡ named_or role_in role.Worker fields.now }
+{
+    for field in fields {
+        if let Field::Role(value) = field {
+            return *value;
+        }
+    }
+    NodeRole::Worker
+}
+
+/// The availability that the fields of a node name, or else an active node's.
+pub fn availability_named(fields: &[Field]) -> Availability
+    ensures { result ≡ named_or availability_in availability.Active fields.now }
+{
+    for field in fields {
+        if let Field::Availability(value) = field {
+            return *value;
+        }
+    }
+    Availability::Active
+}
+
+fn os_named(alloc: Global, fields: &[Field]) -> Result<Name, NoMemory>
+    ensures { IfOk result (λ name. name ≡ named_or os_in (codes "linux") fields.now) }
+{
+    for field in fields {
+        if let Field::Os(name) = field {
+            return name.duplicate(alloc);
+        }
+    }
+    Ok(Name::new(alloc, "linux")?)
+}
+
+fn arch_named(alloc: Global, fields: &[Field]) -> Result<Name, NoMemory>
+    ensures { IfOk result (λ name. name ≡ named_or arch_in (codes "amd64") fields.now) }
+{
+    for field in fields {
+        if let Field::Arch(name) = field {
+            return name.duplicate(alloc);
+        }
+    }
+    Ok(Name::new(alloc, "amd64")?)
+}
+
+fn remote_named(fields: &[Field]) -> bool
+    ensures { result ≡ named_or remote_in false fields.now }
+{
+    for field in fields {
+        if let Field::Remote = field {
+            return true;
+        }
+    }
+    false
+}
+
+fn constraints_named(alloc: Global, fields: &[Field]) -> Result<List<Constraint>, NoMemory>
+    ensures { IfOk result (λ items. items ≡ filter_map constraint_in fields.now) }
+{
+    let mut items = List::new(alloc);
+    for field in fields {
+        if let Field::Constraint(item) = field {
+            add(&mut items, item.duplicate(alloc)?)?;
+        }
+    }
+    Ok(items)
+}
+
+fn spreads_named(alloc: Global, fields: &[Field]) -> Result<List<Key>, NoMemory>
+    ensures { IfOk result (λ items. items ≡ filter_map spread_in fields.now) }
+{
+    let mut items = List::new(alloc);
+    for field in fields {
+        if let Field::Spread(item) = field {
+            add(&mut items, item.duplicate(alloc)?)?;
+        }
+    }
+    Ok(items)
+}
+
+fn nets_named(alloc: Global, fields: &[Field]) -> Result<List<Name>, NoMemory>
+    ensures { IfOk result (λ items. items ≡ filter_map net_in fields.now) }
+{
+    let mut items = List::new(alloc);
+    for field in fields {
+        if let Field::Net(item) = field {
+            add(&mut items, item.duplicate(alloc)?)?;
+        }
+    }
+    Ok(items)
+}
+
+fn ports_named(alloc: Global, fields: &[Field]) -> Result<List<Port>, NoMemory>
+    ensures { IfOk result (λ items. items ≡ filter_map port_in fields.now) }
+{
+    let mut items = List::new(alloc);
+    for field in fields {
+        if let Field::Port(item) = field {
+            add(&mut items, item.duplicate(alloc)?)?;
+        }
+    }
+    Ok(items)
+}
+
+fn hosts_named(alloc: Global, fields: &[Field]) -> Result<List<Port>, NoMemory>
+    ensures { IfOk result (λ items. items ≡ filter_map host_in fields.now) }
+{
+    let mut items = List::new(alloc);
+    for field in fields {
+        if let Field::Host(item) = field {
+            add(&mut items, item.duplicate(alloc)?)?;
+        }
+    }
+    Ok(items)
+}
+
+fn platforms_named(alloc: Global, fields: &[Field]) -> Result<List<Platform>, NoMemory>
+    ensures { IfOk result (λ items. items ≡ filter_map platform_in fields.now) }
+{
+    let mut items = List::new(alloc);
+    for field in fields {
+        if let Field::Platform(item) = field {
+            add(&mut items, item.duplicate(alloc)?)?;
+        }
+    }
+    Ok(items)
+}
+
+// How the fields of a service say that it is updated.
+fn update_named(fields: &[Field]) -> UpdateConfig
+    ensures { result ≡ (draft_of fields.now).spec.update }
+{
+    UpdateConfig {
+        parallelism: number_named(Table::Service, NumberField::Parallelism, fields),
+        delay: number_named(Table::Service, NumberField::UpdateDelay, fields),
+        monitor: number_named(Table::Service, NumberField::Monitor, fields),
+        action: failure_named(fields),
+        ratio: number_named(Table::Service, NumberField::Ratio, fields),
+        order: order_named(fields),
+    }
+}
+
+/// The draft that the fields of a service say.
+pub fn draft_of(alloc: Global, fields: &[Field]) -> Result<Draft, NoMemory>
+    ensures { IfOk result (λ draft. draft ≡ draft_of fields.now) }
+{
+    Ok(Draft {
+        spec: ServiceSpec {
+            mode: mode_named(fields),
+            template: Template {
+                workload: Workload {
+                    prepare: number_named(Table::Service, NumberField::Prepare, fields),
+                    start: number_named(Table::Service, NumberField::Start, fields),
+                    stop: number_named(Table::Service, NumberField::Stop, fields),
+                    end: end_named(fields),
+                },
+                cpu: number_named(Table::Service, NumberField::Cpu, fields),
+                mem: number_named(Table::Service, NumberField::Mem, fields),
+                constraints: constraints_named(alloc, fields)?,
+                spread: spreads_named(alloc, fields)?,
+                platforms: platforms_named(alloc, fields)?,
+                max_replicas: number_named(Table::Service, NumberField::MaxReplicas, fields),
+                networks: List::new(alloc),
+                host_ports: hosts_named(alloc, fields)?,
+                restart: RestartPolicy {
+                    condition: restart_named(fields),
+                    delay: number_named(Table::Service, NumberField::RestartDelay, fields),
+                    max_attempts: number_named(Table::Service, NumberField::RestartMax, fields),
+                    window: number_named(Table::Service, NumberField::RestartWindow, fields),
+                },
+            },
+            ports: ports_named(alloc, fields)?,
+            update: update_named(fields),
+        },
+        networks: nets_named(alloc, fields)?,
+    })
+}
+
+/// The draft that the fields of a node say.
+pub fn node_draft_of(alloc: Global, fields: &[Field]) -> Result<NodeDraft, NoMemory>
+    ensures { IfOk result (λ draft. draft ≡ node_draft_of fields.now) }
+{
+    Ok(NodeDraft {
+        labels: labels_named(alloc, fields)?,
+        role: role_named(fields),
+        availability: availability_named(fields),
+        cpu: number_named(Table::NewNode, NumberField::Cpu, fields),
+        mem: number_named(Table::NewNode, NumberField::Mem, fields),
+        os: os_named(alloc, fields)?,
+        arch: arch_named(alloc, fields)?,
+        engine: engines_named(alloc, fields)?,
+        remote: remote_named(fields),
+    })
+}
+
+/// The settings that the fields say.
+pub fn settings_of(fields: &[Field]) -> Settings
+    ensures { result ≡ settings_of fields.now }
+{
+    Settings {
+        heartbeat: number_named(Table::Cluster, NumberField::Heartbeat, fields),
+        orphan: number_named(Table::Cluster, NumberField::Orphan, fields),
+        history: number_named(Table::Cluster, NumberField::History, fields),
+    }
+}

@@ -1,0 +1,73 @@
+-- A number's one spelling.
+use Rattle.std.proofs.Common.{◌≡◌, ◌≢◌, ℕ, ◌<◌, ◌^◌, List, Bool, true, false, cond, ◌&&◌, refl, sym, ◌∙◌, ap, subst, Option, Some, None, arith, decimal, nat_lt}
+use Rattle.std.specs.Str.{bytes_eq}
+use Rattle.std.specs.Str.Parse.{digits_value}
+use Rattle.std.proofs.lemmas.Slice.Eq.{bytes_eq-Decides}
+use Rattle.std.proofs.lemmas.Bool.Decides.{nat_tests}
+use Rattle.std.proofs.lemmas.Fmt.{decimal_is_IsNumeral, decimal_injective}
+use Rattle.script_grammar.specs.Words.{number_below, number_of}
+
+pub both : (a b : Bool) → (a && b) ≡ true → (a ≡ true) × (b ≡ true)
+both true b e = (refl, e)
+both false b e = cc
+
+pub and_yes : (a b : Bool) → a ≡ true → b ≡ true → (a && b) ≡ true
+and_yes a b e f = ap (λ x. x && b) e ∙ f
+
+pub test_yes : {A : Type 0} (b : Bool) (x : A) → b ≡ true → cond b (Some x) None ≡ Some x
+test_yes true x e = refl
+test_yes false x e = cc
+
+pub test_some : {A : Type 0} (b : Bool) (x y : A) → cond b (Some x) None ≡ Some y → (b ≡ true) × (x ≡ y)
+test_some true x y e = (refl, cc)
+test_some false x y e = cc
+
+pub same_bytes : (w : List ℕ) → bytes_eq w w ≡ true
+same_bytes w = (bytes_eq-Decides w w).1 refl
+
+pub below_yes : (n k : ℕ) → n < k → nat_lt n k ≡ true
+below_yes n k h = grind (arith, nat_tests)
+
+pub below_only : (n k : ℕ) → nat_lt n k ≡ true → n < k
+below_only n k e = grind (arith, nat_tests)
+
+pub not_below : (n k : ℕ) → nat_lt n k ≡ false → n < k → ⊥
+not_below n k e h = let y = below_yes n k h in let z : true ≡ false = sym y ∙ e in cc
+
+pub number_yes : (limit n : ℕ) → n < limit → n < 2 ^ 64 → number_below limit (decimal n) ≡ Some n
+number_yes limit n h byte_number =
+    let v = (decimal_is_IsNumeral n byte_number).1 in
+    subst (λ (m : ℕ). cond (nat_lt m limit && bytes_eq (decimal n) (decimal m)) (Some m) None ≡ Some n) (sym v)
+    (test_yes (nat_lt n limit && bytes_eq (decimal n) (decimal n)) n (and_yes (nat_lt n limit) (bytes_eq (decimal n) (decimal n)) (below_yes n limit h) (same_bytes (decimal n))))
+
+pub number_only : (limit n : ℕ) (w : List ℕ) → number_below limit w ≡ Some n → (w ≡ decimal n) × (n < limit)
+number_only limit n w e =
+    let v = digits_value 10 w in
+    let t = test_some (nat_lt v limit && bytes_eq w (decimal v)) v n e in
+    let b = both (nat_lt v limit) (bytes_eq w (decimal v)) t.0 in
+    ((bytes_eq-Decides w (decimal v)).0 b.1 ∙ ap decimal t.1, subst (λ m. m < limit) t.1 (below_only v limit b.0))
+
+no_number : (o : Option ℕ) → ((n : ℕ) → o ≡ Some n → ⊥) → o ≡ None
+no_number None h = refl
+no_number (Some n) h = absurd (h n refl)
+
+pub number_no : (limit : ℕ) (w : List ℕ) → ((n : ℕ) → n < limit → w ≢ decimal n) → number_below limit w ≡ None
+number_no limit w h = no_number (number_below limit w) (λ n e. let o = number_only limit n w e in h n o.1 o.0)
+
+-- a smaller limit
+pub number_smaller : (limit : ℕ) (w : List ℕ) → limit < 2 ^ 64 → (o : Option ℕ) → number_of w ≡ o → number_below limit w ≡ (elim o [ Some n ↦ cond (nat_lt n limit) (Some n) None | None ↦ None ])
+number_smaller limit w h None e = no_number (number_below limit w) (λ n f. let o = number_only limit n w f in
+    let g = number_yes (2 ^ 64) n (omega (arith, o.1)) (omega (arith, o.1)) in
+    let k : number_of w ≡ Some n = ap number_of o.0 ∙ g in let l : None ≡ Some n = sym e ∙ k in cc)
+number_smaller limit w h (Some n) e =
+    let o = number_only (2 ^ 64) n w e in
+    ap (number_below limit) o.0 ∙ go (nat_lt n limit) refl
+  where
+    go : (b : Bool) → nat_lt n limit ≡ b → number_below limit (decimal n) ≡ cond b (Some n) None
+    go true t = number_yes limit n (below_only n limit t) (number_only (2 ^ 64) n w e).1
+    go false t = no_number (number_below limit (decimal n)) (λ m f. let o = number_only limit m (decimal n) f in
+        let byte_number : n < 2 ^ 64 = (number_only (2 ^ 64) n w e).1 in
+        let same = decimal_injective n m byte_number (omega (arith, o.1)) o.0 in
+        not_below n limit t (subst (λ x. x < limit) (sym same) o.1))
+
+-- the place of the first such byte parts the text

@@ -1,0 +1,10 @@
+use Rattle.std.proofs.Common.{◌++◌, ◌∙◌, List, ℕ, ap, string_bytes, sym}
+use Rattle.script_grammar.specs.Pieces.{old_node_pieces}
+use Rattle.script_writer.proofs.Fronts.{ok_then, rows_behind}
+use Rattle.script_writer.proofs.drafts.put_old_node.Goals as goal
+
+pub returns : goal.returns
+returns c =
+    let t0 : List ℕ = string_bytes c.args.text.now in
+    ok_then c.put_status.result c.put_status.ensures (λ e.
+    e ∙ ap (λ t. t0 ++ t) (sym (rows_behind (old_node_pieces c.args.labels.now c.args.role c.args.availability))))

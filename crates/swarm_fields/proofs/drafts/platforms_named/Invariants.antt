@@ -1,7 +1,0 @@
-use Rattle.std.proofs.Common.{◌≡◌, ◌++◌, drop}
-use Rattle.std.specs.List.{filter_map}
-use Rattle.swarm_grammar.specs.Drafts.{platform_in}
-use Rattle.swarm_fields.proofs.drafts.platforms_named.Given as goal
-
-abbrev pub invariant-loop-field : goal.invariant-loop-field
-invariant-loop-field l = filter_map platform_in l.fields ≡ l.items ++ filter_map platform_in (drop l.field-index l.fields)

@@ -1,6 +1,0 @@
-use Rattle.std.proofs.Common.{◌≡◌, ◌+◌, drop}
-use Rattle.swarm_grammar.specs.Drafts.{label_place}
-use Rattle.swarm_fields.proofs.labels.label_place.Given as goal
-
-abbrev pub invariant-loop-label : goal.invariant-loop-label
-invariant-loop-label l = (l.place ≡ l.label-index) × (label_place l.key l.labels ≡ l.place + label_place l.key (drop l.label-index l.labels))

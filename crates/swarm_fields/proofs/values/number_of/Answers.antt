@@ -1,5 +1,0 @@
-use Rattle.swarm_fields.proofs.Readings.{parsed_number}
-use Rattle.swarm_fields.proofs.values.number_of.Goals as goal
-
-pub returns : goal.returns
-returns c = parsed_number c.parsed.result c.args.word.now c.parsed.ensures.some c.parsed.ensures.none

@@ -1,0 +1,3 @@
+pub mod DutyLemmas
+pub mod Examples
+pub mod Histories

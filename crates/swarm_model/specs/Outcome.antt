@@ -1,0 +1,19 @@
+-- A reply, and the world after it.
+use Rattle.swarm_objects.specs.World.{World}
+use Rattle.swarm_objects.specs.declared.replies.Reply.{Reply}
+use Rattle.std.specs.Prelude.{◌≡◌, ◌⊎◌}
+use Rattle.swarm_objects.specs.declared.replies.Refusal.TheVariants.{NoMemory}
+use Rattle.swarm_objects.specs.declared.replies.Reply.TheVariants.{Refused}
+
+-- a reply, and the world after it
+pub record Outcome : Type 0 where
+  pub reply : Reply
+  pub after : World
+
+-- the answer and the world after it are the expected ones
+abbrev pub Gives : Outcome → Reply → World → Type 0
+Gives expected reply after = (reply ≡ expected.reply) × (after ≡ expected.after)
+
+-- they are the expected ones, or memory was wanting and nothing changed
+abbrev pub Meets : Outcome → World → Reply → World → Type 0
+Meets expected before reply after = Gives expected reply after ⊎ ((reply ≡ Refused NoMemory) × (after ≡ before))

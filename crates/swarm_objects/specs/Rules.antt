@@ -1,0 +1,4 @@
+pub mod Services
+pub mod Nodes
+pub mod Networks
+pub mod Settings

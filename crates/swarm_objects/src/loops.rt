@@ -1,0 +1,49 @@
+// The control loops.
+ghost use Rattle.std.specs.Prelude.{◌≡◌};
+ghost use Rattle.swarm_objects.specs.DutyTexts.{loop_word};
+
+use crate::{Duplicate, NoMemory};
+use std::alloc::Global;
+
+/// The control loops, in their order.
+#[derive(Clone, Copy, Debug, PartialEq, Eq)]
+pub enum Role {
+    Dispatcher,
+    Enforcer,
+    Restart,
+    Update,
+    Replicated,
+    Global,
+    Job,
+    Allocator,
+    Scheduler,
+    Reaper,
+    Agents,
+}
+
+impl Role {
+    /// Its name, as journals have it.
+    pub fn word(self) -> &'static str
+        ensures { result.now ≡ loop_word self }
+    {
+        match self {
+            Role::Dispatcher => "dispatcher",
+            Role::Enforcer => "enforcer",
+            Role::Restart => "restart",
+            Role::Update => "update",
+            Role::Replicated => "replicated",
+            Role::Global => "global",
+            Role::Job => "job",
+            Role::Allocator => "allocator",
+            Role::Scheduler => "scheduler",
+            Role::Reaper => "reaper",
+            Role::Agents => "agents",
+        }
+    }
+}
+
+impl Duplicate for Role {
+    fn duplicate(&self, _alloc: Global) -> Result<Role, NoMemory> {
+        Ok(*self)
+    }
+}

@@ -1,8 +1,0 @@
-use Rattle.std.proofs.Common.{◌≡◌, ◌++◌, drop, map, string_bytes}
-use Rattle.swarm_grammar.specs.declared.fields.Field.TheVariants as field
-use Rattle.swarm_writer.specs.Behind.{fields_text}
-use Rattle.swarm_writer.proofs.rows.put_constraints.Given as goal
-
-abbrev pub invariant-loop-constraint : goal.invariant-loop-constraint
-invariant-loop-constraint l =
-    string_bytes l.text ++ fields_text (map field.Constraint (drop l.constraint-index l.constraints)) ≡ string_bytes l.initial.text ++ fields_text (map field.Constraint l.constraints)

@@ -1,8 +1,0 @@
-use Rattle.std.proofs.Common.{◌≡◌, ◌++◌, drop, map, string_bytes}
-use Rattle.swarm_grammar.specs.declared.fields.Field.TheVariants as field
-use Rattle.swarm_writer.specs.Behind.{fields_text}
-use Rattle.swarm_writer.proofs.rows.put_ingress.Given as goal
-
-abbrev pub invariant-loop-port : goal.invariant-loop-port
-invariant-loop-port l =
-    string_bytes l.text ++ fields_text (map field.Port (drop l.port-index l.ports)) ≡ string_bytes l.initial.text ++ fields_text (map field.Port l.ports)

@@ -1,8 +1,0 @@
-use Rattle.std.proofs.Common.{◌≡◌, ◌++◌, drop, map, string_bytes}
-use Rattle.swarm_grammar.specs.declared.fields.Field.TheVariants as field
-use Rattle.swarm_writer.specs.Behind.{fields_text}
-use Rattle.swarm_writer.proofs.rows.put_nets.Given as goal
-
-abbrev pub invariant-loop-name : goal.invariant-loop-name
-invariant-loop-name l =
-    string_bytes l.text ++ fields_text (map field.Net (drop l.name-index l.names)) ≡ string_bytes l.initial.text ++ fields_text (map field.Net l.names)
