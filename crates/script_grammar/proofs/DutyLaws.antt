@@ -3,7 +3,7 @@ use Rattle.std.proofs.Common.{◌≡◌, ℕ, ◌^◌, List, [], ◌∷◌, ◌+
 use Rattle.std.specs.Fmt.{digits}
 use Rattle.std.specs.Str.{bytes_eq}
 use Rattle.std.proofs.lemmas.Option.{same_Some}
-use Rattle.swarm_objects.specs.Duties.{bit, role_of, roles}
+use Rattle.swarm_objects.specs.Kinds.{bit, role_of, roles}
 use Rattle.swarm_objects.specs.DutyTexts.{duty_kind, duty_words, loop_word}
 use Rattle.swarm_objects.specs.declared.loops.Role.{Role}
 use Rattle.swarm_objects.specs.declared.loops.Role.TheVariants as role

@@ -2,7 +2,7 @@
 use Rattle.std.proofs.Common.{◌≡◌, ℕ, ◌<◌, ◌≤◌, ◌^◌, ◌/◌, ◌%◌, List, [], ◌∷◌, ◌++◌, codes, decimal, map, Bool, true, false, cond, ◌&&◌, refl, Option, Some, None, arith, nat_eq, nat_le}
 use Rattle.std.specs.List.{AllByRecursion}
 use Rattle.std.proofs.lemmas.Bool.Decides.{nat_tests}
-use Rattle.swarm_objects.specs.Duties.{bit, duty_numbers, role_of}
+use Rattle.swarm_objects.specs.Kinds.{bit, duty_numbers, role_of}
 use Rattle.swarm_objects.specs.DutyTexts.{duty_kind, duty_words, loop_word}
 use Rattle.swarm_objects.specs.declared.calls.Call.{Call}
 use Rattle.swarm_objects.specs.declared.calls.Call.TheVariants as call

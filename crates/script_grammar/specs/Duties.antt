@@ -1,7 +1,7 @@
 -- Duties as a machine that reads words, behind the word `duty`.
 use Rattle.std.specs.Prelude.{ℕ, List, codes, Bool, true, false, if◌then◌else◌, Option, Some, None, find}
 use Rattle.std.specs.Str.{bytes_eq}
-use Rattle.swarm_objects.specs.Duties.{roles}
+use Rattle.swarm_objects.specs.Kinds.{roles}
 use Rattle.swarm_objects.specs.DutyTexts.{loop_word}
 use Rattle.swarm_objects.specs.declared.loops.Role.{Role}
 use Rattle.swarm_objects.specs.declared.loops.Role.TheVariants as role

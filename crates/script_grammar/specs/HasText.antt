@@ -1,7 +1,7 @@
 -- Which entries have a text. A number is tested too, though each value that a program has fits its type.
 use Rattle.std.specs.Prelude.{ℕ, nat_lt, ◌^◌, List, [], ◌∷◌, Bool, true, false, not, ◌&&◌, Option, Some, None}
 use Rattle.std.specs.List.{list_all}
-use Rattle.swarm_objects.specs.Duties.{duty_numbers}
+use Rattle.swarm_objects.specs.Kinds.{duty_numbers}
 use Rattle.swarm_objects.specs.declared.calls.Call.{Call}
 use Rattle.swarm_objects.specs.declared.calls.Call.TheVariants as call
 use Rattle.swarm_objects.specs.declared.calls.Entry.{Entry}

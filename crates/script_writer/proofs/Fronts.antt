@@ -4,7 +4,7 @@ use Rattle.std.proofs.lemmas.List.{append-nil}
 use Rattle.std.specs.Prelude.{Option, Result}
 use Rattle.std.specs.List.{flat_map}
 use Rattle.swarm_objects.specs.DutyTexts.{duty_kind, duty_text, duty_words, loop_word, spaced}
-use Rattle.swarm_objects.specs.Duties.{duty_numbers, role_of}
+use Rattle.swarm_objects.specs.Kinds.{duty_numbers, role_of}
 use Rattle.swarm_objects.specs.declared.duties.Duty.{Duty}
 use Rattle.swarm_objects.specs.declared.templates.Constraint.{Constraint}
 use Rattle.swarm_objects.specs.declared.calls.Entry.{Entry}

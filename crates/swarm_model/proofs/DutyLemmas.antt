@@ -12,7 +12,7 @@ use Rattle.swarm_objects.specs.Today.Agents.{wants_session}
 use Rattle.swarm_objects.specs.Today.Allocator.{wants_address}
 use Rattle.swarm_model.specs.Today.Settle.{all_duties, settle_answer, settle_by}
 use Rattle.swarm_objects.specs.Today.Duties.{duties, is_due}
-use Rattle.swarm_objects.specs.Duties.{duty_numbers, kind_place, role_of, roles, same_duty}
+use Rattle.swarm_objects.specs.Kinds.{duty_numbers, kind_place, role_of, roles, same_duty}
 use Rattle.swarm_objects.specs.Tasks.Places.{held_slots}
 use Rattle.swarm_objects.specs.Today.Replicated.{create_slot}
 use Rattle.swarm_objects.specs.Rows.{Has, first_gap, first_of}

@@ -1,3 +1,12 @@
-pub mod Outcome
 pub mod Calls
+pub mod Changed
+pub mod Closing
+pub mod Content
+pub mod Follows
+pub mod History
+pub mod Laws
+pub mod Outcome
+pub mod Script
+pub mod Serial
+pub mod Settle
 pub mod Today

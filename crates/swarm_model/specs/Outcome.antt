@@ -1,9 +1,10 @@
 -- A reply, and the world after it.
 use Rattle.swarm_objects.specs.World.{World}
 use Rattle.swarm_objects.specs.declared.replies.Reply.{Reply}
-use Rattle.std.specs.Prelude.{◌≡◌, ◌⊎◌}
+use Rattle.std.specs.Prelude.{◌≡◌, ◌⊎◌, Result}
 use Rattle.swarm_objects.specs.declared.replies.Refusal.TheVariants.{NoMemory}
 use Rattle.swarm_objects.specs.declared.replies.Reply.TheVariants.{Refused}
+use Rattle.swarm_objects.specs.declared.replies.Refusal.{Refusal}
 
 -- a reply, and the world after it
 pub record Outcome : Type 0 where
@@ -17,3 +18,7 @@ Gives expected reply after = (reply ≡ expected.reply) × (after ≡ expected.a
 -- they are the expected ones, or memory was wanting and nothing changed
 abbrev pub Meets : Outcome → World → Reply → World → Type 0
 Meets expected before reply after = Gives expected reply after ⊎ ((reply ≡ Refused NoMemory) × (after ≡ before))
+
+-- a reply and the world after it, or the refusal
+abbrev pub Answered : Type 0
+Answered = Result (Reply × World) Refusal

@@ -1,4 +1,4 @@
-pub mod Services
 pub mod Calls
-pub mod Settle
 pub mod History
+pub mod Services
+pub mod Settle

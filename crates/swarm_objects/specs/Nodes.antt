@@ -1,3 +1,6 @@
-pub mod Words
-pub mod Sessions
+pub mod BestNode
 pub mod Constraints
+pub mod Filters
+pub mod Holdings
+pub mod Sessions
+pub mod Words

@@ -1,4 +1,4 @@
-pub mod Services
-pub mod Nodes
 pub mod Networks
+pub mod Nodes
+pub mod Services
 pub mod Settings

@@ -1,4 +1,6 @@
-pub mod Words
-pub mod Places
+pub mod Addresses
 pub mod Attempts
 pub mod New
+pub mod Places
+pub mod Policy
+pub mod Words

@@ -1,6 +1,6 @@
-pub mod CanDo
-pub mod Replicated
-pub mod Allocator
-pub mod Scheduler
 pub mod Agents
+pub mod Allocator
+pub mod CanDo
 pub mod Duties
+pub mod Replicated
+pub mod Scheduler

@@ -30,3 +30,6 @@ registered version t node = record t {
   nodes = change_row node_id node (ready_node version) t.nodes;
   sessions = with_row session_node (new_session t node) t.sessions;
 }
+
+abbrev pub session_of : Tables → ℕ → Option NodeSession
+session_of t node = row_at session_node node t.sessions

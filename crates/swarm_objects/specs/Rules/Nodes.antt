@@ -1,5 +1,5 @@
 -- The rules of nodes and of the resources that one opens a session with, in the order in which they are tested.
-use Rattle.std.specs.Prelude.{ℕ, Bool, false, ◌||◌, nat_lt, ◌-◌, List, [], ◌∷◌, length}
+use Rattle.std.specs.Prelude.{ℕ, Bool, false, ◌||◌, nat_lt, List, [], ◌∷◌, length}
 use Rattle.swarm_objects.specs.declared.rules.SpecRule.{SpecRule}
 use Rattle.swarm_objects.specs.Limits.{most_cpu, most_mem}
 use Rattle.swarm_objects.specs.declared.nodes.Node.{Node}

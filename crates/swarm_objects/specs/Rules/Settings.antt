@@ -1,5 +1,5 @@
 -- The rule of the cluster's settings.
-use Rattle.std.specs.Prelude.{Bool, false, ◌||◌, nat_lt, ◌-◌, List, [], ◌∷◌}
+use Rattle.std.specs.Prelude.{Bool, false, ◌||◌, nat_lt, List, [], ◌∷◌}
 use Rattle.swarm_objects.specs.declared.rules.SpecRule.{SpecRule}
 use Rattle.swarm_objects.specs.declared.settings.Settings.{Settings}
 use Rattle.swarm_objects.specs.Limits.{longest_time, is_outside}

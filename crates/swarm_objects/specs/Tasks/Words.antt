@@ -4,7 +4,7 @@ use Rattle.swarm_objects.specs.Values.Ranks.{desired_rank, rank}
 use Rattle.swarm_objects.specs.declared.tasks.Task.{Task}
 use Rattle.swarm_objects.specs.declared.tasks.TaskState.{TaskState}
 use Rattle.std.specs.Option.{option_eq}
-use Rattle.swarm_objects.specs.Same.{same_number}
+use Rattle.swarm_objects.specs.Same.{same_number, same_place}
 use Rattle.swarm_objects.specs.declared.tasks.TaskState.TheVariants as state
 use Rattle.swarm_objects.specs.declared.tasks.Desired.TheVariants as desired
 
@@ -33,3 +33,42 @@ is_of service t = t.service == service
 
 abbrev pub is_on : ℕ → Task → Bool
 is_on node t = option_eq same_number t.node (Some node)
+
+-- above RUNNING
+abbrev pub has_ended : Task → Bool
+has_ended x = nat_lt (rank state.Running) (rank x.state)
+
+abbrev pub is_running : Task → Bool
+is_running x = rank x.state == rank state.Running
+
+abbrev pub is_below_assigned : Task → Bool
+is_below_assigned x = nat_lt (rank x.state) (rank state.Assigned)
+
+abbrev pub is_below_running : Task → Bool
+is_below_running x = nat_lt (rank x.state) (rank state.Running)
+
+-- up to RUNNING
+abbrev pub is_not_over : Task → Bool
+is_not_over x = nat_le (rank x.state) (rank state.Running)
+
+-- it isn't to be removed
+abbrev pub is_kept : Task → Bool
+is_kept x = nat_lt (desired_rank x.desired) (desired_rank desired.Remove)
+
+-- it is to stop, or to be removed
+abbrev pub is_unwanted : Task → Bool
+is_unwanted x = nat_le (desired_rank desired.Shutdown) (desired_rank x.desired)
+
+abbrev pub is_to_wait : Task → Bool
+is_to_wait x = desired_rank x.desired == desired_rank desired.Ready
+
+abbrev pub is_complete : TaskState → Bool
+is_complete state.Complete = true
+is_complete _ = false
+
+-- it stands by this service and place, in whatever iteration
+abbrev pub is_beside : Task → Task → Bool
+is_beside x y = y.service == x.service && same_place y.place x.place
+
+abbrev pub is_task : ℕ → Task → Bool
+is_task id x = x.id == id

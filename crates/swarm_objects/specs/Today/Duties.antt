@@ -8,7 +8,7 @@ use Rattle.swarm_objects.specs.World.{Tables, World}
 use Rattle.swarm_objects.specs.declared.loops.Role.{Role}
 use Rattle.swarm_objects.specs.declared.duties.Duty.{Duty}
 use Rattle.std.specs.List.{list_any}
-use Rattle.swarm_objects.specs.Duties.{same_duty, role_of}
+use Rattle.swarm_objects.specs.Kinds.{same_duty, role_of}
 use Rattle.swarm_objects.specs.declared.tasks.Task.{Task}
 use Rattle.swarm_objects.specs.Changes.{change_task, noted, addressed, placed}
 use Rattle.swarm_objects.specs.declared.services.Service.{Service}

@@ -2,7 +2,7 @@ use Rattle.std.proofs.Common.{◌≡◌, drop}
 use Rattle.std.specs.Prelude.{flat_map}
 use Rattle.swarm_model.specs.Today.Settle.{all_duties}
 use Rattle.swarm_objects.specs.Today.Duties.{duties}
-use Rattle.swarm_objects.specs.Duties.{roles}
+use Rattle.swarm_objects.specs.Kinds.{roles}
 use Rattle.swarm_objects.specs.Rows.{first_of}
 use Rattle.swarm_plain.specs.Plain.{world_of}
 use Rattle.swarm_duties.proofs.settling.settle.Given as goal

@@ -1,0 +1,10 @@
+pub mod DeadSessions
+pub mod Facts
+pub mod Fits
+pub mod Matches
+pub mod OneTemplate
+pub mod Reconciliation
+pub mod Rises
+pub mod Size
+pub mod Sound
+pub mod Steps

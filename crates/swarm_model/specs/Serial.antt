@@ -1,0 +1,45 @@
+-- The one history that a single caller makes of lines.
+use Rattle.std.specs.Prelude.{List, None, Some, [], suc, zero, ℕ, ◌-◌, ◌∷◌, ◌++◌, ◌+◌, false, nat_lt, true}
+use Rattle.swarm_model.specs.Script.{busy_duty, own_duty, next_tick, own_call, full_stretch, Asked}
+use Rattle.swarm_model.specs.History.{step_world, replay_from}
+use Rattle.swarm_model.specs.Settle.{settle_answer}
+use Rattle.swarm_objects.specs.World.{World, empty_world}
+use Rattle.swarm_objects.specs.declared.calls.Entry.{Entry}
+use Rattle.swarm_model.specs.Script.{Asks, Nothing, Settles, Waits}
+use Rattle.swarm_objects.specs.declared.calls.Call.TheVariants as call
+
+-- the duties that the settle test names one after the other, at most so many, until it names none
+abbrev pub settle_entries : ℕ → World → List Entry
+settle_entries zero w = []
+settle_entries (suc n) w =
+    elim (busy_duty (settle_answer w)) [ Some d ↦ own_duty d ∷ settle_entries n (step_world w (own_duty d)) | None ↦ [] ]
+
+-- duties, and then a tick
+abbrev pub stride_entries : World → List Entry → ℕ → List Entry
+stride_entries w done left = done ++ own_call (call.Tick (next_tick (replay_from w done) left)) ∷ []
+
+abbrev pub next_stride : World → ℕ → List Entry
+next_stride w left = stride_entries w (settle_entries full_stretch w) left
+
+-- strides until a time is reached, at most so many, and the duties at the end
+abbrev pub wait_entries : ℕ → World → ℕ → List Entry
+wait_entries zero w time = settle_entries full_stretch w
+wait_entries (suc n) w time =
+    elim (nat_lt w.tables.clock time) [
+      | true ↦ next_stride w (time - w.tables.clock) ++ wait_entries n (replay_from w (next_stride w (time - w.tables.clock))) time
+      | false ↦ settle_entries full_stretch w
+    ]
+
+-- each tick is at least 1, so there are at most as many as the time has milliseconds
+abbrev pub asked_entries : World → Asked → List Entry
+asked_entries w Nothing = []
+asked_entries w (Asks c) = own_call c ∷ []
+asked_entries w (Settles budget) = settle_entries budget w ++ own_call (call.Settle budget) ∷ []
+asked_entries w (Waits ms) = wait_entries ms w (w.tables.clock + ms)
+
+abbrev pub entries_from : World → List Asked → List Entry
+entries_from w [] = own_call call.Halt ∷ []
+entries_from w (line ∷ lines) = asked_entries w line ++ entries_from (replay_from w (asked_entries w line)) lines
+
+abbrev pub serial : List Asked → List Entry
+serial lines = entries_from empty_world lines

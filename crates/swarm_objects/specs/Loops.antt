@@ -1,0 +1,12 @@
+pub mod Agents
+pub mod Allocator
+pub mod Dispatcher
+pub mod Enforcer
+pub mod Global
+pub mod Jobs
+pub mod Reaper
+pub mod Replicated
+pub mod Restart
+pub mod Scheduler
+pub mod Update
+pub mod Words
