@@ -10,25 +10,25 @@ pub mod Views
 pub mod Watches
 -- What a call is answered in a world, and the world after it.
 use Rattle.std.specs.Prelude.{◌+◌, Err, Ok, List, Result, ℕ, [], if◌then◌else◌, length, nat_lt, not, true, Bool, nat_le, ◌&&◌}
-use Rattle.swarm_model.specs.Calls.Watches.{kept_events, watch_begin, watch_finish, watch_poll}
-use Rattle.swarm_objects.specs.World.{World}
-use Rattle.swarm_model.specs.Outcome.{Answered, Outcome}
-use Rattle.swarm_objects.specs.declared.replies.Refusal.{Refusal}
-use Rattle.swarm_model.specs.Calls.Operations.{apply_ops}
-use Rattle.swarm_objects.specs.Limits.{most_ops, is_tick, most_entries}
-use Rattle.swarm_objects.specs.declared.calls.Op.{Op}
-use Rattle.swarm_model.specs.Calls.Views.{View, shows}
-use Rattle.swarm_objects.specs.Changes.{with_tables}
-use Rattle.swarm_model.specs.Calls.Refusals.{refuse, unless}
 use Rattle.swarm_model.specs.Calls.Faults.{failed_agent, in_mode, mode_after_start, mode_after_stop, on_agent, started_agent}
+use Rattle.swarm_model.specs.Calls.Operations.{apply_ops}
+use Rattle.swarm_model.specs.Calls.Refusals.{refuse, unless}
 use Rattle.swarm_model.specs.Calls.Remote.{remote_beat, remote_begin, remote_pull, remote_status}
+use Rattle.swarm_model.specs.Calls.Views.{View, shows}
+use Rattle.swarm_model.specs.Calls.Watches.{kept_events, watch_begin, watch_finish, watch_poll}
+use Rattle.swarm_model.specs.Outcome.{Answered, Outcome}
 use Rattle.swarm_model.specs.Settle.{settle_answer}
-use Rattle.swarm_objects.specs.Rows.{watcher_id, row_at}
-use Rattle.swarm_objects.specs.declared.calls.Call.{Call}
 use Rattle.swarm_objects.specs.CallWords.{is_halt}
-use Rattle.swarm_objects.specs.declared.replies.Reply.TheVariants as reply
-use Rattle.swarm_objects.specs.declared.replies.Refusal.TheVariants as refusal
+use Rattle.swarm_objects.specs.Changes.{with_tables}
+use Rattle.swarm_objects.specs.Limits.{most_ops, is_tick, most_entries}
+use Rattle.swarm_objects.specs.Rows.{watcher_id, row_at}
+use Rattle.swarm_objects.specs.World.{World}
+use Rattle.swarm_objects.specs.declared.calls.Call.{Call}
 use Rattle.swarm_objects.specs.declared.calls.Call.TheVariants as call
+use Rattle.swarm_objects.specs.declared.calls.Op.{Op}
+use Rattle.swarm_objects.specs.declared.replies.Refusal.{Refusal}
+use Rattle.swarm_objects.specs.declared.replies.Refusal.TheVariants as refusal
+use Rattle.swarm_objects.specs.declared.replies.Reply.TheVariants as reply
 
 -- the new world, with one entry more than the old one, and the events that are waited for
 abbrev pub entered : World → World → World

@@ -1,13 +1,13 @@
 -- The changes between two worlds, as events.
 use Rattle.std.specs.Prelude.{Bool, List, None, Option, Some, [], if◌then◌else◌, ◌∷◌, ℕ, map, flat_map, ◌++◌}
-use Rattle.swarm_objects.specs.declared.watches.Verb.{Verb}
-use Rattle.swarm_objects.specs.declared.ids.Kind.{Kind}
-use Rattle.swarm_objects.specs.declared.watches.Event.{Event}
-use Rattle.swarm_objects.specs.Rows.{row_at, rising, network_id, node_id, service_id, task_id}
 use Rattle.swarm_model.specs.Content.{same_network, same_node, same_service, same_task}
+use Rattle.swarm_objects.specs.Rows.{row_at, rising, network_id, node_id, service_id, task_id}
 use Rattle.swarm_objects.specs.World.{Tables}
-use Rattle.swarm_objects.specs.declared.watches.Verb.TheVariants as verb
+use Rattle.swarm_objects.specs.declared.ids.Kind.{Kind}
 use Rattle.swarm_objects.specs.declared.ids.Kind.TheVariants as kind
+use Rattle.swarm_objects.specs.declared.watches.Event.{Event}
+use Rattle.swarm_objects.specs.declared.watches.Verb.{Verb}
+use Rattle.swarm_objects.specs.declared.watches.Verb.TheVariants as verb
 
 -- Changes.
 

@@ -1,18 +1,18 @@
 -- The closing of a place: the entry that set the cause on its newest task.
 use Rattle.std.specs.Prelude.{None, Option, Some, ℕ, if◌then◌else◌, not, ◌&&◌, List, [], ◌+◌, ◌∷◌}
-use Rattle.swarm_objects.specs.declared.calls.What.{What}
+use Rattle.swarm_model.specs.History.{step_world}
+use Rattle.swarm_objects.specs.Rows.{is_some_and, on_row, row_at, service_id, task_id}
+use Rattle.swarm_objects.specs.Tasks.Places.{has_other, newest, tasks_of_place}
 use Rattle.swarm_objects.specs.Tasks.Policy.{no_restart}
 use Rattle.swarm_objects.specs.Tasks.Words.{is_task}
-use Rattle.swarm_objects.specs.Tasks.Places.{has_other, newest, tasks_of_place}
-use Rattle.swarm_objects.specs.Rows.{is_some_and, on_row, row_at, service_id, task_id}
 use Rattle.swarm_objects.specs.World.{Tables, World, empty_world}
+use Rattle.swarm_objects.specs.declared.calls.Entry.{Entry}
+use Rattle.swarm_objects.specs.declared.calls.What.{What}
+use Rattle.swarm_objects.specs.declared.calls.What.TheVariants as what
+use Rattle.swarm_objects.specs.declared.duties.Duty.TheVariants as duty
 use Rattle.swarm_objects.specs.declared.services.Service.{Service}
 use Rattle.swarm_objects.specs.declared.tasks.Closed.{Closed}
 use Rattle.swarm_objects.specs.declared.tasks.Task.{Task}
-use Rattle.swarm_model.specs.History.{step_world}
-use Rattle.swarm_objects.specs.declared.calls.Entry.{Entry}
-use Rattle.swarm_objects.specs.declared.duties.Duty.TheVariants as duty
-use Rattle.swarm_objects.specs.declared.calls.What.TheVariants as what
 
 -- Closings.
 

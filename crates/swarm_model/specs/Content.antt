@@ -1,37 +1,37 @@
 -- Whether two rows have the same content.
 use Rattle.std.specs.Prelude.{Bool, List, ℕ, ◌&&◌, false, true, ◌==◌}
-use Rattle.std.specs.Str.{bytes_eq}
-use Rattle.swarm_objects.specs.declared.nodes.NodeRole.{NodeRole}
-use Rattle.swarm_objects.specs.declared.nodes.Availability.{Availability}
-use Rattle.swarm_objects.specs.declared.nodes.NodeState.{NodeState}
 use Rattle.std.specs.Cmp.Lexicographic.{pointwise}
-use Rattle.swarm_objects.specs.declared.nodes.Node.{Node}
-use Rattle.swarm_objects.specs.Same.{same_bool, same_port, same_template, same_place, same_number}
-use Rattle.swarm_objects.specs.declared.services.Mode.{Mode}
-use Rattle.swarm_objects.specs.declared.services.FailureAction.{FailureAction}
-use Rattle.swarm_objects.specs.declared.services.UpdateOrder.{UpdateOrder}
-use Rattle.swarm_objects.specs.declared.services.UpdateConfig.{UpdateConfig}
-use Rattle.swarm_objects.specs.declared.services.ServiceSpec.{ServiceSpec}
-use Rattle.swarm_objects.specs.declared.services.RunStatus.{RunStatus}
-use Rattle.swarm_objects.specs.declared.services.Replaced.{Replaced}
-use Rattle.swarm_objects.specs.declared.services.UpdateRun.{UpdateRun}
-use Rattle.swarm_objects.specs.declared.services.PortNumber.{PortNumber}
 use Rattle.std.specs.Option.{option_eq}
+use Rattle.std.specs.Str.{bytes_eq}
+use Rattle.swarm_objects.specs.Loops.Allocator.{same_note}
+use Rattle.swarm_objects.specs.Same.{same_bool, same_port, same_template, same_place, same_number}
+use Rattle.swarm_objects.specs.Values.Ranks.{desired_rank, rank}
+use Rattle.swarm_objects.specs.declared.networks.Network.{Network}
+use Rattle.swarm_objects.specs.declared.nodes.Availability.{Availability}
+use Rattle.swarm_objects.specs.declared.nodes.Availability.TheVariants as availability
+use Rattle.swarm_objects.specs.declared.nodes.Node.{Node}
+use Rattle.swarm_objects.specs.declared.nodes.NodeRole.{NodeRole}
+use Rattle.swarm_objects.specs.declared.nodes.NodeRole.TheVariants as node_role
+use Rattle.swarm_objects.specs.declared.nodes.NodeState.{NodeState}
+use Rattle.swarm_objects.specs.declared.nodes.NodeState.TheVariants as node_state
+use Rattle.swarm_objects.specs.declared.services.FailureAction.{FailureAction}
+use Rattle.swarm_objects.specs.declared.services.FailureAction.TheVariants as action
+use Rattle.swarm_objects.specs.declared.services.Mode.{Mode}
+use Rattle.swarm_objects.specs.declared.services.Mode.TheVariants as mode
+use Rattle.swarm_objects.specs.declared.services.PortNumber.{PortNumber}
+use Rattle.swarm_objects.specs.declared.services.Replaced.{Replaced}
+use Rattle.swarm_objects.specs.declared.services.RunStatus.{RunStatus}
+use Rattle.swarm_objects.specs.declared.services.RunStatus.TheVariants as status
 use Rattle.swarm_objects.specs.declared.services.Service.{Service}
+use Rattle.swarm_objects.specs.declared.services.ServiceSpec.{ServiceSpec}
+use Rattle.swarm_objects.specs.declared.services.UpdateConfig.{UpdateConfig}
+use Rattle.swarm_objects.specs.declared.services.UpdateOrder.{UpdateOrder}
+use Rattle.swarm_objects.specs.declared.services.UpdateOrder.TheVariants as order
+use Rattle.swarm_objects.specs.declared.services.UpdateRun.{UpdateRun}
 use Rattle.swarm_objects.specs.declared.tasks.Address.{Address}
 use Rattle.swarm_objects.specs.declared.tasks.Closed.{Closed}
-use Rattle.swarm_objects.specs.Values.Ranks.{desired_rank, rank}
-use Rattle.swarm_objects.specs.declared.tasks.Task.{Task}
-use Rattle.swarm_objects.specs.Loops.Allocator.{same_note}
-use Rattle.swarm_objects.specs.declared.networks.Network.{Network}
-use Rattle.swarm_objects.specs.declared.nodes.NodeRole.TheVariants as node_role
-use Rattle.swarm_objects.specs.declared.nodes.Availability.TheVariants as availability
-use Rattle.swarm_objects.specs.declared.nodes.NodeState.TheVariants as node_state
-use Rattle.swarm_objects.specs.declared.services.Mode.TheVariants as mode
-use Rattle.swarm_objects.specs.declared.services.FailureAction.TheVariants as action
-use Rattle.swarm_objects.specs.declared.services.UpdateOrder.TheVariants as order
-use Rattle.swarm_objects.specs.declared.services.RunStatus.TheVariants as status
 use Rattle.swarm_objects.specs.declared.tasks.Closed.TheVariants as closed
+use Rattle.swarm_objects.specs.declared.tasks.Task.{Task}
 
 abbrev pub same_label : List ℕ × List ℕ → List ℕ × List ℕ → Bool
 same_label a b = bytes_eq a.0 b.0 && bytes_eq a.1 b.1

@@ -1,13 +1,12 @@
 -- What a history has to do with a script's lines and a number of workers, and the one history that a single caller makes.
-use Rattle.swarm_model.specs.Script.{Asks, Nothing, Settles, Waits}
-use Rattle.std.specs.List.{list_all}
 use Rattle.std.specs.Prelude.{List, true, ◌≡◌, ◌-◌, Bool, [], if◌then◌else◌, not, ◌∷◌, ℕ, ◌++◌, flat_map, sum_by, ◌≤◌, false, ◌<◌, ⊤, None, Option, Some}
-use Rattle.swarm_objects.specs.declared.calls.Entry.{Entry}
-use Rattle.swarm_model.specs.Script.{is_duty_entry, own_duties, is_own_call, is_busy, own_call, full_stretch, next_tick, Asked, is_of_a_caller}
+use Rattle.std.specs.List.{list_all}
 use Rattle.swarm_model.specs.History.{step_world, replay_from}
+use Rattle.swarm_model.specs.Script.{Asks, Nothing, Settles, Waits, is_duty_entry, own_duties, is_own_call, is_busy, own_call, full_stretch, next_tick, Asked, is_of_a_caller}
 use Rattle.swarm_objects.specs.World.{World, empty_world}
 use Rattle.swarm_objects.specs.declared.calls.Call.{Call}
 use Rattle.swarm_objects.specs.declared.calls.Call.TheVariants as call
+use Rattle.swarm_objects.specs.declared.calls.Entry.{Entry}
 
 abbrev pub AreDuties : List Entry → Type 0
 AreDuties es = list_all (λ e. is_duty_entry e.what) es ≡ true

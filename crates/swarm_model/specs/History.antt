@@ -1,16 +1,16 @@
 -- Histories: lists of entries, from the empty world on.
 use Rattle.std.specs.Prelude.{◌+◌, Bool, nat_lt, not, ◌&&◌, List, [], ◌∷◌, true, ⊤, ◌≡◌, false}
 use Rattle.swarm_model.specs.Calls.{entered, call_outcome, is_admitted}
-use Rattle.swarm_objects.specs.Duties.{effect_by, is_due}
-use Rattle.swarm_objects.specs.World.{World, empty_world}
-use Rattle.swarm_objects.specs.declared.duties.Duty.{Duty}
 use Rattle.swarm_model.specs.Outcome.{Outcome}
-use Rattle.swarm_objects.specs.declared.calls.What.{What}
-use Rattle.swarm_objects.specs.declared.calls.Entry.{Entry}
-use Rattle.swarm_objects.specs.declared.replies.Reply.{Reply}
+use Rattle.swarm_objects.specs.Duties.{effect_by, is_due}
 use Rattle.swarm_objects.specs.Limits.{most_entries}
-use Rattle.swarm_objects.specs.declared.replies.Reply.TheVariants as reply
+use Rattle.swarm_objects.specs.World.{World, empty_world}
+use Rattle.swarm_objects.specs.declared.calls.Entry.{Entry}
+use Rattle.swarm_objects.specs.declared.calls.What.{What}
 use Rattle.swarm_objects.specs.declared.calls.What.TheVariants as what
+use Rattle.swarm_objects.specs.declared.duties.Duty.{Duty}
+use Rattle.swarm_objects.specs.declared.replies.Reply.{Reply}
+use Rattle.swarm_objects.specs.declared.replies.Reply.TheVariants as reply
 
 abbrev pub effect : World → Duty → World
 effect w d = entered w (effect_by (w.entries + 1) w d)

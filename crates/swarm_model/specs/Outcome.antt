@@ -1,10 +1,10 @@
 -- A reply, and the world after it.
-use Rattle.swarm_objects.specs.World.{World}
-use Rattle.swarm_objects.specs.declared.replies.Reply.{Reply}
 use Rattle.std.specs.Prelude.{◌≡◌, ◌⊎◌, Result}
-use Rattle.swarm_objects.specs.declared.replies.Refusal.TheVariants.{NoMemory}
-use Rattle.swarm_objects.specs.declared.replies.Reply.TheVariants.{Refused}
+use Rattle.swarm_objects.specs.World.{World}
 use Rattle.swarm_objects.specs.declared.replies.Refusal.{Refusal}
+use Rattle.swarm_objects.specs.declared.replies.Refusal.TheVariants.{NoMemory}
+use Rattle.swarm_objects.specs.declared.replies.Reply.{Reply}
+use Rattle.swarm_objects.specs.declared.replies.Reply.TheVariants.{Refused}
 
 -- a reply, and the world after it
 pub record Outcome : Type 0 where

@@ -1,17 +1,17 @@
 -- What a line of a script asks for, and the entries of callers.
 use Rattle.std.specs.Prelude.{ℕ, ◌-◌, Bool, min, ◌%◌, ◌==◌, List, filter, false, nat_le, ◌&&◌, ◌||◌, true, not, count_by, None, Option, Some, is_some}
-use Rattle.swarm_objects.specs.declared.calls.Call.{Call}
-use Rattle.swarm_objects.specs.declared.loops.Role.{Role}
-use Rattle.swarm_objects.specs.Kinds.{roles, role_of}
-use Rattle.swarm_objects.specs.declared.calls.What.{What}
-use Rattle.swarm_objects.specs.declared.duties.Duty.{Duty}
-use Rattle.swarm_objects.specs.declared.calls.Entry.{Entry}
-use Rattle.swarm_objects.specs.declared.duties.Settle.{Settle}
 use Rattle.swarm_model.specs.Settle.{settle_answer}
+use Rattle.swarm_objects.specs.Kinds.{roles, role_of}
 use Rattle.swarm_objects.specs.World.{World}
-use Rattle.swarm_objects.specs.declared.loops.Role.TheVariants as role
+use Rattle.swarm_objects.specs.declared.calls.Call.{Call}
+use Rattle.swarm_objects.specs.declared.calls.Entry.{Entry}
+use Rattle.swarm_objects.specs.declared.calls.What.{What}
 use Rattle.swarm_objects.specs.declared.calls.What.TheVariants as what
+use Rattle.swarm_objects.specs.declared.duties.Duty.{Duty}
+use Rattle.swarm_objects.specs.declared.duties.Settle.{Settle}
 use Rattle.swarm_objects.specs.declared.duties.Settle.TheVariants as settle
+use Rattle.swarm_objects.specs.declared.loops.Role.{Role}
+use Rattle.swarm_objects.specs.declared.loops.Role.TheVariants as role
 
 -- what a line asks for; a line that is blank asks for nothing
 pub data Asked : Type 0 where

@@ -1,12 +1,11 @@
 -- The one history that a single caller makes of lines.
 use Rattle.std.specs.Prelude.{List, None, Some, [], suc, zero, ℕ, ◌-◌, ◌∷◌, ◌++◌, ◌+◌, false, nat_lt, true}
-use Rattle.swarm_model.specs.Script.{busy_duty, own_duty, next_tick, own_call, full_stretch, Asked}
 use Rattle.swarm_model.specs.History.{step_world, replay_from}
+use Rattle.swarm_model.specs.Script.{busy_duty, own_duty, next_tick, own_call, full_stretch, Asked, Asks, Nothing, Settles, Waits}
 use Rattle.swarm_model.specs.Settle.{settle_answer}
 use Rattle.swarm_objects.specs.World.{World, empty_world}
-use Rattle.swarm_objects.specs.declared.calls.Entry.{Entry}
-use Rattle.swarm_model.specs.Script.{Asks, Nothing, Settles, Waits}
 use Rattle.swarm_objects.specs.declared.calls.Call.TheVariants as call
+use Rattle.swarm_objects.specs.declared.calls.Entry.{Entry}
 
 -- the duties that the settle test names one after the other, at most so many, until it names none
 abbrev pub settle_entries : ℕ → World → List Entry

@@ -1,41 +1,41 @@
 -- The settle test: a duty, or what is waited for, held or paused, or else that all is settled.
-use Rattle.swarm_objects.specs.declared.agents.NodeAgent.{NodeAgent}
 use Rattle.std.specs.Prelude.{ℕ, Bool, List, [], false, true, ◌∷◌, None, Option, Some, nat_lt, ◌&&◌, filter, flat_map, map, ◌+◌, if◌then◌else◌, not, ◌++◌, find, option_to_list}
-use Rattle.swarm_objects.specs.declared.duties.Cause.{Cause}
-use Rattle.swarm_objects.specs.declared.agents.Executor.{Executor}
+use Rattle.std.specs.List.{list_any}
+use Rattle.std.specs.Option.{option_map}
 use Rattle.std.specs.Ordering.{nat_cmp, ordering_then}
 use Rattle.std.specs.declared.cmp.Ordering.{Ordering}
-use Rattle.swarm_objects.specs.Rows.{least_by, on_row, is_row_and, agent_node, is_some_and, first_of}
-use Rattle.swarm_objects.specs.Tasks.Words.{is_to_wait, is_live, is_running, is_placed, is_below_running, is_of}
-use Rattle.swarm_objects.specs.World.{Tables, World}
-use Rattle.swarm_objects.specs.declared.tasks.Task.{Task}
-use Rattle.std.specs.List.{list_any}
-use Rattle.swarm_objects.specs.Tasks.Places.{place_numbers, has_dirty_place}
-use Rattle.swarm_objects.specs.Loops.Update.{is_to_replace, is_watched}
-use Rattle.swarm_objects.specs.declared.services.Service.{Service}
-use Rattle.swarm_objects.specs.Services.Runs.{flying_tasks, has_room, is_under_way, has_open_run, is_of_version}
-use Rattle.swarm_objects.specs.declared.services.UpdateRun.{UpdateRun}
-use Rattle.swarm_objects.specs.declared.services.Replaced.{Replaced}
 use Rattle.swarm_objects.specs.Agents.Executors.{phase_time}
-use Rattle.swarm_objects.specs.Loops.Agents.{is_mode_on}
-use Rattle.std.specs.Option.{option_map}
-use Rattle.swarm_objects.specs.Nodes.Sessions.{session_of, is_session_live}
-use Rattle.swarm_objects.specs.declared.sessions.NodeSession.{NodeSession}
-use Rattle.swarm_objects.specs.Nodes.Words.{is_ready, is_node_and}
-use Rattle.swarm_objects.specs.declared.nodes.Node.{Node}
-use Rattle.swarm_objects.specs.Values.Ranks.{rank}
-use Rattle.swarm_objects.specs.declared.tasks.Desired.{Desired}
-use Rattle.swarm_objects.specs.declared.tasks.TaskState.{TaskState}
-use Rattle.swarm_objects.specs.Services.Words.{is_live_clean}
-use Rattle.swarm_objects.specs.declared.duties.Settle.{Settle}
-use Rattle.swarm_objects.specs.declared.services.RunStatus.{RunStatus}
 use Rattle.swarm_objects.specs.Duties.{first_duty}
 use Rattle.swarm_objects.specs.Kinds.{roles}
+use Rattle.swarm_objects.specs.Loops.Agents.{is_mode_on}
+use Rattle.swarm_objects.specs.Loops.Update.{is_to_replace, is_watched}
+use Rattle.swarm_objects.specs.Nodes.Sessions.{session_of, is_session_live}
+use Rattle.swarm_objects.specs.Nodes.Words.{is_ready, is_node_and}
+use Rattle.swarm_objects.specs.Rows.{least_by, on_row, is_row_and, agent_node, is_some_and, first_of}
+use Rattle.swarm_objects.specs.Services.Runs.{flying_tasks, has_room, is_under_way, has_open_run, is_of_version}
+use Rattle.swarm_objects.specs.Services.Words.{is_live_clean}
+use Rattle.swarm_objects.specs.Tasks.Places.{place_numbers, has_dirty_place}
+use Rattle.swarm_objects.specs.Tasks.Words.{is_to_wait, is_live, is_running, is_placed, is_below_running, is_of}
+use Rattle.swarm_objects.specs.Values.Ranks.{rank}
+use Rattle.swarm_objects.specs.World.{Tables, World}
+use Rattle.swarm_objects.specs.declared.agents.Executor.{Executor}
+use Rattle.swarm_objects.specs.declared.agents.NodeAgent.{NodeAgent}
+use Rattle.swarm_objects.specs.declared.duties.Cause.{Cause}
 use Rattle.swarm_objects.specs.declared.duties.Cause.TheVariants as cause
-use Rattle.swarm_objects.specs.declared.tasks.Desired.TheVariants as desired
-use Rattle.swarm_objects.specs.declared.tasks.TaskState.TheVariants as state
+use Rattle.swarm_objects.specs.declared.duties.Settle.{Settle}
 use Rattle.swarm_objects.specs.declared.duties.Settle.TheVariants as settle
+use Rattle.swarm_objects.specs.declared.nodes.Node.{Node}
+use Rattle.swarm_objects.specs.declared.services.Replaced.{Replaced}
+use Rattle.swarm_objects.specs.declared.services.RunStatus.{RunStatus}
 use Rattle.swarm_objects.specs.declared.services.RunStatus.TheVariants as status
+use Rattle.swarm_objects.specs.declared.services.Service.{Service}
+use Rattle.swarm_objects.specs.declared.services.UpdateRun.{UpdateRun}
+use Rattle.swarm_objects.specs.declared.sessions.NodeSession.{NodeSession}
+use Rattle.swarm_objects.specs.declared.tasks.Desired.{Desired}
+use Rattle.swarm_objects.specs.declared.tasks.Desired.TheVariants as desired
+use Rattle.swarm_objects.specs.declared.tasks.Task.{Task}
+use Rattle.swarm_objects.specs.declared.tasks.TaskState.{TaskState}
+use Rattle.swarm_objects.specs.declared.tasks.TaskState.TheVariants as state
 
 -- what is waited for, until when
 pub record Wait : Type 0 where

@@ -1,20 +1,20 @@
 -- Changes of rows.
 use Rattle.std.specs.Prelude.{ℕ, Some, Bool, if◌then◌else◌, map, ◌&&◌, nat_lt, ◌+◌}
 use Rattle.swarm_objects.specs.Rows.{change_row, task_id, node_id, on_row, row_at, service_id}
+use Rattle.swarm_objects.specs.Tasks.New.{new_task, with_task}
+use Rattle.swarm_objects.specs.Tasks.Places.{is_in_place, place_at}
+use Rattle.swarm_objects.specs.Tasks.Words.{is_kept}
+use Rattle.swarm_objects.specs.Values.Ranks.{rank}
 use Rattle.swarm_objects.specs.World.{Tables, World}
+use Rattle.swarm_objects.specs.declared.nodes.Node.{Node}
+use Rattle.swarm_objects.specs.declared.services.Service.{Service}
+use Rattle.swarm_objects.specs.declared.tasks.Desired.{Desired}
+use Rattle.swarm_objects.specs.declared.tasks.Desired.TheVariants as desired
+use Rattle.swarm_objects.specs.declared.tasks.Note.{Note}
+use Rattle.swarm_objects.specs.declared.tasks.Note.TheVariants as note
 use Rattle.swarm_objects.specs.declared.tasks.Task.{Task}
 use Rattle.swarm_objects.specs.declared.tasks.TaskState.{TaskState}
-use Rattle.swarm_objects.specs.declared.tasks.Note.{Note}
-use Rattle.swarm_objects.specs.declared.nodes.Node.{Node}
-use Rattle.swarm_objects.specs.declared.tasks.Desired.{Desired}
-use Rattle.swarm_objects.specs.Tasks.Words.{is_kept}
-use Rattle.swarm_objects.specs.Tasks.Places.{is_in_place, place_at}
-use Rattle.swarm_objects.specs.declared.services.Service.{Service}
-use Rattle.swarm_objects.specs.Tasks.New.{new_task, with_task}
-use Rattle.swarm_objects.specs.Values.Ranks.{rank}
-use Rattle.swarm_objects.specs.declared.tasks.Note.TheVariants as note
 use Rattle.swarm_objects.specs.declared.tasks.TaskState.TheVariants as state
-use Rattle.swarm_objects.specs.declared.tasks.Desired.TheVariants as desired
 
 abbrev pub change_task : ℕ → (Task → Task) → Tables → Tables
 change_task id change t = record t { tasks = change_row task_id id change t.tasks }

@@ -1,12 +1,12 @@
 -- The kinds of duty, the control loop of each, and when two duties are the same.
-use Rattle.swarm_objects.specs.declared.loops.Role.{Role}
-use Rattle.swarm_objects.specs.declared.duties.Duty.{Duty}
 use Rattle.std.specs.Prelude.{ℕ, Bool, true, false, List, [], ◌∷◌, nat_eq, ◌&&◌, Option, Some, None}
 use Rattle.std.specs.Str.{bytes_eq}
+use Rattle.swarm_objects.specs.declared.duties.Duty.{Duty}
+use Rattle.swarm_objects.specs.declared.duties.Duty.TheVariants as duty
 use Rattle.swarm_objects.specs.declared.duties.Settle.{Settle}
 use Rattle.swarm_objects.specs.declared.duties.Settle.TheVariants.{Busy}
+use Rattle.swarm_objects.specs.declared.loops.Role.{Role}
 use Rattle.swarm_objects.specs.declared.loops.Role.TheVariants as role
-use Rattle.swarm_objects.specs.declared.duties.Duty.TheVariants as duty
 
 abbrev pub role_of : Duty → Role
 role_of (duty.Expire n) = role.Dispatcher

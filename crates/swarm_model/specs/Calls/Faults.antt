@@ -1,17 +1,17 @@
 -- Faults of nodes that are inside.
-use Rattle.swarm_objects.specs.declared.agents.NodeAgent.{NodeAgent}
 use Rattle.std.specs.Prelude.{if◌then◌else◌, ℕ, map, Err, List, Ok}
-use Rattle.swarm_objects.specs.Agents.Executors.{is_late, moved}
-use Rattle.swarm_objects.specs.declared.agents.Executor.{Executor}
-use Rattle.swarm_objects.specs.declared.agents.AgentMode.{AgentMode}
-use Rattle.swarm_objects.specs.Loops.Agents.{change_agent}
 use Rattle.swarm_model.specs.Calls.Refusals.{on_node}
-use Rattle.swarm_objects.specs.World.{World}
 use Rattle.swarm_model.specs.Outcome.{Answered}
-use Rattle.swarm_objects.specs.declared.tasks.TaskState.TheVariants as state
+use Rattle.swarm_objects.specs.Agents.Executors.{is_late, moved}
+use Rattle.swarm_objects.specs.Loops.Agents.{change_agent}
+use Rattle.swarm_objects.specs.World.{World}
+use Rattle.swarm_objects.specs.declared.agents.AgentMode.{AgentMode}
 use Rattle.swarm_objects.specs.declared.agents.AgentMode.TheVariants as agent_mode
+use Rattle.swarm_objects.specs.declared.agents.Executor.{Executor}
+use Rattle.swarm_objects.specs.declared.agents.NodeAgent.{NodeAgent}
 use Rattle.swarm_objects.specs.declared.replies.Refusal.TheVariants as refusal
 use Rattle.swarm_objects.specs.declared.replies.Reply.TheVariants as reply
+use Rattle.swarm_objects.specs.declared.tasks.TaskState.TheVariants as state
 
 -- Faults of nodes that are inside.
 

@@ -1,15 +1,14 @@
 -- The operations on networks.
 use Rattle.std.specs.Prelude.{List, length, ℕ, [], ◌++◌, ◌∷◌, find}
-use Rattle.swarm_objects.specs.declared.networks.Network.{Network}
-use Rattle.swarm_objects.specs.World.{Tables, World}
-use Rattle.swarm_objects.specs.Changes.{id_taken, with_tables}
 use Rattle.std.specs.Option.{option_map}
-use Rattle.swarm_model.specs.Calls.Refusals.{bad_spec, first_refusal, name_taken, network_by, too_many, unless, in_use}
+use Rattle.swarm_model.specs.Calls.Refusals.{bad_spec, first_refusal, name_taken, network_by, too_many, unless, in_use, Done}
+use Rattle.swarm_objects.specs.Changes.{id_taken, with_tables}
 use Rattle.swarm_objects.specs.Limits.{most_networks}
-use Rattle.swarm_objects.specs.Rules.Networks.{subnet_breaks, subnet_rules}
 use Rattle.swarm_objects.specs.Rows.{network_id, drop_row}
-use Rattle.swarm_model.specs.Calls.Refusals.{Done}
+use Rattle.swarm_objects.specs.Rules.Networks.{subnet_breaks, subnet_rules}
+use Rattle.swarm_objects.specs.World.{Tables, World}
 use Rattle.swarm_objects.specs.declared.ids.Kind.TheVariants as kind
+use Rattle.swarm_objects.specs.declared.networks.Network.{Network}
 
 -- Networks and settings.
 

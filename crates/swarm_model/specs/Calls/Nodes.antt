@@ -1,28 +1,27 @@
 -- The operations on nodes.
-use Rattle.swarm_objects.specs.declared.agents.NodeAgent.{NodeAgent}
 use Rattle.std.specs.Prelude.{List, ℕ, None, [], Bool, false, true, ◌++◌, ◌∷◌, not, Option, find, length, ◌&&◌}
+use Rattle.std.specs.Option.{option_map}
+use Rattle.swarm_model.specs.Calls.Refusals.{bad_spec, first_refusal, name_taken, node_by, too_many, unless, conflict, refuse, Done}
+use Rattle.swarm_objects.specs.Changes.{id_taken, with_tables, change_node, change_where, in_state}
+use Rattle.swarm_objects.specs.Limits.{most_nodes}
+use Rattle.swarm_objects.specs.Loops.Agents.{agents}
+use Rattle.swarm_objects.specs.Nodes.Words.{is_down}
+use Rattle.swarm_objects.specs.Rows.{node_id, drop_row, session_node, agent_node, sent_node}
+use Rattle.swarm_objects.specs.Rules.Nodes.{node_breaks, node_rules}
+use Rattle.swarm_objects.specs.Tasks.Words.{is_not_over, is_on}
+use Rattle.swarm_objects.specs.World.{World, Tables}
+use Rattle.swarm_objects.specs.declared.agents.AgentMode.TheVariants as agent_mode
+use Rattle.swarm_objects.specs.declared.agents.NodeAgent.{NodeAgent}
+use Rattle.swarm_objects.specs.declared.ids.Kind.TheVariants as kind
+use Rattle.swarm_objects.specs.declared.nodes.Availability.{Availability}
 use Rattle.swarm_objects.specs.declared.nodes.Node.{Node}
 use Rattle.swarm_objects.specs.declared.nodes.NodeDraft.{NodeDraft}
-use Rattle.swarm_objects.specs.Loops.Agents.{agents}
-use Rattle.swarm_objects.specs.World.{World, Tables}
-use Rattle.swarm_objects.specs.Changes.{id_taken, with_tables, change_node, change_where, in_state}
-use Rattle.swarm_model.specs.Calls.Refusals.{bad_spec, first_refusal, name_taken, node_by, too_many, unless, conflict, refuse}
-use Rattle.swarm_objects.specs.Rules.Nodes.{node_breaks, node_rules}
-use Rattle.swarm_objects.specs.declared.replies.Refusal.{Refusal}
-use Rattle.std.specs.Option.{option_map}
-use Rattle.swarm_objects.specs.Limits.{most_nodes}
-use Rattle.swarm_objects.specs.Rows.{node_id, drop_row, session_node, agent_node, sent_node}
-use Rattle.swarm_model.specs.Calls.Refusals.{Done}
-use Rattle.swarm_objects.specs.declared.nodes.Availability.{Availability}
 use Rattle.swarm_objects.specs.declared.nodes.NodeRole.{NodeRole}
-use Rattle.swarm_objects.specs.Tasks.Words.{is_not_over, is_on}
-use Rattle.swarm_objects.specs.declared.tasks.Task.{Task}
-use Rattle.swarm_objects.specs.Nodes.Words.{is_down}
 use Rattle.swarm_objects.specs.declared.nodes.NodeState.TheVariants as node_state
-use Rattle.swarm_objects.specs.declared.agents.AgentMode.TheVariants as agent_mode
-use Rattle.swarm_objects.specs.declared.ids.Kind.TheVariants as kind
-use Rattle.swarm_objects.specs.declared.tasks.TaskState.TheVariants as state
+use Rattle.swarm_objects.specs.declared.replies.Refusal.{Refusal}
 use Rattle.swarm_objects.specs.declared.replies.Refusal.TheVariants as refusal
+use Rattle.swarm_objects.specs.declared.tasks.Task.{Task}
+use Rattle.swarm_objects.specs.declared.tasks.TaskState.TheVariants as state
 
 -- Nodes.
 

@@ -1,15 +1,14 @@
 -- The operations of a transaction, one after the other.
-use Rattle.swarm_model.specs.Calls.Refusals.{Done}
 use Rattle.std.specs.Prelude.{Result, ℕ, Err, List, Ok, [], ◌++◌, ◌∷◌}
-use Rattle.swarm_objects.specs.World.{World}
-use Rattle.swarm_objects.specs.declared.replies.Refusal.{Refusal}
-use Rattle.swarm_model.specs.Calls.Refusals.{on_network_by, on_node, on_service_by}
-use Rattle.swarm_objects.specs.declared.calls.Op.{Op}
-use Rattle.swarm_model.specs.Calls.Nodes.{respecified_node, create_node, new_node, update_node, remove_node}
-use Rattle.swarm_model.specs.Calls.Services.{remove_service, update_service, rollback_service, create_service}
-use Rattle.swarm_model.specs.Calls.Networks.{new_network, remove_network, create_network}
 use Rattle.swarm_model.specs.Calls.Cluster.{set_cluster}
+use Rattle.swarm_model.specs.Calls.Networks.{new_network, remove_network, create_network}
+use Rattle.swarm_model.specs.Calls.Nodes.{respecified_node, create_node, new_node, update_node, remove_node}
+use Rattle.swarm_model.specs.Calls.Refusals.{Done, on_network_by, on_node, on_service_by}
+use Rattle.swarm_model.specs.Calls.Services.{remove_service, update_service, rollback_service, create_service}
+use Rattle.swarm_objects.specs.World.{World}
+use Rattle.swarm_objects.specs.declared.calls.Op.{Op}
 use Rattle.swarm_objects.specs.declared.calls.Op.TheVariants as op
+use Rattle.swarm_objects.specs.declared.replies.Refusal.{Refusal}
 
 -- Any of them.
 

@@ -1,30 +1,30 @@
 -- Why a call is refused; each test is none, or the refusal.
 use Rattle.std.specs.Prelude.{List, None, Option, Some, [], ◌∷◌, Err, Ok, Result, Bool, false, true, ℕ, not, ◌==◌, nat_le, find, is_none, filter, map, ◌&&◌, flat_map, ◌||◌, ◌++◌}
-use Rattle.swarm_objects.specs.declared.replies.Refusal.{Refusal}
-use Rattle.swarm_objects.specs.declared.ids.Kind.{Kind}
-use Rattle.swarm_objects.specs.declared.replies.Wanted.{Wanted}
+use Rattle.std.specs.List.{list_any}
 use Rattle.std.specs.Option.{option_map, option_eq}
-use Rattle.swarm_objects.specs.declared.rules.SpecRule.{SpecRule}
+use Rattle.std.specs.Ordering.{nat_cmp}
 use Rattle.std.specs.Str.{bytes_eq}
-use Rattle.swarm_objects.specs.declared.nodes.Node.{Node}
-use Rattle.swarm_objects.specs.declared.services.Service.{Service}
-use Rattle.swarm_objects.specs.declared.networks.Network.{Network}
-use Rattle.swarm_objects.specs.World.{World, Tables}
 use Rattle.swarm_objects.specs.Agents.Messages.{names}
-use Rattle.swarm_objects.specs.Services.Ports.{holds_port}
 use Rattle.swarm_objects.specs.Rows.{service_id, first_of, is_some_and, task_id, least_by}
 use Rattle.swarm_objects.specs.Same.{same_number}
-use Rattle.swarm_objects.specs.declared.templates.Port.{Port}
-use Rattle.swarm_objects.specs.declared.services.Mode.{Mode}
-use Rattle.std.specs.List.{list_any}
-use Rattle.swarm_objects.specs.declared.services.ServiceSpec.{ServiceSpec}
+use Rattle.swarm_objects.specs.Services.Ports.{holds_port}
 use Rattle.swarm_objects.specs.Tasks.Words.{is_not_over}
-use Rattle.swarm_objects.specs.declared.tasks.Task.{Task}
-use Rattle.std.specs.Ordering.{nat_cmp}
-use Rattle.swarm_objects.specs.declared.replies.Refusal.TheVariants as refusal
+use Rattle.swarm_objects.specs.World.{World, Tables}
+use Rattle.swarm_objects.specs.declared.ids.Kind.{Kind}
 use Rattle.swarm_objects.specs.declared.ids.Kind.TheVariants as kind
+use Rattle.swarm_objects.specs.declared.networks.Network.{Network}
+use Rattle.swarm_objects.specs.declared.nodes.Node.{Node}
+use Rattle.swarm_objects.specs.declared.replies.Refusal.{Refusal}
+use Rattle.swarm_objects.specs.declared.replies.Refusal.TheVariants as refusal
+use Rattle.swarm_objects.specs.declared.replies.Wanted.{Wanted}
 use Rattle.swarm_objects.specs.declared.replies.Wanted.TheVariants as wanted_by
+use Rattle.swarm_objects.specs.declared.rules.SpecRule.{SpecRule}
+use Rattle.swarm_objects.specs.declared.services.Mode.{Mode}
 use Rattle.swarm_objects.specs.declared.services.Mode.TheVariants as mode
+use Rattle.swarm_objects.specs.declared.services.Service.{Service}
+use Rattle.swarm_objects.specs.declared.services.ServiceSpec.{ServiceSpec}
+use Rattle.swarm_objects.specs.declared.tasks.Task.{Task}
+use Rattle.swarm_objects.specs.declared.templates.Port.{Port}
 
 -- the world after an operation and the id of its object, or its refusal
 abbrev pub Done : Type 0

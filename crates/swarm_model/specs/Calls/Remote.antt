@@ -1,28 +1,28 @@
 -- The calls of remote nodes.
 use Rattle.std.specs.Prelude.{Err, List, if◌then◌else◌, ℕ, ◌-◌, None, Option, Some, nat_le, not, ◌==◌, Bool, is_none, ◌&&◌, [], ◌++◌, ◌+◌, ◌∷◌, fold, ◌*◌, find, Ok, nat_lt, ◌||◌, false, true}
 use Rattle.swarm_model.specs.Calls.Refusals.{on_node, refuse, bad_spec, unless, first_refusal, found}
-use Rattle.swarm_objects.specs.World.{Tables, World}
-use Rattle.swarm_objects.specs.declared.nodes.Node.{Node}
 use Rattle.swarm_model.specs.Outcome.{Answered}
-use Rattle.swarm_objects.specs.declared.sessions.NodeSession.{NodeSession}
-use Rattle.swarm_objects.specs.declared.replies.Refusal.{Refusal}
-use Rattle.swarm_objects.specs.Nodes.Sessions.{session_of, ready_node, registered}
-use Rattle.swarm_objects.specs.declared.tasks.Task.{Task}
-use Rattle.swarm_objects.specs.Changes.{in_state, with_tables, raised_to, change_task}
-use Rattle.swarm_objects.specs.Nodes.Holdings.{is_placed_on}
-use Rattle.swarm_objects.specs.Rows.{change_row, node_id, on_row, row_at, task_id}
-use Rattle.swarm_objects.specs.declared.replies.Reply.{Reply}
-use Rattle.swarm_objects.specs.Loops.Agents.{without_sent, after_beat}
-use Rattle.swarm_objects.specs.Rules.Nodes.{resource_rules, resources_break}
 use Rattle.swarm_objects.specs.Agents.Messages.{with_sent, message_for, is_assigned_on}
-use Rattle.swarm_objects.specs.declared.messages.Message.{Message}
+use Rattle.swarm_objects.specs.Changes.{in_state, with_tables, raised_to, change_task}
+use Rattle.swarm_objects.specs.Loops.Agents.{without_sent, after_beat}
+use Rattle.swarm_objects.specs.Nodes.Holdings.{is_placed_on}
+use Rattle.swarm_objects.specs.Nodes.Sessions.{session_of, ready_node, registered}
+use Rattle.swarm_objects.specs.Rows.{change_row, node_id, on_row, row_at, task_id}
+use Rattle.swarm_objects.specs.Rules.Nodes.{resource_rules, resources_break}
 use Rattle.swarm_objects.specs.Values.Ranks.{rank}
-use Rattle.swarm_objects.specs.declared.tasks.TaskState.{TaskState}
-use Rattle.swarm_objects.specs.declared.replies.Refusal.TheVariants as refusal
-use Rattle.swarm_objects.specs.declared.tasks.TaskState.TheVariants as state
-use Rattle.swarm_objects.specs.declared.replies.Reply.TheVariants as reply
+use Rattle.swarm_objects.specs.World.{Tables, World}
 use Rattle.swarm_objects.specs.declared.ids.Kind.TheVariants as kind
+use Rattle.swarm_objects.specs.declared.messages.Message.{Message}
+use Rattle.swarm_objects.specs.declared.nodes.Node.{Node}
+use Rattle.swarm_objects.specs.declared.replies.Refusal.{Refusal}
+use Rattle.swarm_objects.specs.declared.replies.Refusal.TheVariants as refusal
+use Rattle.swarm_objects.specs.declared.replies.Reply.{Reply}
+use Rattle.swarm_objects.specs.declared.replies.Reply.TheVariants as reply
 use Rattle.swarm_objects.specs.declared.replies.Wanted.TheVariants as wanted_by
+use Rattle.swarm_objects.specs.declared.sessions.NodeSession.{NodeSession}
+use Rattle.swarm_objects.specs.declared.tasks.Task.{Task}
+use Rattle.swarm_objects.specs.declared.tasks.TaskState.{TaskState}
+use Rattle.swarm_objects.specs.declared.tasks.TaskState.TheVariants as state
 
 -- Remote nodes.
 

@@ -1,25 +1,24 @@
 -- The operations on services.
-use Rattle.std.specs.Option.{option_map}
 use Rattle.std.specs.Prelude.{List, flat_map, option_to_list, ℕ, Option, find, None, [], false, ◌++◌, ◌+◌, ◌∷◌, length, if◌then◌else◌, Bool, Some, not, Err, Ok, true, ◌==◌, filter}
+use Rattle.std.specs.Option.{option_map}
+use Rattle.swarm_model.specs.Calls.Refusals.{network_by, bad_spec, first_refusal, missing_network, name_taken, port_taken, service_by, too_many, unless, conflict, refuse, same_mode, Done}
 use Rattle.swarm_objects.specs.Agents.Messages.{names}
-use Rattle.swarm_model.specs.Calls.Refusals.{network_by, bad_spec, first_refusal, missing_network, name_taken, port_taken, service_by, too_many, unless, conflict, refuse, same_mode}
-use Rattle.swarm_objects.specs.Rows.{network_id, service_id, drop_row}
-use Rattle.swarm_objects.specs.World.{Tables, World}
-use Rattle.swarm_objects.specs.declared.services.Draft.{Draft}
-use Rattle.swarm_objects.specs.declared.services.ServiceSpec.{ServiceSpec}
-use Rattle.swarm_objects.specs.Rules.Services.{service_breaks, service_rules}
-use Rattle.swarm_objects.specs.declared.replies.Refusal.{Refusal}
-use Rattle.swarm_objects.specs.declared.services.Service.{Service}
 use Rattle.swarm_objects.specs.Changes.{id_taken, with_tables, change_service}
 use Rattle.swarm_objects.specs.Limits.{most_services}
-use Rattle.swarm_model.specs.Calls.Refusals.{Done}
+use Rattle.swarm_objects.specs.Rows.{network_id, service_id, drop_row}
+use Rattle.swarm_objects.specs.Rules.Services.{service_breaks, service_rules}
 use Rattle.swarm_objects.specs.Same.{same_template}
-use Rattle.swarm_objects.specs.declared.services.Mode.{Mode}
 use Rattle.swarm_objects.specs.Services.Ports.{kept_numbers}
-use Rattle.swarm_objects.specs.declared.tasks.Attempt.{Attempt}
+use Rattle.swarm_objects.specs.World.{Tables, World}
 use Rattle.swarm_objects.specs.declared.ids.Kind.TheVariants as kind
-use Rattle.swarm_objects.specs.declared.services.Mode.TheVariants as mode
+use Rattle.swarm_objects.specs.declared.replies.Refusal.{Refusal}
 use Rattle.swarm_objects.specs.declared.replies.Refusal.TheVariants as refusal
+use Rattle.swarm_objects.specs.declared.services.Draft.{Draft}
+use Rattle.swarm_objects.specs.declared.services.Mode.{Mode}
+use Rattle.swarm_objects.specs.declared.services.Mode.TheVariants as mode
+use Rattle.swarm_objects.specs.declared.services.Service.{Service}
+use Rattle.swarm_objects.specs.declared.services.ServiceSpec.{ServiceSpec}
+use Rattle.swarm_objects.specs.declared.tasks.Attempt.{Attempt}
 
 -- Services.
 

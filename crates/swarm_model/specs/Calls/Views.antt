@@ -1,49 +1,49 @@
 -- What queries show.
-use Rattle.swarm_objects.specs.declared.views.NodeShown.{NodeShown}
-use Rattle.swarm_objects.specs.declared.nodes.Node.{Node}
 use Rattle.std.specs.Prelude.{ℕ, List, Option, Some, None, Result, Bool, ◌&&◌, count_by, length, find, map, Ok, filter}
-use Rattle.swarm_objects.specs.declared.views.Shown.{Shown}
 use Rattle.std.specs.Option.{option_map}
+use Rattle.swarm_model.specs.Calls.Refusals.{found, on_network_by, on_node, on_service_by}
 use Rattle.swarm_objects.specs.Rows.{row_at, node_id, service_id, network_id, task_id}
+use Rattle.swarm_objects.specs.Services.Ports.{gives_number}
+use Rattle.swarm_objects.specs.Tasks.Places.{held_places}
+use Rattle.swarm_objects.specs.Tasks.Words.{is_running, is_live, is_of}
 use Rattle.swarm_objects.specs.World.{Tables}
-use Rattle.swarm_objects.specs.declared.services.Service.{Service}
+use Rattle.swarm_objects.specs.declared.calls.Query.{Query}
+use Rattle.swarm_objects.specs.declared.calls.Query.TheVariants as query
+use Rattle.swarm_objects.specs.declared.ids.Kind.TheVariants as kind
 use Rattle.swarm_objects.specs.declared.networks.Network.{Network}
-use Rattle.swarm_objects.specs.declared.views.PlaceShown.{PlaceShown}
-use Rattle.swarm_objects.specs.declared.tasks.Place.{Place}
-use Rattle.swarm_objects.specs.declared.tasks.Place.TheVariants.{Slot, On}
-use Rattle.swarm_objects.specs.declared.views.NoteShown.{NoteShown}
-use Rattle.swarm_objects.specs.declared.tasks.Closed.{Closed}
-use Rattle.swarm_objects.specs.declared.tasks.Note.{Note}
-use Rattle.swarm_objects.specs.declared.views.TaskShown.{TaskShown}
-use Rattle.swarm_objects.specs.declared.tasks.Task.{Task}
+use Rattle.swarm_objects.specs.declared.nodes.Node.{Node}
 use Rattle.swarm_objects.specs.declared.replies.Refusal.{Refusal}
 use Rattle.swarm_objects.specs.declared.replies.ViewReply.{ViewReply}
-use Rattle.swarm_objects.specs.Tasks.Words.{is_running, is_live, is_of}
-use Rattle.swarm_objects.specs.Tasks.Places.{held_places}
+use Rattle.swarm_objects.specs.declared.replies.ViewReply.TheVariants as view
+use Rattle.swarm_objects.specs.declared.replies.Wanted.TheVariants as wanted_by
 use Rattle.swarm_objects.specs.declared.services.Mode.{Mode}
+use Rattle.swarm_objects.specs.declared.services.Mode.TheVariants as mode
+use Rattle.swarm_objects.specs.declared.services.PortNumber.{PortNumber}
 use Rattle.swarm_objects.specs.declared.services.RunStatus.{RunStatus}
+use Rattle.swarm_objects.specs.declared.services.Service.{Service}
 use Rattle.swarm_objects.specs.declared.services.UpdateRun.{UpdateRun}
-use Rattle.swarm_objects.specs.declared.views.ServiceShown.{ServiceShown}
+use Rattle.swarm_objects.specs.declared.tasks.Address.{Address}
+use Rattle.swarm_objects.specs.declared.tasks.Closed.{Closed}
+use Rattle.swarm_objects.specs.declared.tasks.Note.{Note}
+use Rattle.swarm_objects.specs.declared.tasks.Note.TheVariants as note
+use Rattle.swarm_objects.specs.declared.tasks.Place.{Place}
+use Rattle.swarm_objects.specs.declared.tasks.Place.TheVariants.{Slot, On}
+use Rattle.swarm_objects.specs.declared.tasks.Task.{Task}
+use Rattle.swarm_objects.specs.declared.templates.Port.{Port}
+use Rattle.swarm_objects.specs.declared.views.NetworkDetail.{NetworkDetail}
 use Rattle.swarm_objects.specs.declared.views.NetworkShown.{NetworkShown}
 use Rattle.swarm_objects.specs.declared.views.NodeDetail.{NodeDetail}
-use Rattle.swarm_objects.specs.declared.services.PortNumber.{PortNumber}
-use Rattle.swarm_objects.specs.Services.Ports.{gives_number}
-use Rattle.swarm_objects.specs.declared.templates.Port.{Port}
-use Rattle.swarm_objects.specs.declared.views.ServiceDetail.{ServiceDetail}
-use Rattle.swarm_objects.specs.declared.views.NetworkDetail.{NetworkDetail}
-use Rattle.swarm_objects.specs.declared.tasks.Address.{Address}
-use Rattle.swarm_objects.specs.declared.views.TaskDetail.{TaskDetail}
-use Rattle.swarm_model.specs.Calls.Refusals.{found, on_network_by, on_node, on_service_by}
-use Rattle.swarm_objects.specs.declared.calls.Query.{Query}
-use Rattle.swarm_objects.specs.declared.views.Shown.TheVariants as by
-use Rattle.swarm_objects.specs.declared.views.PlaceShown.TheVariants as place_shown
+use Rattle.swarm_objects.specs.declared.views.NodeShown.{NodeShown}
+use Rattle.swarm_objects.specs.declared.views.NoteShown.{NoteShown}
 use Rattle.swarm_objects.specs.declared.views.NoteShown.TheVariants as note_shown
-use Rattle.swarm_objects.specs.declared.tasks.Note.TheVariants as note
-use Rattle.swarm_objects.specs.declared.services.Mode.TheVariants as mode
-use Rattle.swarm_objects.specs.declared.replies.ViewReply.TheVariants as view
-use Rattle.swarm_objects.specs.declared.ids.Kind.TheVariants as kind
-use Rattle.swarm_objects.specs.declared.calls.Query.TheVariants as query
-use Rattle.swarm_objects.specs.declared.replies.Wanted.TheVariants as wanted_by
+use Rattle.swarm_objects.specs.declared.views.PlaceShown.{PlaceShown}
+use Rattle.swarm_objects.specs.declared.views.PlaceShown.TheVariants as place_shown
+use Rattle.swarm_objects.specs.declared.views.ServiceDetail.{ServiceDetail}
+use Rattle.swarm_objects.specs.declared.views.ServiceShown.{ServiceShown}
+use Rattle.swarm_objects.specs.declared.views.Shown.{Shown}
+use Rattle.swarm_objects.specs.declared.views.Shown.TheVariants as by
+use Rattle.swarm_objects.specs.declared.views.TaskDetail.{TaskDetail}
+use Rattle.swarm_objects.specs.declared.views.TaskShown.{TaskShown}
 
 -- what a list of nodes shows of one
 abbrev pub shown : Node → NodeShown

@@ -1,22 +1,22 @@
 -- Watchers, and the events that they wait for.
-use Rattle.swarm_objects.specs.declared.watches.Watcher.{Watcher}
 use Rattle.std.specs.Prelude.{ℕ, Bool, None, Option, Some, true, ◌==◌, ◌&&◌, filter, nat_lt, List, [], ◌++◌, ◌+◌, ◌∷◌, length, if◌then◌else◌, Err, Ok}
-use Rattle.swarm_objects.specs.declared.ids.Kind.{Kind}
-use Rattle.std.specs.Option.{option_map}
-use Rattle.swarm_objects.specs.declared.watches.Event.{Event}
-use Rattle.swarm_objects.specs.declared.watches.Filter.{Filter}
-use Rattle.swarm_model.specs.Changed.{changes_between}
-use Rattle.swarm_objects.specs.World.{World}
 use Rattle.std.specs.List.{list_any}
+use Rattle.std.specs.Option.{option_map}
+use Rattle.swarm_model.specs.Calls.Refusals.{too_many, unless}
+use Rattle.swarm_model.specs.Changed.{changes_between}
+use Rattle.swarm_model.specs.Outcome.{Answered}
 use Rattle.swarm_objects.specs.Changes.{id_taken}
 use Rattle.swarm_objects.specs.Limits.{most_watchers, most_waiting}
-use Rattle.swarm_model.specs.Calls.Refusals.{too_many, unless}
-use Rattle.swarm_model.specs.Outcome.{Answered}
 use Rattle.swarm_objects.specs.Rows.{watcher_id, drop_row, change_row}
-use Rattle.swarm_objects.specs.declared.replies.Reply.{Reply}
+use Rattle.swarm_objects.specs.World.{World}
+use Rattle.swarm_objects.specs.declared.ids.Kind.{Kind}
 use Rattle.swarm_objects.specs.declared.ids.Kind.TheVariants as kind
-use Rattle.swarm_objects.specs.declared.replies.Reply.TheVariants as reply
 use Rattle.swarm_objects.specs.declared.replies.Refusal.TheVariants as refusal
+use Rattle.swarm_objects.specs.declared.replies.Reply.{Reply}
+use Rattle.swarm_objects.specs.declared.replies.Reply.TheVariants as reply
+use Rattle.swarm_objects.specs.declared.watches.Event.{Event}
+use Rattle.swarm_objects.specs.declared.watches.Filter.{Filter}
+use Rattle.swarm_objects.specs.declared.watches.Watcher.{Watcher}
 
 -- Watchers.
 

@@ -1,26 +1,26 @@
 -- Dead sessions change nothing.
 use Rattle.std.specs.Prelude.{List, None, Option, Some, ℕ, Bool, not, false, true, ◌+◌, ◌≡◌}
-use Rattle.swarm_objects.specs.declared.calls.Call.{Call}
+use Rattle.swarm_model.specs.Calls.{call_outcome}
 use Rattle.swarm_model.specs.Calls.Refusals.{node_by}
 use Rattle.swarm_model.specs.Calls.Remote.{admits_session}
-use Rattle.swarm_objects.specs.Rows.{is_some_and}
-use Rattle.swarm_objects.specs.World.{Tables, World, empty_world}
-use Rattle.swarm_objects.specs.declared.nodes.Node.{Node}
-use Rattle.swarm_objects.specs.declared.replies.Reply.{Reply}
-use Rattle.swarm_model.specs.Calls.{call_outcome}
-use Rattle.swarm_objects.specs.declared.duties.Duty.{Duty}
+use Rattle.swarm_model.specs.History.{IsLegal}
+use Rattle.swarm_model.specs.Laws.Steps.{EachStep}
 use Rattle.swarm_objects.specs.Duties.{is_due}
 use Rattle.swarm_objects.specs.Nodes.Sessions.{is_session_live}
-use Rattle.swarm_objects.specs.declared.calls.What.{What}
-use Rattle.swarm_model.specs.History.{IsLegal}
-use Rattle.swarm_objects.specs.declared.calls.Entry.{Entry}
-use Rattle.swarm_model.specs.Laws.Steps.{EachStep}
+use Rattle.swarm_objects.specs.Rows.{is_some_and}
+use Rattle.swarm_objects.specs.World.{Tables, World, empty_world}
+use Rattle.swarm_objects.specs.declared.calls.Call.{Call}
 use Rattle.swarm_objects.specs.declared.calls.Call.TheVariants as call
-use Rattle.swarm_objects.specs.declared.ids.Kind.TheVariants as kind
-use Rattle.swarm_objects.specs.declared.replies.Refusal.TheVariants as refusal
-use Rattle.swarm_objects.specs.declared.replies.Reply.TheVariants as reply
-use Rattle.swarm_objects.specs.declared.duties.Duty.TheVariants as duty
+use Rattle.swarm_objects.specs.declared.calls.Entry.{Entry}
+use Rattle.swarm_objects.specs.declared.calls.What.{What}
 use Rattle.swarm_objects.specs.declared.calls.What.TheVariants as what
+use Rattle.swarm_objects.specs.declared.duties.Duty.{Duty}
+use Rattle.swarm_objects.specs.declared.duties.Duty.TheVariants as duty
+use Rattle.swarm_objects.specs.declared.ids.Kind.TheVariants as kind
+use Rattle.swarm_objects.specs.declared.nodes.Node.{Node}
+use Rattle.swarm_objects.specs.declared.replies.Refusal.TheVariants as refusal
+use Rattle.swarm_objects.specs.declared.replies.Reply.{Reply}
+use Rattle.swarm_objects.specs.declared.replies.Reply.TheVariants as reply
 
 -- Dead sessions.
 

@@ -1,27 +1,27 @@
 -- Facts that every world of a legal history keeps, on the way from the settle test to a match; each is a test.
-use Rattle.swarm_objects.specs.declared.agents.NodeAgent.{NodeAgent}
-use Rattle.swarm_objects.specs.declared.messages.NodeSent.{NodeSent}
 use Rattle.std.specs.Prelude.{Bool, not, true, ◌||◌, nat_lt, ◌&&◌, ◌==◌, List, is_none, ℕ, nat_le, None, Option, Some, [], if◌then◌else◌, ◌∷◌, false}
-use Rattle.swarm_objects.specs.Nodes.Words.{is_node_and}
-use Rattle.swarm_objects.specs.Tasks.Words.{is_placed, is_task, is_live, is_kept}
-use Rattle.swarm_objects.specs.World.{Tables, World}
-use Rattle.swarm_objects.specs.declared.tasks.Task.{Task}
-use Rattle.swarm_objects.specs.Values.Ranks.{desired_rank, rank}
-use Rattle.swarm_objects.specs.Tasks.New.{goal_of}
-use Rattle.swarm_objects.specs.declared.services.Service.{Service}
-use Rattle.swarm_objects.specs.Tasks.Places.{place_at, place_number, newest, place_tasks, place_numbers, tasks_of_place}
-use Rattle.swarm_objects.specs.Same.{same_place}
-use Rattle.swarm_objects.specs.Rows.{on_row, row_at, service_id, is_some_and, has_row, task_id, is_row_and, executor_task}
 use Rattle.std.specs.List.{list_any, list_all}
-use Rattle.swarm_objects.specs.Services.Words.{is_clean, is_service_and}
-use Rattle.swarm_objects.specs.declared.agents.Executor.{Executor}
-use Rattle.swarm_objects.specs.declared.messages.AssignChange.{AssignChange}
-use Rattle.swarm_objects.specs.declared.tasks.Desired.{Desired}
-use Rattle.swarm_objects.specs.declared.messages.Assigned.{Assigned}
 use Rattle.swarm_objects.specs.Agents.Messages.{names, sent_of, assigned_task}
-use Rattle.swarm_objects.specs.declared.messages.Message.{Message}
-use Rattle.swarm_objects.specs.declared.tasks.Desired.TheVariants as desired
+use Rattle.swarm_objects.specs.Nodes.Words.{is_node_and}
+use Rattle.swarm_objects.specs.Rows.{on_row, row_at, service_id, is_some_and, has_row, task_id, is_row_and, executor_task}
+use Rattle.swarm_objects.specs.Same.{same_place}
+use Rattle.swarm_objects.specs.Services.Words.{is_clean, is_service_and}
+use Rattle.swarm_objects.specs.Tasks.New.{goal_of}
+use Rattle.swarm_objects.specs.Tasks.Places.{place_at, place_number, newest, place_tasks, place_numbers, tasks_of_place}
+use Rattle.swarm_objects.specs.Tasks.Words.{is_placed, is_task, is_live, is_kept}
+use Rattle.swarm_objects.specs.Values.Ranks.{desired_rank, rank}
+use Rattle.swarm_objects.specs.World.{Tables, World}
+use Rattle.swarm_objects.specs.declared.agents.Executor.{Executor}
+use Rattle.swarm_objects.specs.declared.agents.NodeAgent.{NodeAgent}
+use Rattle.swarm_objects.specs.declared.messages.AssignChange.{AssignChange}
 use Rattle.swarm_objects.specs.declared.messages.AssignChange.TheVariants as assign
+use Rattle.swarm_objects.specs.declared.messages.Assigned.{Assigned}
+use Rattle.swarm_objects.specs.declared.messages.Message.{Message}
+use Rattle.swarm_objects.specs.declared.messages.NodeSent.{NodeSent}
+use Rattle.swarm_objects.specs.declared.services.Service.{Service}
+use Rattle.swarm_objects.specs.declared.tasks.Desired.{Desired}
+use Rattle.swarm_objects.specs.declared.tasks.Desired.TheVariants as desired
+use Rattle.swarm_objects.specs.declared.tasks.Task.{Task}
 
 -- Tasks.
 

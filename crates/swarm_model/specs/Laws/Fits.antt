@@ -1,21 +1,21 @@
 -- Reservations fit.
 use Rattle.std.specs.Prelude.{Bool, nat_le, ◌&&◌, false, true, ◌||◌, [], is_some, ◌∷◌, ◌≡◌, List}
-use Rattle.swarm_objects.specs.Nodes.Holdings.{reserved_cpu, reserved_mem, is_host_port_used}
-use Rattle.swarm_objects.specs.World.{Tables, empty_world}
-use Rattle.swarm_objects.specs.declared.nodes.Node.{Node}
 use Rattle.std.specs.List.{list_any, list_all}
-use Rattle.swarm_objects.specs.Services.Ports.{holds_port, ports_held}
-use Rattle.swarm_objects.specs.declared.services.Service.{Service}
+use Rattle.std.specs.Option.{option_eq}
 use Rattle.swarm_model.specs.Content.{same_address}
+use Rattle.swarm_model.specs.History.{IsLegal}
+use Rattle.swarm_model.specs.Laws.Steps.{EachWorld}
+use Rattle.swarm_objects.specs.Nodes.Holdings.{reserved_cpu, reserved_mem, is_host_port_used}
+use Rattle.swarm_objects.specs.Rules.Services.{has_alike}
+use Rattle.swarm_objects.specs.Same.{same_number}
+use Rattle.swarm_objects.specs.Services.Ports.{holds_port, ports_held}
+use Rattle.swarm_objects.specs.Tasks.Words.{is_not_over, is_placed}
+use Rattle.swarm_objects.specs.World.{Tables, empty_world}
+use Rattle.swarm_objects.specs.declared.calls.Entry.{Entry}
+use Rattle.swarm_objects.specs.declared.nodes.Node.{Node}
+use Rattle.swarm_objects.specs.declared.services.Service.{Service}
 use Rattle.swarm_objects.specs.declared.tasks.Address.{Address}
 use Rattle.swarm_objects.specs.declared.tasks.Task.{Task}
-use Rattle.swarm_objects.specs.Tasks.Words.{is_not_over, is_placed}
-use Rattle.std.specs.Option.{option_eq}
-use Rattle.swarm_objects.specs.Same.{same_number}
-use Rattle.swarm_objects.specs.Rules.Services.{has_alike}
-use Rattle.swarm_model.specs.History.{IsLegal}
-use Rattle.swarm_objects.specs.declared.calls.Entry.{Entry}
-use Rattle.swarm_model.specs.Laws.Steps.{EachWorld}
 
 -- Reservations fit.
 

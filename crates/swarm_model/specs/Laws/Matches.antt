@@ -1,36 +1,36 @@
 -- Where all is settled, executors match specifications. No word of duties, of the settle test or of times stands in it.
-use Rattle.swarm_objects.specs.declared.agents.NodeAgent.{NodeAgent}
-use Rattle.std.specs.List.{list_all, list_any}
 use Rattle.std.specs.Prelude.{Bool, ◌&&◌, ℕ, ◌||◌, not, length, nat_le, ◌==◌, false, is_none, List, [], ◌∷◌, filter, map, Some, nat_lt, true, ◌≡◌}
-use Rattle.swarm_objects.specs.World.{Tables, World}
-use Rattle.swarm_objects.specs.declared.nodes.Node.{Node}
-use Rattle.swarm_objects.specs.Nodes.Words.{is_pause, meets_all, is_ready, is_drain, is_node_and}
-use Rattle.swarm_objects.specs.declared.services.Service.{Service}
-use Rattle.swarm_objects.specs.Loops.Global.{wants_here}
-use Rattle.swarm_objects.specs.Rows.{is_row_and, node_id, executor_task, agent_node, task_id, is_some_and}
-use Rattle.swarm_objects.specs.Tasks.Places.{held_places, is_held_place, live_places, place_tasks, has_live, counts_for, is_held, newest}
-use Rattle.swarm_objects.specs.declared.services.Mode.{Mode}
-use Rattle.swarm_objects.specs.Values.Ranks.{rank, desired_rank}
-use Rattle.swarm_objects.specs.declared.agents.Executor.{Executor}
-use Rattle.swarm_objects.specs.declared.tasks.Task.{Task}
-use Rattle.swarm_objects.specs.Tasks.Words.{is_running, is_pending, is_new, is_live, is_on}
-use Rattle.swarm_objects.specs.Loops.Allocator.{same_note}
-use Rattle.swarm_objects.specs.Nodes.Filters.{admits, refusal_counts, tested_nodes}
-use Rattle.swarm_objects.specs.Services.Ports.{unnumbered_ports, free_port}
-use Rattle.swarm_objects.specs.Same.{same_bool, same_number}
-use Rattle.swarm_objects.specs.Tasks.Addresses.{free_address}
-use Rattle.swarm_objects.specs.declared.tasks.Note.{Note}
-use Rattle.swarm_objects.specs.Services.Words.{is_clean, is_service_and}
-use Rattle.swarm_objects.specs.Agents.Executors.{is_early, is_late}
 use Rattle.std.specs.Cmp.Lexicographic.{pointwise}
+use Rattle.std.specs.List.{list_all, list_any}
 use Rattle.std.specs.Option.{option_eq}
-use Rattle.swarm_model.specs.Content.{same_cause}
 use Rattle.swarm_model.specs.Closing.{Closing, closing}
-use Rattle.swarm_objects.specs.declared.calls.Entry.{Entry}
+use Rattle.swarm_model.specs.Content.{same_cause}
 use Rattle.swarm_model.specs.History.{replay}
+use Rattle.swarm_objects.specs.Agents.Executors.{is_early, is_late}
+use Rattle.swarm_objects.specs.Loops.Allocator.{same_note}
+use Rattle.swarm_objects.specs.Loops.Global.{wants_here}
+use Rattle.swarm_objects.specs.Nodes.Filters.{admits, refusal_counts, tested_nodes}
+use Rattle.swarm_objects.specs.Nodes.Words.{is_pause, meets_all, is_ready, is_drain, is_node_and}
+use Rattle.swarm_objects.specs.Rows.{is_row_and, node_id, executor_task, agent_node, task_id, is_some_and}
+use Rattle.swarm_objects.specs.Same.{same_bool, same_number}
+use Rattle.swarm_objects.specs.Services.Ports.{unnumbered_ports, free_port}
+use Rattle.swarm_objects.specs.Services.Words.{is_clean, is_service_and}
+use Rattle.swarm_objects.specs.Tasks.Addresses.{free_address}
+use Rattle.swarm_objects.specs.Tasks.Places.{held_places, is_held_place, live_places, place_tasks, has_live, counts_for, is_held, newest}
+use Rattle.swarm_objects.specs.Tasks.Words.{is_running, is_pending, is_new, is_live, is_on}
+use Rattle.swarm_objects.specs.Values.Ranks.{rank, desired_rank}
+use Rattle.swarm_objects.specs.World.{Tables, World}
+use Rattle.swarm_objects.specs.declared.agents.Executor.{Executor}
+use Rattle.swarm_objects.specs.declared.agents.NodeAgent.{NodeAgent}
+use Rattle.swarm_objects.specs.declared.calls.Entry.{Entry}
+use Rattle.swarm_objects.specs.declared.nodes.Node.{Node}
+use Rattle.swarm_objects.specs.declared.services.Mode.{Mode}
 use Rattle.swarm_objects.specs.declared.services.Mode.TheVariants as mode
-use Rattle.swarm_objects.specs.declared.tasks.TaskState.TheVariants as state
+use Rattle.swarm_objects.specs.declared.services.Service.{Service}
+use Rattle.swarm_objects.specs.declared.tasks.Note.{Note}
 use Rattle.swarm_objects.specs.declared.tasks.Note.TheVariants as note
+use Rattle.swarm_objects.specs.declared.tasks.Task.{Task}
+use Rattle.swarm_objects.specs.declared.tasks.TaskState.TheVariants as state
 
 -- Places.
 

@@ -1,16 +1,16 @@
 -- No two live tasks of a place have one template.
 use Rattle.std.specs.Prelude.{Bool, ◌&&◌, false, ◌≡◌, List}
-use Rattle.swarm_objects.specs.Tasks.Places.{counts_for, is_in_place}
+use Rattle.swarm_model.specs.History.{IsLegal}
+use Rattle.swarm_model.specs.Laws.Steps.{EachWorld}
+use Rattle.swarm_objects.specs.Rules.Services.{has_alike}
 use Rattle.swarm_objects.specs.Same.{same_template}
+use Rattle.swarm_objects.specs.Services.Words.{is_service_and}
+use Rattle.swarm_objects.specs.Tasks.Places.{counts_for, is_in_place}
 use Rattle.swarm_objects.specs.Tasks.Words.{is_live}
+use Rattle.swarm_objects.specs.World.{Tables, empty_world}
+use Rattle.swarm_objects.specs.declared.calls.Entry.{Entry}
 use Rattle.swarm_objects.specs.declared.services.Service.{Service}
 use Rattle.swarm_objects.specs.declared.tasks.Task.{Task}
-use Rattle.swarm_objects.specs.Services.Words.{is_service_and}
-use Rattle.swarm_objects.specs.World.{Tables, empty_world}
-use Rattle.swarm_objects.specs.Rules.Services.{has_alike}
-use Rattle.swarm_model.specs.History.{IsLegal}
-use Rattle.swarm_objects.specs.declared.calls.Entry.{Entry}
-use Rattle.swarm_model.specs.Laws.Steps.{EachWorld}
 
 -- One task a template.
 

@@ -1,14 +1,14 @@
 -- Tasks rise, and no id comes back.
 use Rattle.std.specs.Prelude.{◌≡◌, None, Option, Some, ℕ, ⊤, ◌≤◌, List, All, true, ◌⊎◌}
-use Rattle.swarm_objects.specs.declared.tasks.Task.{Task}
-use Rattle.swarm_objects.specs.Values.Ranks.{desired_rank, rank}
-use Rattle.swarm_objects.specs.Rows.{Has, has_row, watcher_id, network_id, node_id, service_id, task_id}
-use Rattle.swarm_objects.specs.declared.sessions.NodeSession.{NodeSession}
-use Rattle.swarm_objects.specs.World.{World, empty_world}
-use Rattle.swarm_objects.specs.declared.calls.What.{What}
 use Rattle.swarm_model.specs.History.{IsLegal}
-use Rattle.swarm_objects.specs.declared.calls.Entry.{Entry}
 use Rattle.swarm_model.specs.Laws.Steps.{EachStep}
+use Rattle.swarm_objects.specs.Rows.{Has, has_row, watcher_id, network_id, node_id, service_id, task_id}
+use Rattle.swarm_objects.specs.Values.Ranks.{desired_rank, rank}
+use Rattle.swarm_objects.specs.World.{World, empty_world}
+use Rattle.swarm_objects.specs.declared.calls.Entry.{Entry}
+use Rattle.swarm_objects.specs.declared.calls.What.{What}
+use Rattle.swarm_objects.specs.declared.sessions.NodeSession.{NodeSession}
+use Rattle.swarm_objects.specs.declared.tasks.Task.{Task}
 
 -- Tasks rise.
 

@@ -1,18 +1,18 @@
 -- The size of a world, which bounds the duties that may follow without a call.
-use Rattle.swarm_objects.specs.declared.agents.NodeAgent.{NodeAgent}
 use Rattle.std.specs.Prelude.{length, ℕ, ◌+◌, sum_by, ◌*◌, Bool, false, true, List, count_by, map, not, ◌++◌, ◌≤◌}
-use Rattle.swarm_objects.specs.Rows.{on_row}
-use Rattle.swarm_objects.specs.declared.messages.Message.{Message}
-use Rattle.swarm_objects.specs.World.{Tables, World}
-use Rattle.swarm_objects.specs.declared.services.Mode.{Mode}
-use Rattle.swarm_objects.specs.declared.services.ServiceSpec.{ServiceSpec}
-use Rattle.swarm_objects.specs.declared.services.Service.{Service}
-use Rattle.swarm_objects.specs.declared.duties.Duty.{Duty}
-use Rattle.swarm_objects.specs.declared.calls.Entry.{Entry}
 use Rattle.swarm_model.specs.History.{IsLegal, replay}
-use Rattle.swarm_objects.specs.declared.services.Mode.TheVariants as mode
-use Rattle.swarm_objects.specs.declared.duties.Duty.TheVariants as duty
+use Rattle.swarm_objects.specs.Rows.{on_row}
+use Rattle.swarm_objects.specs.World.{Tables, World}
+use Rattle.swarm_objects.specs.declared.agents.NodeAgent.{NodeAgent}
+use Rattle.swarm_objects.specs.declared.calls.Entry.{Entry}
 use Rattle.swarm_objects.specs.declared.calls.What.TheVariants as what
+use Rattle.swarm_objects.specs.declared.duties.Duty.{Duty}
+use Rattle.swarm_objects.specs.declared.duties.Duty.TheVariants as duty
+use Rattle.swarm_objects.specs.declared.messages.Message.{Message}
+use Rattle.swarm_objects.specs.declared.services.Mode.{Mode}
+use Rattle.swarm_objects.specs.declared.services.Mode.TheVariants as mode
+use Rattle.swarm_objects.specs.declared.services.Service.{Service}
+use Rattle.swarm_objects.specs.declared.services.ServiceSpec.{ServiceSpec}
 
 -- the executors, and the changes in the inbox
 abbrev pub size_of_agent : NodeAgent → ℕ

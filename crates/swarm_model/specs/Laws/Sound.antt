@@ -1,30 +1,30 @@
 -- What holds of the rows and numbers of every world that a call may be handed.
-use Rattle.swarm_objects.specs.declared.agents.NodeAgent.{NodeAgent}
-use Rattle.swarm_objects.specs.declared.messages.NodeSent.{NodeSent}
-use Rattle.swarm_objects.specs.Rows.{RisesFrom, network_id, node_id, service_id, session_node, task_id, IsBelow, agent_node, executor_task, sent_node, watcher_id, on_row}
-use Rattle.swarm_objects.specs.World.{Tables, World}
 use Rattle.std.specs.Prelude.{Bool, find, is_none, true, ◌≡◌, All, ℕ, ◌^◌, nat_lt, ◌&&◌, ◌<◌}
-use Rattle.swarm_objects.specs.Rules.Networks.{subnet_breaks, subnet_rules}
-use Rattle.swarm_objects.specs.declared.networks.Network.{Network}
 use Rattle.std.specs.List.{list_all}
-use Rattle.swarm_objects.specs.declared.templates.End.{End}
-use Rattle.swarm_objects.specs.declared.templates.Workload.{Workload}
-use Rattle.swarm_objects.specs.declared.templates.Template.{Template}
-use Rattle.swarm_objects.specs.declared.services.ServiceSpec.{ServiceSpec}
-use Rattle.swarm_objects.specs.declared.services.Replaced.{Replaced}
-use Rattle.swarm_objects.specs.declared.services.UpdateRun.{UpdateRun}
+use Rattle.swarm_objects.specs.Rows.{RisesFrom, network_id, node_id, service_id, session_node, task_id, IsBelow, agent_node, executor_task, sent_node, watcher_id, on_row}
+use Rattle.swarm_objects.specs.Rules.Networks.{subnet_breaks, subnet_rules}
+use Rattle.swarm_objects.specs.World.{Tables, World}
+use Rattle.swarm_objects.specs.declared.agents.Executor.{Executor}
+use Rattle.swarm_objects.specs.declared.agents.NodeAgent.{NodeAgent}
+use Rattle.swarm_objects.specs.declared.messages.AssignChange.{AssignChange}
+use Rattle.swarm_objects.specs.declared.messages.AssignChange.TheVariants as assign
+use Rattle.swarm_objects.specs.declared.messages.Assigned.{Assigned}
+use Rattle.swarm_objects.specs.declared.messages.Message.{Message}
+use Rattle.swarm_objects.specs.declared.messages.NodeSent.{NodeSent}
+use Rattle.swarm_objects.specs.declared.networks.Network.{Network}
 use Rattle.swarm_objects.specs.declared.nodes.Node.{Node}
+use Rattle.swarm_objects.specs.declared.services.Replaced.{Replaced}
 use Rattle.swarm_objects.specs.declared.services.Service.{Service}
-use Rattle.swarm_objects.specs.declared.tasks.Task.{Task}
+use Rattle.swarm_objects.specs.declared.services.ServiceSpec.{ServiceSpec}
+use Rattle.swarm_objects.specs.declared.services.UpdateRun.{UpdateRun}
 use Rattle.swarm_objects.specs.declared.sessions.NodeSession.{NodeSession}
 use Rattle.swarm_objects.specs.declared.settings.Settings.{Settings}
 use Rattle.swarm_objects.specs.declared.tasks.Attempt.{Attempt}
-use Rattle.swarm_objects.specs.declared.messages.Assigned.{Assigned}
-use Rattle.swarm_objects.specs.declared.messages.AssignChange.{AssignChange}
-use Rattle.swarm_objects.specs.declared.messages.Message.{Message}
-use Rattle.swarm_objects.specs.declared.agents.Executor.{Executor}
+use Rattle.swarm_objects.specs.declared.tasks.Task.{Task}
+use Rattle.swarm_objects.specs.declared.templates.End.{End}
 use Rattle.swarm_objects.specs.declared.templates.End.TheVariants as end
-use Rattle.swarm_objects.specs.declared.messages.AssignChange.TheVariants as assign
+use Rattle.swarm_objects.specs.declared.templates.Template.{Template}
+use Rattle.swarm_objects.specs.declared.templates.Workload.{Workload}
 
 -- Rows.
 

@@ -2,30 +2,30 @@
 use Rattle.std.specs.Prelude.{ℕ, List, find, Option, ◌+◌, [], ◌∷◌, ◌++◌, nat_le, length, if◌then◌else◌, Result, Ok, Err, Some, None, map, nat_lt, true, Bool, false, not}
 use Rattle.std.specs.Option.{option_map}
 use Rattle.std.specs.Str.{bytes_eq}
+use Rattle.swarm_model.specs.Calls.Views.{shown, task_shown}
+use Rattle.swarm_model.specs.Outcome.{Outcome}
+use Rattle.swarm_model.specs.Today.Services.{create_service, service_named}
+use Rattle.swarm_model.specs.Today.Settle.{settle_answer}
+use Rattle.swarm_objects.specs.CallWords.{is_halt}
+use Rattle.swarm_objects.specs.Limits.{most_nodes, most_ops, most_entries}
 use Rattle.swarm_objects.specs.Rows.{node_id}
+use Rattle.swarm_objects.specs.Rules.Services.{broken_rule}
+use Rattle.swarm_objects.specs.World.{World}
+use Rattle.swarm_objects.specs.declared.calls.Call.{Call}
+use Rattle.swarm_objects.specs.declared.calls.Call.TheVariants.{Txn, View, Settle, Halt}
+use Rattle.swarm_objects.specs.declared.calls.Op.{Op}
+use Rattle.swarm_objects.specs.declared.calls.Op.TheVariants.{CreateNode, CreateService}
+use Rattle.swarm_objects.specs.declared.calls.Query.{Query}
+use Rattle.swarm_objects.specs.declared.calls.Query.TheVariants.{ListNodes, ListTasks}
+use Rattle.swarm_objects.specs.declared.ids.Kind.TheVariants.{Node as NodeKind}
 use Rattle.swarm_objects.specs.declared.nodes.Node.{Node}
 use Rattle.swarm_objects.specs.declared.nodes.NodeDraft.{NodeDraft}
 use Rattle.swarm_objects.specs.declared.nodes.NodeState.TheVariants.{Unknown}
-use Rattle.swarm_objects.specs.World.{World}
-use Rattle.swarm_objects.specs.declared.ids.Kind.TheVariants.{Node as NodeKind}
 use Rattle.swarm_objects.specs.declared.replies.Refusal.{Refusal}
 use Rattle.swarm_objects.specs.declared.replies.Refusal.TheVariants.{NameTaken, TooMany, TooManyOps, Halted, Full}
-use Rattle.swarm_objects.specs.Limits.{most_nodes, most_ops, most_entries}
-use Rattle.swarm_objects.specs.Rules.Services.{broken_rule}
-use Rattle.swarm_model.specs.Today.Services.{create_service, service_named}
-use Rattle.swarm_objects.specs.declared.calls.Op.{Op}
-use Rattle.swarm_objects.specs.declared.calls.Op.TheVariants.{CreateNode, CreateService}
 use Rattle.swarm_objects.specs.declared.replies.Reply.TheVariants.{Refused, Txn as Done, View as Viewed, Did, Settle as Tested, HaltDone}
-use Rattle.swarm_model.specs.Outcome.{Outcome}
 use Rattle.swarm_objects.specs.declared.replies.ViewReply.{ViewReply}
-use Rattle.swarm_model.specs.Calls.Views.{shown, task_shown}
-use Rattle.swarm_objects.specs.declared.calls.Query.TheVariants.{ListNodes, ListTasks}
 use Rattle.swarm_objects.specs.declared.replies.ViewReply.TheVariants.{Nodes, Tasks}
-use Rattle.swarm_objects.specs.declared.calls.Query.{Query}
-use Rattle.swarm_model.specs.Today.Settle.{settle_answer}
-use Rattle.swarm_objects.specs.declared.calls.Call.{Call}
-use Rattle.swarm_objects.specs.declared.calls.Call.TheVariants.{Txn, View, Settle, Halt}
-use Rattle.swarm_objects.specs.CallWords.{is_halt}
 
 -- Operations. Each gives the world after it and the id of its object, or its refusal.
 

@@ -1,17 +1,17 @@
 -- Histories: lists of entries, from the empty world on.
-use Rattle.swarm_objects.specs.World.{World, empty_world}
-use Rattle.swarm_model.specs.Outcome.{Outcome}
-use Rattle.swarm_objects.specs.Today.Duties.{effect, is_due}
-use Rattle.swarm_objects.specs.declared.duties.Duty.{Duty}
-use Rattle.swarm_objects.specs.declared.replies.Reply.TheVariants.{Did}
-use Rattle.swarm_model.specs.Today.Calls.{call_outcome, is_admitted}
-use Rattle.swarm_objects.specs.declared.calls.What.{What}
-use Rattle.swarm_objects.specs.declared.calls.What.TheVariants.{Call as Called, Duty as Done}
-use Rattle.swarm_objects.specs.declared.calls.Entry.{Entry}
-use Rattle.swarm_objects.specs.declared.replies.Reply.{Reply}
 use Rattle.std.specs.Prelude.{Bool, false, nat_lt, if◌then◌else◌, List, [], ◌∷◌, ◌≡◌, true, ⊤}
+use Rattle.swarm_model.specs.Outcome.{Outcome}
+use Rattle.swarm_model.specs.Today.Calls.{call_outcome, is_admitted}
 use Rattle.swarm_objects.specs.Limits.{most_entries}
 use Rattle.swarm_objects.specs.Today.CanDo.{can_do}
+use Rattle.swarm_objects.specs.Today.Duties.{effect, is_due}
+use Rattle.swarm_objects.specs.World.{World, empty_world}
+use Rattle.swarm_objects.specs.declared.calls.Entry.{Entry}
+use Rattle.swarm_objects.specs.declared.calls.What.{What}
+use Rattle.swarm_objects.specs.declared.calls.What.TheVariants.{Call as Called, Duty as Done}
+use Rattle.swarm_objects.specs.declared.duties.Duty.{Duty}
+use Rattle.swarm_objects.specs.declared.replies.Reply.{Reply}
+use Rattle.swarm_objects.specs.declared.replies.Reply.TheVariants.{Did}
 
 -- a duty's reply, and the world after it
 abbrev pub duty_outcome : World → Duty → Outcome

@@ -2,16 +2,16 @@
 use Rattle.std.specs.Prelude.{ℕ, List, find, Option, [], false, None, ◌+◌, ◌∷◌, ◌++◌, nat_le, length, if◌then◌else◌, Some, Result, Ok, Err}
 use Rattle.std.specs.Option.{option_map}
 use Rattle.std.specs.Str.{bytes_eq}
+use Rattle.swarm_objects.specs.Limits.{most_services}
 use Rattle.swarm_objects.specs.Rows.{service_id}
-use Rattle.swarm_objects.specs.declared.services.Service.{Service}
-use Rattle.swarm_objects.specs.declared.services.Draft.{Draft}
-use Rattle.swarm_objects.specs.declared.services.ServiceSpec.{ServiceSpec}
 use Rattle.swarm_objects.specs.World.{World}
+use Rattle.swarm_objects.specs.declared.ids.Kind.TheVariants.{Service as ServiceKind}
 use Rattle.swarm_objects.specs.declared.replies.Refusal.{Refusal}
 use Rattle.swarm_objects.specs.declared.replies.Refusal.TheVariants.{BadSpec, NameTaken, TooMany}
-use Rattle.swarm_objects.specs.declared.ids.Kind.TheVariants.{Service as ServiceKind}
 use Rattle.swarm_objects.specs.declared.rules.SpecRule.{SpecRule}
-use Rattle.swarm_objects.specs.Limits.{most_services}
+use Rattle.swarm_objects.specs.declared.services.Draft.{Draft}
+use Rattle.swarm_objects.specs.declared.services.Service.{Service}
+use Rattle.swarm_objects.specs.declared.services.ServiceSpec.{ServiceSpec}
 
 -- the id of the service with this name
 abbrev pub service_named : List ℕ → List Service → Option ℕ

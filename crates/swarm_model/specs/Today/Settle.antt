@@ -1,12 +1,12 @@
 -- The settle test, over the duties that the program has today.
 use Rattle.std.specs.Prelude.{List, flat_map, Option, Some, None}
+use Rattle.swarm_objects.specs.Kinds.{roles}
+use Rattle.swarm_objects.specs.Rows.{first_of}
+use Rattle.swarm_objects.specs.Today.Duties.{duties}
 use Rattle.swarm_objects.specs.World.{Tables, World}
 use Rattle.swarm_objects.specs.declared.duties.Duty.{Duty}
-use Rattle.swarm_objects.specs.Today.Duties.{duties}
-use Rattle.swarm_objects.specs.Kinds.{roles}
 use Rattle.swarm_objects.specs.declared.duties.Settle.{Settle}
 use Rattle.swarm_objects.specs.declared.duties.Settle.TheVariants.{Busy, Settled}
-use Rattle.swarm_objects.specs.Rows.{first_of}
 
 -- all that there is to do, role after role
 abbrev pub all_duties : Tables → List Duty

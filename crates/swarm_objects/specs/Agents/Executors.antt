@@ -1,12 +1,12 @@
 -- The executors' steps, and the times of their phases.
 use Rattle.std.specs.Prelude.{Bool, false, true, nat_le, ◌||◌, nat_lt, if◌then◌else◌, ℕ, ◌==◌, Some, ◌+◌, None, Option, ◌&&◌}
-use Rattle.swarm_objects.specs.declared.tasks.TaskState.{TaskState}
 use Rattle.swarm_objects.specs.Values.Ranks.{desired_rank, rank}
 use Rattle.swarm_objects.specs.declared.agents.Executor.{Executor}
 use Rattle.swarm_objects.specs.declared.tasks.Desired.{Desired}
-use Rattle.swarm_objects.specs.declared.templates.End.{End}
-use Rattle.swarm_objects.specs.declared.tasks.TaskState.TheVariants as state
 use Rattle.swarm_objects.specs.declared.tasks.Desired.TheVariants as desired
+use Rattle.swarm_objects.specs.declared.tasks.TaskState.{TaskState}
+use Rattle.swarm_objects.specs.declared.tasks.TaskState.TheVariants as state
+use Rattle.swarm_objects.specs.declared.templates.End.{End}
 use Rattle.swarm_objects.specs.declared.templates.End.TheVariants as end
 
 -- the state's case that matters

@@ -1,19 +1,19 @@
 -- What a node is to have, what it is sent, and what its agent makes of that.
-use Rattle.swarm_objects.specs.declared.messages.NodeSent.{NodeSent}
 use Rattle.std.specs.Prelude.{Bool, nat_le, ℕ, ◌&&◌, List, filter, map, ◌==◌, [], if◌then◌else◌, ◌∷◌, not, ◌++◌, ◌+◌, flat_map, true, false, None, Option, Some, fold}
-use Rattle.swarm_objects.specs.Values.Ranks.{rank, desired_rank}
-use Rattle.swarm_objects.specs.Tasks.Words.{is_on}
-use Rattle.swarm_objects.specs.declared.messages.Assigned.{Assigned}
-use Rattle.swarm_objects.specs.declared.tasks.Task.{Task}
-use Rattle.swarm_objects.specs.Rows.{rising, has_row, sent_node, row_at, with_row, executor_task, change_row}
-use Rattle.swarm_objects.specs.World.{Tables, World}
-use Rattle.swarm_objects.specs.Same.{same_workload}
 use Rattle.std.specs.List.{list_any}
-use Rattle.swarm_objects.specs.declared.messages.AssignChange.{AssignChange}
-use Rattle.swarm_objects.specs.declared.messages.Message.{Message}
+use Rattle.swarm_objects.specs.Rows.{rising, has_row, sent_node, row_at, with_row, executor_task, change_row}
+use Rattle.swarm_objects.specs.Same.{same_workload}
+use Rattle.swarm_objects.specs.Tasks.Words.{is_on}
+use Rattle.swarm_objects.specs.Values.Ranks.{rank, desired_rank}
+use Rattle.swarm_objects.specs.World.{Tables, World}
 use Rattle.swarm_objects.specs.declared.agents.Executor.{Executor}
-use Rattle.swarm_objects.specs.declared.tasks.TaskState.TheVariants as state
+use Rattle.swarm_objects.specs.declared.messages.AssignChange.{AssignChange}
 use Rattle.swarm_objects.specs.declared.messages.AssignChange.TheVariants as assign
+use Rattle.swarm_objects.specs.declared.messages.Assigned.{Assigned}
+use Rattle.swarm_objects.specs.declared.messages.Message.{Message}
+use Rattle.swarm_objects.specs.declared.messages.NodeSent.{NodeSent}
+use Rattle.swarm_objects.specs.declared.tasks.Task.{Task}
+use Rattle.swarm_objects.specs.declared.tasks.TaskState.TheVariants as state
 
 -- The due set and the next message.
 

@@ -1,23 +1,23 @@
 -- The agents' duties, and what these do.
-use Rattle.swarm_objects.specs.declared.agents.NodeAgent.{NodeAgent}
 use Rattle.std.specs.Prelude.{Bool, false, true, nat_le, ◌+◌, None, Option, Some, nat_lt, not, ◌&&◌, is_some, ℕ, List, [], ◌∷◌, ◌++◌, if◌then◌else◌, flat_map, ◌*◌}
-use Rattle.swarm_objects.specs.declared.agents.AgentMode.{AgentMode}
-use Rattle.swarm_objects.specs.World.{Tables, World}
-use Rattle.swarm_objects.specs.declared.sessions.NodeSession.{NodeSession}
-use Rattle.swarm_objects.specs.Values.Ranks.{rank}
-use Rattle.swarm_objects.specs.declared.tasks.TaskState.{TaskState}
-use Rattle.swarm_objects.specs.Rows.{has_row, task_id, is_some_and, agent_node, change_row, sent_node, drop_row, session_node, on_row, executor_task, row_at}
-use Rattle.swarm_objects.specs.declared.agents.Executor.{Executor}
 use Rattle.swarm_objects.specs.Agents.Executors.{executor_step}
-use Rattle.swarm_objects.specs.Loops.Words.{when, duty_where}
-use Rattle.swarm_objects.specs.declared.duties.Duty.{Duty}
-use Rattle.swarm_objects.specs.Nodes.Sessions.{session_of, is_session_live, registered}
 use Rattle.swarm_objects.specs.Agents.Messages.{applied, message_for, with_sent, change_executor}
-use Rattle.swarm_objects.specs.declared.messages.Message.{Message}
 use Rattle.swarm_objects.specs.Changes.{with_tables, change_task, raised_to}
+use Rattle.swarm_objects.specs.Loops.Words.{when, duty_where}
+use Rattle.swarm_objects.specs.Nodes.Sessions.{session_of, is_session_live, registered}
+use Rattle.swarm_objects.specs.Rows.{has_row, task_id, is_some_and, agent_node, change_row, sent_node, drop_row, session_node, on_row, executor_task, row_at}
+use Rattle.swarm_objects.specs.Values.Ranks.{rank}
+use Rattle.swarm_objects.specs.World.{Tables, World}
+use Rattle.swarm_objects.specs.declared.agents.AgentMode.{AgentMode}
 use Rattle.swarm_objects.specs.declared.agents.AgentMode.TheVariants as agent_mode
-use Rattle.swarm_objects.specs.declared.tasks.TaskState.TheVariants as state
+use Rattle.swarm_objects.specs.declared.agents.Executor.{Executor}
+use Rattle.swarm_objects.specs.declared.agents.NodeAgent.{NodeAgent}
+use Rattle.swarm_objects.specs.declared.duties.Duty.{Duty}
 use Rattle.swarm_objects.specs.declared.duties.Duty.TheVariants as duty
+use Rattle.swarm_objects.specs.declared.messages.Message.{Message}
+use Rattle.swarm_objects.specs.declared.sessions.NodeSession.{NodeSession}
+use Rattle.swarm_objects.specs.declared.tasks.TaskState.{TaskState}
+use Rattle.swarm_objects.specs.declared.tasks.TaskState.TheVariants as state
 
 abbrev pub is_mode_on : AgentMode → Bool
 is_mode_on agent_mode.On = true

@@ -1,26 +1,25 @@
 -- The allocator's duties: numbers for open ports, addresses for tasks, and why there are none.
-use Rattle.swarm_objects.specs.Changes.{on_task}
 use Rattle.std.specs.Prelude.{Bool, is_some, List, not, ℕ, ◌&&◌, Option, find, None, Some, false, true, ◌==◌, flat_map, ◌++◌, [], ◌∷◌, map, option_to_list}
-use Rattle.swarm_objects.specs.Services.Ports.{free_port, unnumbered_ports, is_unnumbered}
-use Rattle.swarm_objects.specs.World.{Tables}
-use Rattle.swarm_objects.specs.Loops.Words.{duty_where}
-use Rattle.swarm_objects.specs.declared.duties.Duty.{Duty}
-use Rattle.swarm_objects.specs.declared.services.Service.{Service}
-use Rattle.swarm_objects.specs.declared.templates.Port.{Port}
-use Rattle.std.specs.List.{list_any, list_all}
-use Rattle.swarm_objects.specs.Tasks.Addresses.{free_address}
-use Rattle.swarm_objects.specs.Services.Words.{has_service, is_service_and}
-use Rattle.swarm_objects.specs.Tasks.Words.{is_new, is_wanted}
-use Rattle.swarm_objects.specs.declared.tasks.Task.{Task}
-use Rattle.swarm_objects.specs.declared.tasks.Note.{Note}
-use Rattle.swarm_objects.specs.Rows.{on_row, row_at, service_id, is_some_and}
 use Rattle.std.specs.Cmp.Lexicographic.{pointwise}
+use Rattle.std.specs.List.{list_any, list_all}
+use Rattle.swarm_objects.specs.Changes.{on_task, change_service, addressed, change_task, noted}
+use Rattle.swarm_objects.specs.Loops.Words.{duty_where}
+use Rattle.swarm_objects.specs.Rows.{on_row, row_at, service_id, is_some_and}
 use Rattle.swarm_objects.specs.Same.{same_bool, same_number}
-use Rattle.swarm_objects.specs.declared.tasks.Address.{Address}
-use Rattle.swarm_objects.specs.declared.services.PortNumber.{PortNumber}
-use Rattle.swarm_objects.specs.Changes.{change_service, addressed, change_task, noted}
+use Rattle.swarm_objects.specs.Services.Ports.{free_port, unnumbered_ports, is_unnumbered}
+use Rattle.swarm_objects.specs.Services.Words.{has_service, is_service_and}
+use Rattle.swarm_objects.specs.Tasks.Addresses.{free_address}
+use Rattle.swarm_objects.specs.Tasks.Words.{is_new, is_wanted}
+use Rattle.swarm_objects.specs.World.{Tables}
+use Rattle.swarm_objects.specs.declared.duties.Duty.{Duty}
 use Rattle.swarm_objects.specs.declared.duties.Duty.TheVariants as duty
+use Rattle.swarm_objects.specs.declared.services.PortNumber.{PortNumber}
+use Rattle.swarm_objects.specs.declared.services.Service.{Service}
+use Rattle.swarm_objects.specs.declared.tasks.Address.{Address}
+use Rattle.swarm_objects.specs.declared.tasks.Note.{Note}
 use Rattle.swarm_objects.specs.declared.tasks.Note.TheVariants as note
+use Rattle.swarm_objects.specs.declared.tasks.Task.{Task}
+use Rattle.swarm_objects.specs.declared.templates.Port.{Port}
 
 -- the protocol has a number that is free
 abbrev pub has_free_port : Tables → Bool → Bool

@@ -1,17 +1,17 @@
 -- The dispatcher's duties: sessions that end, and tasks of nodes that are down for long.
-use Rattle.swarm_objects.specs.declared.tasks.TaskState.TheVariants as state
-use Rattle.swarm_objects.specs.Changes.{change_node, change_task, in_state}
 use Rattle.std.specs.Prelude.{Bool, not, ◌&&◌, nat_le, ◌+◌, List, ◌++◌, ℕ}
-use Rattle.swarm_objects.specs.Nodes.Words.{is_ready, is_down, is_node_and}
-use Rattle.swarm_objects.specs.Nodes.Sessions.{is_session_live}
-use Rattle.swarm_objects.specs.World.{Tables}
-use Rattle.swarm_objects.specs.declared.nodes.Node.{Node}
-use Rattle.swarm_objects.specs.Tasks.Words.{is_placed}
-use Rattle.swarm_objects.specs.declared.tasks.Task.{Task}
+use Rattle.swarm_objects.specs.Changes.{change_node, change_task, in_state}
 use Rattle.swarm_objects.specs.Loops.Words.{duty_where}
+use Rattle.swarm_objects.specs.Nodes.Sessions.{is_session_live}
+use Rattle.swarm_objects.specs.Nodes.Words.{is_ready, is_down, is_node_and}
+use Rattle.swarm_objects.specs.Tasks.Words.{is_placed}
+use Rattle.swarm_objects.specs.World.{Tables}
 use Rattle.swarm_objects.specs.declared.duties.Duty.{Duty}
 use Rattle.swarm_objects.specs.declared.duties.Duty.TheVariants as duty
+use Rattle.swarm_objects.specs.declared.nodes.Node.{Node}
 use Rattle.swarm_objects.specs.declared.nodes.NodeState.TheVariants as node_state
+use Rattle.swarm_objects.specs.declared.tasks.Task.{Task}
+use Rattle.swarm_objects.specs.declared.tasks.TaskState.TheVariants as state
 
 abbrev pub is_expired : Tables → Node → Bool
 is_expired t n = is_ready n.state && not (is_session_live t n.id)

@@ -1,15 +1,15 @@
 -- The enforcer's duties: tasks on nodes that don't meet their constraints any more.
-use Rattle.swarm_objects.specs.declared.tasks.TaskState.TheVariants as state
-use Rattle.swarm_objects.specs.Changes.{change_task, in_state}
 use Rattle.std.specs.Prelude.{ℕ, Bool, not, ◌&&◌, List}
+use Rattle.swarm_objects.specs.Changes.{change_task, in_state}
+use Rattle.swarm_objects.specs.Loops.Words.{duty_where}
 use Rattle.swarm_objects.specs.Nodes.Words.{meets_all, is_node_and}
-use Rattle.swarm_objects.specs.declared.nodes.Node.{Node}
-use Rattle.swarm_objects.specs.declared.tasks.Task.{Task}
 use Rattle.swarm_objects.specs.Tasks.Words.{is_live, is_placed}
 use Rattle.swarm_objects.specs.World.{Tables}
-use Rattle.swarm_objects.specs.Loops.Words.{duty_where}
 use Rattle.swarm_objects.specs.declared.duties.Duty.{Duty}
 use Rattle.swarm_objects.specs.declared.duties.Duty.TheVariants as duty
+use Rattle.swarm_objects.specs.declared.nodes.Node.{Node}
+use Rattle.swarm_objects.specs.declared.tasks.Task.{Task}
+use Rattle.swarm_objects.specs.declared.tasks.TaskState.TheVariants as state
 
 abbrev pub breaks_constraints : Task → Node → Bool
 breaks_constraints x n = not (meets_all x.template.constraints n)

@@ -1,18 +1,18 @@
 -- The duties on global services.
-use Rattle.swarm_objects.specs.declared.tasks.Desired.TheVariants as desired
-use Rattle.swarm_objects.specs.Changes.{on_service, with_new, without_place}
 use Rattle.std.specs.Prelude.{Bool, ◌&&◌, not, ℕ, List, [], filter, map, flat_map, ◌++◌}
+use Rattle.swarm_objects.specs.Changes.{on_service, with_new, without_place}
+use Rattle.swarm_objects.specs.Loops.Words.{duty_where}
 use Rattle.swarm_objects.specs.Nodes.Words.{meets_all, is_active, is_ready, is_valid_node}
-use Rattle.swarm_objects.specs.declared.nodes.Node.{Node}
-use Rattle.swarm_objects.specs.declared.services.Service.{Service}
-use Rattle.swarm_objects.specs.Tasks.Places.{is_held_place, place_numbers}
 use Rattle.swarm_objects.specs.Rows.{is_row_and, node_id}
+use Rattle.swarm_objects.specs.Tasks.Places.{is_held_place, place_numbers}
 use Rattle.swarm_objects.specs.World.{Tables}
 use Rattle.swarm_objects.specs.declared.duties.Duty.{Duty}
-use Rattle.swarm_objects.specs.declared.services.Mode.{Mode}
-use Rattle.swarm_objects.specs.Loops.Words.{duty_where}
 use Rattle.swarm_objects.specs.declared.duties.Duty.TheVariants as duty
+use Rattle.swarm_objects.specs.declared.nodes.Node.{Node}
+use Rattle.swarm_objects.specs.declared.services.Mode.{Mode}
 use Rattle.swarm_objects.specs.declared.services.Mode.TheVariants as mode
+use Rattle.swarm_objects.specs.declared.services.Service.{Service}
+use Rattle.swarm_objects.specs.declared.tasks.Desired.TheVariants as desired
 
 -- the node is READY and ACTIVE, and meets the constraints of the service's template
 abbrev pub wants_here : Service → Node → Bool

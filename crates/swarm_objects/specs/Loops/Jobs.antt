@@ -1,20 +1,20 @@
 -- The duties on jobs.
-use Rattle.swarm_objects.specs.declared.tasks.Desired.TheVariants as desired
-use Rattle.swarm_objects.specs.Changes.{change_task, on_service, wanted, with_new}
 use Rattle.std.specs.Prelude.{ℕ, Bool, nat_lt, ◌&&◌, List, [], length, not, flat_map, ◌++◌}
-use Rattle.swarm_objects.specs.Tasks.Words.{is_kept, is_of}
-use Rattle.swarm_objects.specs.Services.Words.{is_job, is_service_and}
-use Rattle.swarm_objects.specs.declared.services.Service.{Service}
-use Rattle.swarm_objects.specs.declared.tasks.Task.{Task}
-use Rattle.swarm_objects.specs.World.{Tables}
 use Rattle.std.specs.List.{list_any}
-use Rattle.swarm_objects.specs.Tasks.Places.{held_places, live_places}
+use Rattle.swarm_objects.specs.Changes.{change_task, on_service, wanted, with_new}
 use Rattle.swarm_objects.specs.Loops.Words.{when, duty_where}
 use Rattle.swarm_objects.specs.Rows.{first_gap}
+use Rattle.swarm_objects.specs.Services.Words.{is_job, is_service_and}
+use Rattle.swarm_objects.specs.Tasks.Places.{held_places, live_places}
+use Rattle.swarm_objects.specs.Tasks.Words.{is_kept, is_of}
+use Rattle.swarm_objects.specs.World.{Tables}
 use Rattle.swarm_objects.specs.declared.duties.Duty.{Duty}
-use Rattle.swarm_objects.specs.declared.services.Mode.{Mode}
 use Rattle.swarm_objects.specs.declared.duties.Duty.TheVariants as duty
+use Rattle.swarm_objects.specs.declared.services.Mode.{Mode}
 use Rattle.swarm_objects.specs.declared.services.Mode.TheVariants as mode
+use Rattle.swarm_objects.specs.declared.services.Service.{Service}
+use Rattle.swarm_objects.specs.declared.tasks.Desired.TheVariants as desired
+use Rattle.swarm_objects.specs.declared.tasks.Task.{Task}
 
 -- a job's task of an earlier iteration that isn't to be removed
 abbrev pub is_old_of : Task → Service → Bool

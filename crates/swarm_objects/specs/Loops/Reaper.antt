@@ -1,18 +1,18 @@
 -- The reaper's duties: tasks that are removed, and old ended ones.
 use Rattle.std.specs.Prelude.{Bool, not, ◌&&◌, ◌||◌, ◌==◌, List, count_by, find, nat_lt, ℕ, ◌++◌}
-use Rattle.swarm_objects.specs.Tasks.Words.{has_ended, is_below_assigned, is_kept, is_task}
-use Rattle.swarm_objects.specs.declared.tasks.Task.{Task}
-use Rattle.swarm_objects.specs.Values.Ranks.{desired_rank}
-use Rattle.swarm_objects.specs.Tasks.Places.{newest, tasks_of_place}
+use Rattle.swarm_objects.specs.Loops.Words.{duty_where}
 use Rattle.swarm_objects.specs.Rows.{is_some_and, drop_row, task_id}
 use Rattle.swarm_objects.specs.Services.Runs.{has_open_run}
-use Rattle.swarm_objects.specs.World.{Tables}
-use Rattle.swarm_objects.specs.declared.services.Service.{Service}
 use Rattle.swarm_objects.specs.Services.Words.{is_service_and}
-use Rattle.swarm_objects.specs.Loops.Words.{duty_where}
+use Rattle.swarm_objects.specs.Tasks.Places.{newest, tasks_of_place}
+use Rattle.swarm_objects.specs.Tasks.Words.{has_ended, is_below_assigned, is_kept, is_task}
+use Rattle.swarm_objects.specs.Values.Ranks.{desired_rank}
+use Rattle.swarm_objects.specs.World.{Tables}
 use Rattle.swarm_objects.specs.declared.duties.Duty.{Duty}
-use Rattle.swarm_objects.specs.declared.tasks.Desired.TheVariants as desired
 use Rattle.swarm_objects.specs.declared.duties.Duty.TheVariants as duty
+use Rattle.swarm_objects.specs.declared.services.Service.{Service}
+use Rattle.swarm_objects.specs.declared.tasks.Desired.TheVariants as desired
+use Rattle.swarm_objects.specs.declared.tasks.Task.{Task}
 
 -- it is to be removed, and nothing of it runs
 abbrev pub is_removable : Task → Bool

@@ -1,24 +1,24 @@
 -- The duties on replicated services, and on tasks whose service is gone.
-use Rattle.swarm_objects.specs.declared.tasks.Desired.TheVariants as desired
-use Rattle.swarm_objects.specs.Changes.{change_task, on_service, wanted, with_new, without_place}
 use Rattle.std.specs.Prelude.{Bool, not, ◌&&◌, ℕ, None, Option, Some, count_by, filter, fold, map, max, List, [], if◌then◌else◌, length, nat_lt, option_to_list, flat_map, ◌++◌}
-use Rattle.swarm_objects.specs.Services.Words.{has_service}
-use Rattle.swarm_objects.specs.Tasks.Words.{is_kept, is_running, is_live, is_of, is_on}
-use Rattle.swarm_objects.specs.World.{Tables}
-use Rattle.swarm_objects.specs.declared.tasks.Task.{Task}
 use Rattle.std.specs.List.{list_any}
-use Rattle.swarm_objects.specs.Tasks.Places.{place_tasks, held_places}
-use Rattle.swarm_objects.specs.declared.services.Service.{Service}
+use Rattle.std.specs.Option.{option_map}
 use Rattle.std.specs.Ordering.{nat_cmp, ordering_then}
 use Rattle.std.specs.declared.cmp.Ordering.{Ordering}
+use Rattle.swarm_objects.specs.Changes.{change_task, on_service, wanted, with_new, without_place}
 use Rattle.swarm_objects.specs.Kinds.{bit}
-use Rattle.swarm_objects.specs.Rows.{least_by, first_gap}
-use Rattle.std.specs.Option.{option_map}
-use Rattle.swarm_objects.specs.declared.duties.Duty.{Duty}
-use Rattle.swarm_objects.specs.declared.services.Mode.{Mode}
 use Rattle.swarm_objects.specs.Loops.Words.{when, duty_where}
+use Rattle.swarm_objects.specs.Rows.{least_by, first_gap}
+use Rattle.swarm_objects.specs.Services.Words.{has_service}
+use Rattle.swarm_objects.specs.Tasks.Places.{place_tasks, held_places}
+use Rattle.swarm_objects.specs.Tasks.Words.{is_kept, is_running, is_live, is_of, is_on}
+use Rattle.swarm_objects.specs.World.{Tables}
+use Rattle.swarm_objects.specs.declared.duties.Duty.{Duty}
 use Rattle.swarm_objects.specs.declared.duties.Duty.TheVariants as duty
+use Rattle.swarm_objects.specs.declared.services.Mode.{Mode}
 use Rattle.swarm_objects.specs.declared.services.Mode.TheVariants as mode
+use Rattle.swarm_objects.specs.declared.services.Service.{Service}
+use Rattle.swarm_objects.specs.declared.tasks.Desired.TheVariants as desired
+use Rattle.swarm_objects.specs.declared.tasks.Task.{Task}
 
 abbrev pub is_gone : Tables → Task → Bool
 is_gone t x = not (has_service t x) && is_kept x

@@ -1,25 +1,25 @@
 -- The duties on tasks that ended, and on tasks that wait to be raised.
 use Rattle.std.specs.Prelude.{Bool, ◌&&◌, ◌||◌, not, ◌==◌, nat_le, List, ◌++◌, ◌+◌, ℕ, Some, [], ◌∷◌, None, Option, if◌then◌else◌}
-use Rattle.swarm_objects.specs.Services.Words.{is_service_and}
-use Rattle.swarm_objects.specs.Tasks.Places.{counts_for, newest, tasks_of_place, has_other}
-use Rattle.swarm_objects.specs.World.{Tables}
-use Rattle.swarm_objects.specs.declared.tasks.Task.{Task}
-use Rattle.swarm_objects.specs.Tasks.Words.{has_ended, is_live, is_below_assigned, is_unwanted, is_beside, is_to_wait}
-use Rattle.swarm_objects.specs.Nodes.Words.{is_astray, is_homed}
-use Rattle.swarm_objects.specs.declared.tasks.Place.{Place}
-use Rattle.swarm_objects.specs.declared.tasks.Place.TheVariants.{On, Slot}
 use Rattle.std.specs.List.{list_any}
-use Rattle.swarm_objects.specs.Loops.Words.{duty_where}
-use Rattle.swarm_objects.specs.declared.duties.Duty.{Duty}
-use Rattle.swarm_objects.specs.declared.tasks.Closed.{Closed}
 use Rattle.swarm_objects.specs.Changes.{wanted, change_task, on_service, on_task}
+use Rattle.swarm_objects.specs.Loops.Words.{duty_where}
+use Rattle.swarm_objects.specs.Nodes.Words.{is_astray, is_homed}
+use Rattle.swarm_objects.specs.Rows.{on_row}
+use Rattle.swarm_objects.specs.Services.Words.{is_service_and}
+use Rattle.swarm_objects.specs.Tasks.New.{new_task, with_task}
+use Rattle.swarm_objects.specs.Tasks.Places.{counts_for, newest, tasks_of_place, has_other}
+use Rattle.swarm_objects.specs.Tasks.Policy.{no_restart}
+use Rattle.swarm_objects.specs.Tasks.Words.{has_ended, is_live, is_below_assigned, is_unwanted, is_beside, is_to_wait}
+use Rattle.swarm_objects.specs.World.{Tables}
+use Rattle.swarm_objects.specs.declared.duties.Duty.{Duty}
+use Rattle.swarm_objects.specs.declared.duties.Duty.TheVariants as duty
 use Rattle.swarm_objects.specs.declared.services.Service.{Service}
 use Rattle.swarm_objects.specs.declared.tasks.Attempt.{Attempt}
-use Rattle.swarm_objects.specs.Tasks.New.{new_task, with_task}
-use Rattle.swarm_objects.specs.Rows.{on_row}
-use Rattle.swarm_objects.specs.Tasks.Policy.{no_restart}
-use Rattle.swarm_objects.specs.declared.duties.Duty.TheVariants as duty
+use Rattle.swarm_objects.specs.declared.tasks.Closed.{Closed}
 use Rattle.swarm_objects.specs.declared.tasks.Desired.TheVariants as desired
+use Rattle.swarm_objects.specs.declared.tasks.Place.{Place}
+use Rattle.swarm_objects.specs.declared.tasks.Place.TheVariants.{On, Slot}
+use Rattle.swarm_objects.specs.declared.tasks.Task.{Task}
 
 -- its service is there, and for a job the task is of its iteration
 abbrev pub is_current : Tables → Task → Bool

@@ -1,19 +1,18 @@
 -- The scheduler's duties.
-use Rattle.swarm_objects.specs.declared.tasks.TaskState.TheVariants as state
-use Rattle.swarm_objects.specs.Changes.{change_task, in_state, placed}
 use Rattle.std.specs.Prelude.{List, None, Option, Some, [], if◌then◌else◌, ◌∷◌, Bool, ◌&&◌, false, true, ◌++◌, flat_map, ℕ}
+use Rattle.swarm_objects.specs.Changes.{change_task, in_state, placed, noted}
 use Rattle.swarm_objects.specs.Loops.Allocator.{same_note}
+use Rattle.swarm_objects.specs.Loops.Words.{when}
+use Rattle.swarm_objects.specs.Nodes.BestNode.{best_node}
 use Rattle.swarm_objects.specs.Nodes.Filters.{refusal_counts}
+use Rattle.swarm_objects.specs.Tasks.Words.{is_below_assigned, is_unwanted, is_pending, is_wanted}
 use Rattle.swarm_objects.specs.World.{Tables}
 use Rattle.swarm_objects.specs.declared.duties.Duty.{Duty}
-use Rattle.swarm_objects.specs.declared.nodes.Node.{Node}
-use Rattle.swarm_objects.specs.declared.tasks.Task.{Task}
-use Rattle.swarm_objects.specs.Tasks.Words.{is_below_assigned, is_unwanted, is_pending, is_wanted}
-use Rattle.swarm_objects.specs.Nodes.BestNode.{best_node}
-use Rattle.swarm_objects.specs.Loops.Words.{when}
-use Rattle.swarm_objects.specs.Changes.{noted}
 use Rattle.swarm_objects.specs.declared.duties.Duty.TheVariants as duty
+use Rattle.swarm_objects.specs.declared.nodes.Node.{Node}
 use Rattle.swarm_objects.specs.declared.tasks.Note.TheVariants as note
+use Rattle.swarm_objects.specs.declared.tasks.Task.{Task}
+use Rattle.swarm_objects.specs.declared.tasks.TaskState.TheVariants as state
 
 -- the task goes to the best node; where no node admits it, its note says why
 abbrev pub placing : Tables → Task → Option Node → List Duty

@@ -1,36 +1,35 @@
 -- Rolling updates: their words, their duties, and what these do.
-use Rattle.swarm_objects.specs.Changes.{on_service}
 use Rattle.std.specs.Prelude.{Bool, not, ◌&&◌, ℕ, nat_le, ◌+◌, List, ◌++◌, None, Option, Some, [], if◌then◌else◌, flat_map, length, false, true, ◌∷◌}
-use Rattle.swarm_objects.specs.Tasks.Places.{has_dirty_place, place_tasks, has_clean, is_dirty_place, place_numbers, dirty_places, place_at, is_in_place}
-use Rattle.swarm_objects.specs.Rows.{is_some_and}
-use Rattle.swarm_objects.specs.World.{Tables}
-use Rattle.swarm_objects.specs.declared.services.Service.{Service}
-use Rattle.swarm_objects.specs.Services.Runs.{is_of_version, has_room, fails, is_under_way}
 use Rattle.std.specs.List.{list_any, list_all}
-use Rattle.swarm_objects.specs.Services.Words.{is_live_clean, is_live_dirty}
-use Rattle.swarm_objects.specs.Tasks.Words.{is_running, is_live}
-use Rattle.swarm_objects.specs.declared.services.UpdateRun.{UpdateRun}
-use Rattle.swarm_objects.specs.declared.services.Replaced.{Replaced}
-use Rattle.swarm_objects.specs.Loops.Words.{when, places_where}
-use Rattle.swarm_objects.specs.declared.duties.Duty.{Duty}
-use Rattle.swarm_objects.specs.declared.services.Mode.{Mode}
-use Rattle.swarm_objects.specs.declared.services.RunStatus.{RunStatus}
-use Rattle.swarm_objects.specs.Changes.{change_service, change_where, wanted, with_new}
 use Rattle.std.specs.Option.{option_map}
-use Rattle.swarm_objects.specs.declared.services.FailureAction.{FailureAction}
-use Rattle.swarm_objects.specs.Services.Ports.{kept_numbers}
-use Rattle.swarm_objects.specs.declared.services.ServiceSpec.{ServiceSpec}
+use Rattle.swarm_objects.specs.Changes.{on_service, change_service, change_where, wanted, with_new}
+use Rattle.swarm_objects.specs.Loops.Words.{when, places_where}
+use Rattle.swarm_objects.specs.Rows.{is_some_and}
 use Rattle.swarm_objects.specs.Same.{same_place}
+use Rattle.swarm_objects.specs.Services.Ports.{kept_numbers}
+use Rattle.swarm_objects.specs.Services.Runs.{is_of_version, has_room, fails, is_under_way}
+use Rattle.swarm_objects.specs.Services.Words.{is_live_clean, is_live_dirty}
+use Rattle.swarm_objects.specs.Tasks.New.{goal_of}
+use Rattle.swarm_objects.specs.Tasks.Places.{has_dirty_place, place_tasks, has_clean, is_dirty_place, place_numbers, dirty_places, place_at, is_in_place}
+use Rattle.swarm_objects.specs.Tasks.Words.{is_running, is_live}
+use Rattle.swarm_objects.specs.World.{Tables}
+use Rattle.swarm_objects.specs.declared.duties.Duty.{Duty}
+use Rattle.swarm_objects.specs.declared.duties.Duty.TheVariants as duty
+use Rattle.swarm_objects.specs.declared.services.FailureAction.{FailureAction}
+use Rattle.swarm_objects.specs.declared.services.FailureAction.TheVariants as action
+use Rattle.swarm_objects.specs.declared.services.Mode.{Mode}
+use Rattle.swarm_objects.specs.declared.services.Mode.TheVariants as mode
+use Rattle.swarm_objects.specs.declared.services.Replaced.{Replaced}
+use Rattle.swarm_objects.specs.declared.services.RunStatus.{RunStatus}
+use Rattle.swarm_objects.specs.declared.services.RunStatus.TheVariants as status
+use Rattle.swarm_objects.specs.declared.services.Service.{Service}
+use Rattle.swarm_objects.specs.declared.services.ServiceSpec.{ServiceSpec}
+use Rattle.swarm_objects.specs.declared.services.UpdateOrder.{UpdateOrder}
+use Rattle.swarm_objects.specs.declared.services.UpdateOrder.TheVariants as order
+use Rattle.swarm_objects.specs.declared.services.UpdateRun.{UpdateRun}
+use Rattle.swarm_objects.specs.declared.tasks.Desired.TheVariants as desired
 use Rattle.swarm_objects.specs.declared.tasks.Place.{Place}
 use Rattle.swarm_objects.specs.declared.tasks.Task.{Task}
-use Rattle.swarm_objects.specs.Tasks.New.{goal_of}
-use Rattle.swarm_objects.specs.declared.services.UpdateOrder.{UpdateOrder}
-use Rattle.swarm_objects.specs.declared.duties.Duty.TheVariants as duty
-use Rattle.swarm_objects.specs.declared.services.Mode.TheVariants as mode
-use Rattle.swarm_objects.specs.declared.services.RunStatus.TheVariants as status
-use Rattle.swarm_objects.specs.declared.services.FailureAction.TheVariants as action
-use Rattle.swarm_objects.specs.declared.tasks.Desired.TheVariants as desired
-use Rattle.swarm_objects.specs.declared.services.UpdateOrder.TheVariants as order
 
 -- Duties of a service that is no job.
 

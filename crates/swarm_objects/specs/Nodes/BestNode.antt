@@ -1,20 +1,20 @@
 -- The best node for a task.
-use Rattle.std.specs.List.{list_all}
 use Rattle.std.specs.Prelude.{Bool, List, filter, sum_by, ℕ, [], ◌++◌, ◌∷◌, count_by, ◌&&◌, None, Option}
-use Rattle.std.specs.Str.{bytes_eq}
-use Rattle.swarm_objects.specs.Nodes.Constraints.{key_value}
-use Rattle.swarm_objects.specs.declared.nodes.Node.{Node}
-use Rattle.swarm_objects.specs.declared.templates.Key.{Key}
-use Rattle.swarm_objects.specs.Nodes.Filters.{here, admitting_nodes}
-use Rattle.swarm_objects.specs.World.{Tables}
 use Rattle.std.specs.Cmp.Lexicographic.{slice_cmp}
+use Rattle.std.specs.List.{list_all}
 use Rattle.std.specs.Ordering.{nat_cmp, ordering_then}
+use Rattle.std.specs.Str.{bytes_eq}
 use Rattle.std.specs.declared.cmp.Ordering.{Ordering}
 use Rattle.std.specs.declared.cmp.Ordering.TheVariants.{Equal}
+use Rattle.swarm_objects.specs.Nodes.Constraints.{key_value}
+use Rattle.swarm_objects.specs.Nodes.Filters.{here, admitting_nodes}
 use Rattle.swarm_objects.specs.Nodes.Holdings.{is_placed_on}
-use Rattle.swarm_objects.specs.Tasks.Words.{is_live}
-use Rattle.swarm_objects.specs.declared.tasks.Task.{Task}
 use Rattle.swarm_objects.specs.Rows.{least_by}
+use Rattle.swarm_objects.specs.Tasks.Words.{is_live}
+use Rattle.swarm_objects.specs.World.{Tables}
+use Rattle.swarm_objects.specs.declared.nodes.Node.{Node}
+use Rattle.swarm_objects.specs.declared.tasks.Task.{Task}
+use Rattle.swarm_objects.specs.declared.templates.Key.{Key}
 
 -- the node agrees with the other on the values of these keys
 abbrev pub agrees : List Key → Node → Node → Bool

@@ -1,11 +1,11 @@
 -- Which nodes a constraint admits.
 use Rattle.std.specs.Prelude.{ℕ, List, [], ◌∷◌, if◌then◌else◌, decimal, Bool}
 use Rattle.std.specs.Str.{bytes_eq, str_eq_ignore_ascii_case}
+use Rattle.swarm_objects.specs.Same.{same_bool}
 use Rattle.swarm_objects.specs.Values.Texts.{role_text}
 use Rattle.swarm_objects.specs.declared.nodes.Node.{Node}
-use Rattle.swarm_objects.specs.declared.templates.Key.{Key}
-use Rattle.swarm_objects.specs.Same.{same_bool}
 use Rattle.swarm_objects.specs.declared.templates.Constraint.{Constraint}
+use Rattle.swarm_objects.specs.declared.templates.Key.{Key}
 use Rattle.swarm_objects.specs.declared.templates.Key.TheVariants as key
 
 -- the value of the first label with this key; a missing one is empty

@@ -1,19 +1,19 @@
 -- Which nodes admit a task, and which filter refuses it the others.
 use Rattle.std.specs.Prelude.{Bool, true, ℕ, ◌==◌, ◌&&◌, nat_le, ◌+◌, List, [], ◌∷◌, not, count_by, nat_lt, ◌||◌, filter, if◌then◌else◌, Option, find, Some, map, is_none}
-use Rattle.swarm_objects.specs.declared.tasks.Place.{Place}
-use Rattle.swarm_objects.specs.declared.tasks.Place.TheVariants.{On, Slot}
-use Rattle.swarm_objects.specs.Nodes.Words.{is_active, is_ready, meets_all}
+use Rattle.std.specs.List.{list_any}
+use Rattle.std.specs.Option.{option_eq}
+use Rattle.std.specs.Str.{bytes_eq}
+use Rattle.swarm_objects.specs.Nodes.Holdings.{reserved_cpu, reserved_mem, is_host_port_used, tasks_placed_on, is_placed_on}
 use Rattle.swarm_objects.specs.Nodes.Sessions.{is_session_live}
+use Rattle.swarm_objects.specs.Nodes.Words.{is_active, is_ready, meets_all}
+use Rattle.swarm_objects.specs.Same.{same_number}
+use Rattle.swarm_objects.specs.Tasks.Words.{is_live, is_of}
 use Rattle.swarm_objects.specs.World.{Tables}
 use Rattle.swarm_objects.specs.declared.nodes.Node.{Node}
-use Rattle.swarm_objects.specs.Nodes.Holdings.{reserved_cpu, reserved_mem, is_host_port_used, tasks_placed_on, is_placed_on}
+use Rattle.swarm_objects.specs.declared.tasks.Place.{Place}
+use Rattle.swarm_objects.specs.declared.tasks.Place.TheVariants.{On, Slot}
 use Rattle.swarm_objects.specs.declared.tasks.Task.{Task}
-use Rattle.std.specs.Str.{bytes_eq}
 use Rattle.swarm_objects.specs.declared.templates.Platform.{Platform}
-use Rattle.std.specs.List.{list_any}
-use Rattle.swarm_objects.specs.Tasks.Words.{is_live, is_of}
-use Rattle.std.specs.Option.{option_eq}
-use Rattle.swarm_objects.specs.Same.{same_number}
 
 -- a task whose place is a node is tested on that node alone
 abbrev pub is_tested_on : Place → ℕ → Bool

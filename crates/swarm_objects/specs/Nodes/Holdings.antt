@@ -1,10 +1,10 @@
 -- What tasks hold of their node: resources and host ports.
 use Rattle.std.specs.Prelude.{Bool, ℕ, ◌&&◌, List, filter, sum_by}
-use Rattle.swarm_objects.specs.Tasks.Words.{is_on, is_placed}
-use Rattle.swarm_objects.specs.declared.tasks.Task.{Task}
-use Rattle.swarm_objects.specs.World.{Tables}
 use Rattle.std.specs.List.{list_any}
 use Rattle.swarm_objects.specs.Rules.Services.{is_host_clash}
+use Rattle.swarm_objects.specs.Tasks.Words.{is_on, is_placed}
+use Rattle.swarm_objects.specs.World.{Tables}
+use Rattle.swarm_objects.specs.declared.tasks.Task.{Task}
 use Rattle.swarm_objects.specs.declared.templates.Port.{Port}
 
 -- Resources.

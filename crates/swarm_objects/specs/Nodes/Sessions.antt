@@ -1,10 +1,10 @@
 -- Sessions of nodes.
 use Rattle.std.specs.Prelude.{ℕ, Bool, false, nat_lt, Option, Some, None, ◌+◌, ◌*◌}
-use Rattle.swarm_objects.specs.declared.sessions.NodeSession.{NodeSession}
 use Rattle.swarm_objects.specs.Rows.{row_at, session_node, change_row, with_row, node_id}
 use Rattle.swarm_objects.specs.World.{Tables}
 use Rattle.swarm_objects.specs.declared.nodes.Node.{Node}
 use Rattle.swarm_objects.specs.declared.nodes.NodeState.TheVariants as node_state
+use Rattle.swarm_objects.specs.declared.sessions.NodeSession.{NodeSession}
 
 abbrev pub is_before_deadline : ℕ → Option NodeSession → Bool
 is_before_deadline clock None = false

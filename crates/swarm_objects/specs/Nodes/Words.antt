@@ -1,16 +1,16 @@
 -- Words on a node.
 use Rattle.std.specs.Prelude.{Bool, true, false, not, ◌&&◌, ℕ, List}
-use Rattle.swarm_objects.specs.declared.nodes.NodeState.{NodeState}
-use Rattle.swarm_objects.specs.declared.nodes.Availability.{Availability}
-use Rattle.swarm_objects.specs.declared.nodes.Node.{Node}
-use Rattle.swarm_objects.specs.Rows.{node_id, is_row_and, is_some_and}
-use Rattle.swarm_objects.specs.World.{Tables}
-use Rattle.swarm_objects.specs.declared.tasks.Task.{Task}
 use Rattle.std.specs.List.{list_all}
 use Rattle.swarm_objects.specs.Nodes.Constraints.{meets}
-use Rattle.swarm_objects.specs.declared.templates.Constraint.{Constraint}
-use Rattle.swarm_objects.specs.declared.nodes.NodeState.TheVariants as node_state
+use Rattle.swarm_objects.specs.Rows.{node_id, is_row_and, is_some_and}
+use Rattle.swarm_objects.specs.World.{Tables}
+use Rattle.swarm_objects.specs.declared.nodes.Availability.{Availability}
 use Rattle.swarm_objects.specs.declared.nodes.Availability.TheVariants as availability
+use Rattle.swarm_objects.specs.declared.nodes.Node.{Node}
+use Rattle.swarm_objects.specs.declared.nodes.NodeState.{NodeState}
+use Rattle.swarm_objects.specs.declared.nodes.NodeState.TheVariants as node_state
+use Rattle.swarm_objects.specs.declared.tasks.Task.{Task}
+use Rattle.swarm_objects.specs.declared.templates.Constraint.{Constraint}
 
 abbrev pub is_ready : NodeState → Bool
 is_ready node_state.Ready = true

@@ -1,7 +1,7 @@
 -- The rule of networks.
 use Rattle.std.specs.Prelude.{ℕ, Bool, not, ◌==◌, ◌-◌, ◌^◌, ◌%◌, false, ◌||◌, List, [], ◌∷◌}
-use Rattle.swarm_objects.specs.declared.rules.SpecRule.{SpecRule}
 use Rattle.swarm_objects.specs.Limits.{is_outside}
+use Rattle.swarm_objects.specs.declared.rules.SpecRule.{SpecRule}
 use Rattle.swarm_objects.specs.declared.rules.SpecRule.TheVariants as rule
 
 -- the address has a bit below its first so many

@@ -1,9 +1,9 @@
 -- The rules of nodes and of the resources that one opens a session with, in the order in which they are tested.
 use Rattle.std.specs.Prelude.{ℕ, Bool, false, ◌||◌, nat_lt, List, [], ◌∷◌, length}
-use Rattle.swarm_objects.specs.declared.rules.SpecRule.{SpecRule}
 use Rattle.swarm_objects.specs.Limits.{most_cpu, most_mem}
-use Rattle.swarm_objects.specs.declared.nodes.Node.{Node}
 use Rattle.swarm_objects.specs.Rules.Services.{is_too_many}
+use Rattle.swarm_objects.specs.declared.nodes.Node.{Node}
+use Rattle.swarm_objects.specs.declared.rules.SpecRule.{SpecRule}
 use Rattle.swarm_objects.specs.declared.rules.SpecRule.TheVariants as rule
 
 -- these resources of a node break this rule

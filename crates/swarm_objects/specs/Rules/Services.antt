@@ -1,22 +1,22 @@
 -- The rules of services, in the order in which they are tested.
 use Rattle.std.specs.Prelude.{Bool, false, ◌||◌, List, [], ◌∷◌, nat_lt, ◌==◌, ℕ, length, Option, Some, None, ◌&&◌, true, not, ◌++◌, find}
 use Rattle.std.specs.List.{list_any}
-use Rattle.swarm_objects.specs.declared.services.Mode.{Mode}
-use Rattle.swarm_objects.specs.Limits.{most_replicas, longest_time, most_cpu, most_mem, most_items, most_ratio}
-use Rattle.swarm_objects.specs.declared.templates.End.{End}
-use Rattle.swarm_objects.specs.declared.templates.Workload.{Workload}
-use Rattle.swarm_objects.specs.declared.services.ServiceSpec.{ServiceSpec}
-use Rattle.swarm_objects.specs.declared.templates.Template.{Template}
-use Rattle.swarm_objects.specs.declared.services.Draft.{Draft}
 use Rattle.std.specs.Str.{bytes_eq}
-use Rattle.swarm_objects.specs.declared.templates.Port.{Port}
+use Rattle.swarm_objects.specs.Limits.{most_replicas, longest_time, most_cpu, most_mem, most_items, most_ratio}
 use Rattle.swarm_objects.specs.Same.{same_bool}
-use Rattle.swarm_objects.specs.declared.templates.Key.{Key}
 use Rattle.swarm_objects.specs.declared.rules.SpecRule.{SpecRule}
 use Rattle.swarm_objects.specs.declared.rules.SpecRule.TheVariants.{Replicas, Concurrent, Time, Reservation, Count, Ports, Spread, Ratio}
+use Rattle.swarm_objects.specs.declared.services.Draft.{Draft}
+use Rattle.swarm_objects.specs.declared.services.Mode.{Mode}
 use Rattle.swarm_objects.specs.declared.services.Mode.TheVariants as mode
+use Rattle.swarm_objects.specs.declared.services.ServiceSpec.{ServiceSpec}
+use Rattle.swarm_objects.specs.declared.templates.End.{End}
 use Rattle.swarm_objects.specs.declared.templates.End.TheVariants as end
+use Rattle.swarm_objects.specs.declared.templates.Key.{Key}
 use Rattle.swarm_objects.specs.declared.templates.Key.TheVariants as key
+use Rattle.swarm_objects.specs.declared.templates.Port.{Port}
+use Rattle.swarm_objects.specs.declared.templates.Template.{Template}
+use Rattle.swarm_objects.specs.declared.templates.Workload.{Workload}
 
 -- two items of the list are alike
 abbrev pub has_alike : {X : Type 0} → (X → X → Bool) → List X → Bool

@@ -1,15 +1,15 @@
 -- The ingress ports that services hold.
-use Rattle.std.specs.Option.{option_eq}
 use Rattle.std.specs.Prelude.{Bool, Some, ℕ, ◌&&◌, ◌==◌, List, None, Option, [], ◌||◌, filter, flat_map, option_to_list, map, ◌++◌, is_none, not}
-use Rattle.swarm_objects.specs.Same.{same_bool, same_number}
-use Rattle.swarm_objects.specs.declared.templates.Port.{Port}
-use Rattle.swarm_objects.specs.declared.services.PortNumber.{PortNumber}
-use Rattle.swarm_objects.specs.declared.services.ServiceSpec.{ServiceSpec}
 use Rattle.std.specs.List.{list_any}
-use Rattle.swarm_objects.specs.declared.services.Service.{Service}
-use Rattle.swarm_objects.specs.World.{Tables}
-use Rattle.swarm_objects.specs.Rows.{first_free}
+use Rattle.std.specs.Option.{option_eq}
 use Rattle.swarm_objects.specs.Limits.{last_port, first_port}
+use Rattle.swarm_objects.specs.Rows.{first_free}
+use Rattle.swarm_objects.specs.Same.{same_bool, same_number}
+use Rattle.swarm_objects.specs.World.{Tables}
+use Rattle.swarm_objects.specs.declared.services.PortNumber.{PortNumber}
+use Rattle.swarm_objects.specs.declared.services.Service.{Service}
+use Rattle.swarm_objects.specs.declared.services.ServiceSpec.{ServiceSpec}
+use Rattle.swarm_objects.specs.declared.templates.Port.{Port}
 
 -- Ingress ports.
 

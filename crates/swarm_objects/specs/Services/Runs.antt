@@ -1,21 +1,21 @@
 -- Update runs: their failures, and their places in flight.
 use Rattle.std.specs.Prelude.{Bool, false, true, ◌==◌, ◌&&◌, nat_lt, ◌+◌, count_by, ℕ, ◌*◌, not, ◌||◌, List, filter}
-use Rattle.swarm_objects.specs.declared.services.RunStatus.{RunStatus}
-use Rattle.swarm_objects.specs.declared.services.UpdateRun.{UpdateRun}
+use Rattle.std.specs.List.{list_any}
 use Rattle.swarm_objects.specs.Rows.{is_some_and}
-use Rattle.swarm_objects.specs.declared.services.Service.{Service}
-use Rattle.swarm_objects.specs.declared.tasks.TaskState.{TaskState}
-use Rattle.swarm_objects.specs.Tasks.Words.{is_of, is_below_running, is_running}
-use Rattle.swarm_objects.specs.declared.tasks.Task.{Task}
-use Rattle.swarm_objects.specs.World.{Tables}
-use Rattle.swarm_objects.specs.declared.services.FailureAction.{FailureAction}
 use Rattle.swarm_objects.specs.Services.Words.{is_live_clean}
 use Rattle.swarm_objects.specs.Tasks.Places.{tasks_of_place}
-use Rattle.swarm_objects.specs.declared.services.Replaced.{Replaced}
-use Rattle.std.specs.List.{list_any}
-use Rattle.swarm_objects.specs.declared.services.RunStatus.TheVariants as status
-use Rattle.swarm_objects.specs.declared.tasks.TaskState.TheVariants as state
+use Rattle.swarm_objects.specs.Tasks.Words.{is_of, is_below_running, is_running}
+use Rattle.swarm_objects.specs.World.{Tables}
+use Rattle.swarm_objects.specs.declared.services.FailureAction.{FailureAction}
 use Rattle.swarm_objects.specs.declared.services.FailureAction.TheVariants as action
+use Rattle.swarm_objects.specs.declared.services.Replaced.{Replaced}
+use Rattle.swarm_objects.specs.declared.services.RunStatus.{RunStatus}
+use Rattle.swarm_objects.specs.declared.services.RunStatus.TheVariants as status
+use Rattle.swarm_objects.specs.declared.services.Service.{Service}
+use Rattle.swarm_objects.specs.declared.services.UpdateRun.{UpdateRun}
+use Rattle.swarm_objects.specs.declared.tasks.Task.{Task}
+use Rattle.swarm_objects.specs.declared.tasks.TaskState.{TaskState}
+use Rattle.swarm_objects.specs.declared.tasks.TaskState.TheVariants as state
 
 -- Runs.
 

@@ -1,11 +1,11 @@
 -- The addresses that tasks hold.
 use Rattle.std.specs.Prelude.{List, filter, map, ℕ, ◌==◌, flat_map, ◌-◌, Option, ◌+◌, ◌^◌, None}
-use Rattle.swarm_objects.specs.declared.tasks.Address.{Address}
-use Rattle.swarm_objects.specs.declared.tasks.Task.{Task}
+use Rattle.swarm_objects.specs.Rows.{first_free, on_row, network_id, row_at}
 use Rattle.swarm_objects.specs.Tasks.Words.{is_not_over}
 use Rattle.swarm_objects.specs.World.{Tables}
 use Rattle.swarm_objects.specs.declared.networks.Network.{Network}
-use Rattle.swarm_objects.specs.Rows.{first_free, on_row, network_id, row_at}
+use Rattle.swarm_objects.specs.declared.tasks.Address.{Address}
+use Rattle.swarm_objects.specs.declared.tasks.Task.{Task}
 
 -- Addresses.
 

@@ -1,15 +1,15 @@
 -- New tasks.
-use Rattle.swarm_objects.specs.declared.services.Mode.{Mode}
-use Rattle.swarm_objects.specs.declared.tasks.Desired.{Desired}
 use Rattle.std.specs.Prelude.{ℕ, Option, Some, None, [], ◌+◌, ◌∷◌, ◌++◌}
-use Rattle.swarm_objects.specs.declared.tasks.Place.{Place}
-use Rattle.swarm_objects.specs.declared.tasks.Place.TheVariants.{Slot, On}
 use Rattle.swarm_objects.specs.World.{Tables}
-use Rattle.swarm_objects.specs.declared.services.Service.{Service}
-use Rattle.swarm_objects.specs.declared.tasks.Task.{Task}
+use Rattle.swarm_objects.specs.declared.services.Mode.{Mode}
 use Rattle.swarm_objects.specs.declared.services.Mode.TheVariants as mode
+use Rattle.swarm_objects.specs.declared.services.Service.{Service}
+use Rattle.swarm_objects.specs.declared.tasks.Desired.{Desired}
 use Rattle.swarm_objects.specs.declared.tasks.Desired.TheVariants as desired
 use Rattle.swarm_objects.specs.declared.tasks.Note.TheVariants as note
+use Rattle.swarm_objects.specs.declared.tasks.Place.{Place}
+use Rattle.swarm_objects.specs.declared.tasks.Place.TheVariants.{Slot, On}
+use Rattle.swarm_objects.specs.declared.tasks.Task.{Task}
 use Rattle.swarm_objects.specs.declared.tasks.TaskState.TheVariants as state
 
 -- New tasks.

@@ -1,19 +1,19 @@
 -- The places of a service: their tasks, which of them are held, and which are dirty.
 use Rattle.std.specs.Prelude.{Bool, not, ◌==◌, ◌&&◌, ◌||◌, List, filter, Option, None, nat_lt, is_some, ℕ, [], fold}
-use Rattle.swarm_objects.specs.Services.Words.{is_job, is_dirty, is_live_dirty, is_live_clean}
-use Rattle.swarm_objects.specs.declared.services.Service.{Service}
-use Rattle.swarm_objects.specs.declared.tasks.Task.{Task}
-use Rattle.swarm_objects.specs.Same.{same_place}
-use Rattle.swarm_objects.specs.declared.tasks.Place.{Place}
 use Rattle.std.specs.List.{last_or, list_any}
-use Rattle.swarm_objects.specs.Values.Ranks.{desired_rank}
-use Rattle.swarm_objects.specs.Tasks.Words.{is_live}
 use Rattle.swarm_objects.specs.Rows.{is_some_and, with_number}
-use Rattle.swarm_objects.specs.declared.tasks.Place.TheVariants.{Slot, On}
-use Rattle.swarm_objects.specs.declared.services.Mode.{Mode}
+use Rattle.swarm_objects.specs.Same.{same_place}
+use Rattle.swarm_objects.specs.Services.Words.{is_job, is_dirty, is_live_dirty, is_live_clean}
+use Rattle.swarm_objects.specs.Tasks.Words.{is_live}
+use Rattle.swarm_objects.specs.Values.Ranks.{desired_rank}
 use Rattle.swarm_objects.specs.World.{Tables}
-use Rattle.swarm_objects.specs.declared.tasks.Desired.TheVariants as desired
+use Rattle.swarm_objects.specs.declared.services.Mode.{Mode}
 use Rattle.swarm_objects.specs.declared.services.Mode.TheVariants as mode
+use Rattle.swarm_objects.specs.declared.services.Service.{Service}
+use Rattle.swarm_objects.specs.declared.tasks.Desired.TheVariants as desired
+use Rattle.swarm_objects.specs.declared.tasks.Place.{Place}
+use Rattle.swarm_objects.specs.declared.tasks.Place.TheVariants.{Slot, On}
+use Rattle.swarm_objects.specs.declared.tasks.Task.{Task}
 
 -- the task counts for the service's places: for a job only one of its iteration does
 abbrev pub counts_for : Service → Task → Bool

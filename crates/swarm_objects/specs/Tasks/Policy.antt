@@ -1,16 +1,16 @@
 -- Whether an ended task is made anew.
 use Rattle.std.specs.Prelude.{count_by, ℕ, Bool, false, true, nat_le, nat_lt, ◌&&◌, None, Option, Some, if◌then◌else◌}
+use Rattle.swarm_objects.specs.Services.Words.{is_job}
 use Rattle.swarm_objects.specs.Tasks.Attempts.{is_kept_attempt}
+use Rattle.swarm_objects.specs.Tasks.Words.{is_complete}
 use Rattle.swarm_objects.specs.World.{Tables}
 use Rattle.swarm_objects.specs.declared.services.Service.{Service}
-use Rattle.swarm_objects.specs.declared.tasks.Place.{Place}
-use Rattle.swarm_objects.specs.declared.templates.RestartCondition.{RestartCondition}
-use Rattle.swarm_objects.specs.Tasks.Words.{is_complete}
-use Rattle.swarm_objects.specs.Services.Words.{is_job}
 use Rattle.swarm_objects.specs.declared.tasks.Closed.{Closed}
-use Rattle.swarm_objects.specs.declared.tasks.Task.{Task}
-use Rattle.swarm_objects.specs.declared.templates.RestartCondition.TheVariants as condition
 use Rattle.swarm_objects.specs.declared.tasks.Closed.TheVariants as closed
+use Rattle.swarm_objects.specs.declared.tasks.Place.{Place}
+use Rattle.swarm_objects.specs.declared.tasks.Task.{Task}
+use Rattle.swarm_objects.specs.declared.templates.RestartCondition.{RestartCondition}
+use Rattle.swarm_objects.specs.declared.templates.RestartCondition.TheVariants as condition
 
 -- the attempts that count
 abbrev pub attempts_made : Tables → Service → Place → ℕ

@@ -1,12 +1,12 @@
 -- Words on a task.
 use Rattle.std.specs.Prelude.{Bool, nat_le, ◌&&◌, nat_lt, true, false, ℕ, ◌==◌, Some}
-use Rattle.swarm_objects.specs.Values.Ranks.{desired_rank, rank}
-use Rattle.swarm_objects.specs.declared.tasks.Task.{Task}
-use Rattle.swarm_objects.specs.declared.tasks.TaskState.{TaskState}
 use Rattle.std.specs.Option.{option_eq}
 use Rattle.swarm_objects.specs.Same.{same_number, same_place}
-use Rattle.swarm_objects.specs.declared.tasks.TaskState.TheVariants as state
+use Rattle.swarm_objects.specs.Values.Ranks.{desired_rank, rank}
 use Rattle.swarm_objects.specs.declared.tasks.Desired.TheVariants as desired
+use Rattle.swarm_objects.specs.declared.tasks.Task.{Task}
+use Rattle.swarm_objects.specs.declared.tasks.TaskState.{TaskState}
+use Rattle.swarm_objects.specs.declared.tasks.TaskState.TheVariants as state
 
 -- what is wanted of the task is at most its goal
 abbrev pub is_live : Task → Bool

@@ -2,9 +2,9 @@
 use Rattle.std.specs.Prelude.{Bool, not, ◌&&◌, List, map, filter}
 use Rattle.swarm_objects.specs.Nodes.Sessions.{is_session_live}
 use Rattle.swarm_objects.specs.World.{Tables}
-use Rattle.swarm_objects.specs.declared.nodes.Node.{Node}
 use Rattle.swarm_objects.specs.declared.duties.Duty.{Duty}
 use Rattle.swarm_objects.specs.declared.duties.Duty.TheVariants as duty
+use Rattle.swarm_objects.specs.declared.nodes.Node.{Node}
 
 -- a node whose agent is inside, without a live session
 abbrev pub wants_session : Tables → Node → Bool

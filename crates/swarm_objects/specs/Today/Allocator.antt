@@ -1,16 +1,16 @@
 -- The allocator's duties.
 use Rattle.std.specs.Prelude.{Bool, ◌==◌, ◌&&◌, ◌||◌, List, is_some, length, map, filter}
 use Rattle.std.specs.List.{list_any, list_all}
-use Rattle.swarm_objects.specs.Same.{same_bool}
-use Rattle.swarm_objects.specs.declared.services.PortNumber.{PortNumber}
-use Rattle.swarm_objects.specs.declared.templates.Port.{Port}
-use Rattle.swarm_objects.specs.declared.services.Service.{Service}
 use Rattle.swarm_objects.specs.Rows.{row_at, service_id, is_some_and}
+use Rattle.swarm_objects.specs.Same.{same_bool}
 use Rattle.swarm_objects.specs.Tasks.Words.{is_new, is_wanted}
 use Rattle.swarm_objects.specs.World.{Tables}
-use Rattle.swarm_objects.specs.declared.tasks.Task.{Task}
 use Rattle.swarm_objects.specs.declared.duties.Duty.{Duty}
 use Rattle.swarm_objects.specs.declared.duties.Duty.TheVariants as duty
+use Rattle.swarm_objects.specs.declared.services.PortNumber.{PortNumber}
+use Rattle.swarm_objects.specs.declared.services.Service.{Service}
+use Rattle.swarm_objects.specs.declared.tasks.Task.{Task}
+use Rattle.swarm_objects.specs.declared.templates.Port.{Port}
 
 -- the ingress port has a number: its own, or one that it was given
 abbrev pub has_number : List PortNumber → Port → Bool

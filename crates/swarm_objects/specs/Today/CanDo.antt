@@ -1,33 +1,33 @@
 -- The calls that can be done so far. A line of a script with another one is put off.
 use Rattle.std.specs.Prelude.{List, [], ◌∷◌, Bool, true, false, codes, ◌&&◌, nat_eq, not, None}
-use Rattle.swarm_objects.specs.declared.nodes.NodeRole.{NodeRole}
-use Rattle.swarm_objects.specs.declared.nodes.NodeRole.TheVariants.{Worker, Manager}
-use Rattle.swarm_objects.specs.declared.nodes.Availability.{Availability}
-use Rattle.swarm_objects.specs.declared.nodes.Availability.TheVariants.{Active, Pause as Paused, Drain}
+use Rattle.std.specs.List.{list_all}
 use Rattle.std.specs.Str.{bytes_eq}
-use Rattle.swarm_objects.specs.declared.nodes.NodeDraft.{NodeDraft}
-use Rattle.swarm_objects.specs.declared.services.Mode.{Mode}
-use Rattle.swarm_objects.specs.declared.services.Mode.TheVariants.{Replicated, Global, Job}
-use Rattle.swarm_objects.specs.declared.templates.End.{End}
-use Rattle.swarm_objects.specs.declared.templates.End.TheVariants.{Never, Exit, Reject}
-use Rattle.swarm_objects.specs.declared.templates.Workload.{Workload}
-use Rattle.swarm_objects.specs.declared.templates.RestartCondition.{RestartCondition}
-use Rattle.swarm_objects.specs.declared.templates.RestartCondition.TheVariants.{Any, OnFailure, Never as NoRestart}
-use Rattle.swarm_objects.specs.declared.templates.RestartPolicy.{RestartPolicy}
-use Rattle.swarm_objects.specs.declared.templates.Template.{Template}
-use Rattle.swarm_objects.specs.declared.services.FailureAction.{FailureAction}
-use Rattle.swarm_objects.specs.declared.services.FailureAction.TheVariants.{Pause, Continue, Rollback}
-use Rattle.swarm_objects.specs.declared.services.UpdateOrder.{UpdateOrder}
-use Rattle.swarm_objects.specs.declared.services.UpdateOrder.TheVariants.{StopFirst, StartFirst}
-use Rattle.swarm_objects.specs.declared.services.UpdateConfig.{UpdateConfig}
-use Rattle.swarm_objects.specs.declared.services.Draft.{Draft}
+use Rattle.swarm_objects.specs.declared.calls.Call.{Call}
+use Rattle.swarm_objects.specs.declared.calls.Call.TheVariants.{Txn, View, Settle, Halt}
 use Rattle.swarm_objects.specs.declared.calls.Op.{Op}
 use Rattle.swarm_objects.specs.declared.calls.Op.TheVariants.{CreateNode, CreateService}
 use Rattle.swarm_objects.specs.declared.calls.Query.{Query}
 use Rattle.swarm_objects.specs.declared.calls.Query.TheVariants.{ListNodes, ListTasks}
-use Rattle.std.specs.List.{list_all}
-use Rattle.swarm_objects.specs.declared.calls.Call.{Call}
-use Rattle.swarm_objects.specs.declared.calls.Call.TheVariants.{Txn, View, Settle, Halt}
+use Rattle.swarm_objects.specs.declared.nodes.Availability.{Availability}
+use Rattle.swarm_objects.specs.declared.nodes.Availability.TheVariants.{Active, Pause as Paused, Drain}
+use Rattle.swarm_objects.specs.declared.nodes.NodeDraft.{NodeDraft}
+use Rattle.swarm_objects.specs.declared.nodes.NodeRole.{NodeRole}
+use Rattle.swarm_objects.specs.declared.nodes.NodeRole.TheVariants.{Worker, Manager}
+use Rattle.swarm_objects.specs.declared.services.Draft.{Draft}
+use Rattle.swarm_objects.specs.declared.services.FailureAction.{FailureAction}
+use Rattle.swarm_objects.specs.declared.services.FailureAction.TheVariants.{Pause, Continue, Rollback}
+use Rattle.swarm_objects.specs.declared.services.Mode.{Mode}
+use Rattle.swarm_objects.specs.declared.services.Mode.TheVariants.{Replicated, Global, Job}
+use Rattle.swarm_objects.specs.declared.services.UpdateConfig.{UpdateConfig}
+use Rattle.swarm_objects.specs.declared.services.UpdateOrder.{UpdateOrder}
+use Rattle.swarm_objects.specs.declared.services.UpdateOrder.TheVariants.{StopFirst, StartFirst}
+use Rattle.swarm_objects.specs.declared.templates.End.{End}
+use Rattle.swarm_objects.specs.declared.templates.End.TheVariants.{Never, Exit, Reject}
+use Rattle.swarm_objects.specs.declared.templates.RestartCondition.{RestartCondition}
+use Rattle.swarm_objects.specs.declared.templates.RestartCondition.TheVariants.{Any, OnFailure, Never as NoRestart}
+use Rattle.swarm_objects.specs.declared.templates.RestartPolicy.{RestartPolicy}
+use Rattle.swarm_objects.specs.declared.templates.Template.{Template}
+use Rattle.swarm_objects.specs.declared.templates.Workload.{Workload}
 
 abbrev pub has_no_items : {X : Type 0} → List X → Bool
 has_no_items [] = true

@@ -1,26 +1,26 @@
 -- What each control loop has to do, in order, and what a duty does, as far as the program does it today.
 use Rattle.std.specs.Prelude.{List, [], Bool, ℕ, Option, Some, None, ◌+◌}
+use Rattle.std.specs.List.{list_any}
+use Rattle.swarm_objects.specs.Changes.{change_task, noted, addressed, placed}
+use Rattle.swarm_objects.specs.Kinds.{same_duty, role_of}
+use Rattle.swarm_objects.specs.Nodes.Sessions.{registered}
+use Rattle.swarm_objects.specs.Rows.{row_at, service_id, task_id}
+use Rattle.swarm_objects.specs.Tasks.New.{with_task, new_task}
 use Rattle.swarm_objects.specs.Today.Agents.{agents}
 use Rattle.swarm_objects.specs.Today.Allocator.{allocator}
 use Rattle.swarm_objects.specs.Today.Replicated.{replicated}
 use Rattle.swarm_objects.specs.Today.Scheduler.{scheduler, refusal_counts}
 use Rattle.swarm_objects.specs.World.{Tables, World}
-use Rattle.swarm_objects.specs.declared.loops.Role.{Role}
 use Rattle.swarm_objects.specs.declared.duties.Duty.{Duty}
-use Rattle.std.specs.List.{list_any}
-use Rattle.swarm_objects.specs.Kinds.{same_duty, role_of}
-use Rattle.swarm_objects.specs.declared.tasks.Task.{Task}
-use Rattle.swarm_objects.specs.Changes.{change_task, noted, addressed, placed}
-use Rattle.swarm_objects.specs.declared.services.Service.{Service}
-use Rattle.swarm_objects.specs.declared.tasks.Place.{Place}
-use Rattle.swarm_objects.specs.Tasks.New.{with_task, new_task}
-use Rattle.swarm_objects.specs.Rows.{row_at, service_id, task_id}
-use Rattle.swarm_objects.specs.declared.tasks.Place.TheVariants.{Slot}
-use Rattle.swarm_objects.specs.Nodes.Sessions.{registered}
-use Rattle.swarm_objects.specs.declared.loops.Role.TheVariants as role
-use Rattle.swarm_objects.specs.declared.tasks.Note.TheVariants as note
-use Rattle.swarm_objects.specs.declared.tasks.Desired.TheVariants as desired
 use Rattle.swarm_objects.specs.declared.duties.Duty.TheVariants as duty
+use Rattle.swarm_objects.specs.declared.loops.Role.{Role}
+use Rattle.swarm_objects.specs.declared.loops.Role.TheVariants as role
+use Rattle.swarm_objects.specs.declared.services.Service.{Service}
+use Rattle.swarm_objects.specs.declared.tasks.Desired.TheVariants as desired
+use Rattle.swarm_objects.specs.declared.tasks.Note.TheVariants as note
+use Rattle.swarm_objects.specs.declared.tasks.Place.{Place}
+use Rattle.swarm_objects.specs.declared.tasks.Place.TheVariants.{Slot}
+use Rattle.swarm_objects.specs.declared.tasks.Task.{Task}
 
 -- a role that isn't written yet has no duties
 abbrev pub duties : Role → Tables → List Duty

@@ -1,11 +1,11 @@
 -- The duties on replicated services.
 use Rattle.std.specs.Prelude.{ℕ, nat_lt, List, [], ◌∷◌, length, if◌then◌else◌, flat_map}
 use Rattle.swarm_objects.specs.Rows.{first_gap}
-use Rattle.swarm_objects.specs.declared.duties.Duty.{Duty}
-use Rattle.swarm_objects.specs.declared.services.Mode.{Mode}
 use Rattle.swarm_objects.specs.Tasks.Places.{held_slots}
 use Rattle.swarm_objects.specs.World.{Tables}
+use Rattle.swarm_objects.specs.declared.duties.Duty.{Duty}
 use Rattle.swarm_objects.specs.declared.duties.Duty.TheVariants as duty
+use Rattle.swarm_objects.specs.declared.services.Mode.{Mode}
 use Rattle.swarm_objects.specs.declared.services.Mode.TheVariants as mode
 
 -- a new task in the least slot from 1 that isn't held, where fewer slots are held than there are to be replicas

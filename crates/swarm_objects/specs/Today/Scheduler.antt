@@ -1,22 +1,22 @@
 -- The scheduler's duties: which nodes admit a task, and which of them is the best.
 use Rattle.std.specs.Prelude.{ℕ, Bool, true, ◌==◌, ◌&&◌, filter, Option, Some, None, if◌then◌else◌, false, count_by, List, [], ◌∷◌, is_none, flat_map}
-use Rattle.swarm_objects.specs.declared.tasks.Place.{Place}
-use Rattle.swarm_objects.specs.declared.tasks.Place.TheVariants.{Slot, On}
-use Rattle.swarm_objects.specs.Nodes.Words.{is_active, is_ready}
-use Rattle.swarm_objects.specs.Nodes.Sessions.{is_session_live}
-use Rattle.swarm_objects.specs.World.{Tables}
-use Rattle.swarm_objects.specs.declared.nodes.Node.{Node}
-use Rattle.swarm_objects.specs.declared.tasks.Task.{Task}
-use Rattle.swarm_objects.specs.Tasks.Words.{is_live, is_on, is_placed, is_pending, is_wanted}
+use Rattle.std.specs.Cmp.Lexicographic.{pointwise}
 use Rattle.std.specs.Ordering.{nat_cmp, ordering_then}
 use Rattle.std.specs.declared.cmp.Ordering.{Ordering}
+use Rattle.swarm_objects.specs.Nodes.Sessions.{is_session_live}
+use Rattle.swarm_objects.specs.Nodes.Words.{is_active, is_ready}
 use Rattle.swarm_objects.specs.Rows.{least_by}
-use Rattle.std.specs.Cmp.Lexicographic.{pointwise}
 use Rattle.swarm_objects.specs.Same.{same_number}
-use Rattle.swarm_objects.specs.declared.tasks.Note.{Note}
+use Rattle.swarm_objects.specs.Tasks.Words.{is_live, is_on, is_placed, is_pending, is_wanted}
+use Rattle.swarm_objects.specs.World.{Tables}
 use Rattle.swarm_objects.specs.declared.duties.Duty.{Duty}
-use Rattle.swarm_objects.specs.declared.tasks.Note.TheVariants as note
 use Rattle.swarm_objects.specs.declared.duties.Duty.TheVariants as duty
+use Rattle.swarm_objects.specs.declared.nodes.Node.{Node}
+use Rattle.swarm_objects.specs.declared.tasks.Note.{Note}
+use Rattle.swarm_objects.specs.declared.tasks.Note.TheVariants as note
+use Rattle.swarm_objects.specs.declared.tasks.Place.{Place}
+use Rattle.swarm_objects.specs.declared.tasks.Place.TheVariants.{Slot, On}
+use Rattle.swarm_objects.specs.declared.tasks.Task.{Task}
 
 -- Filters.
 

@@ -1,9 +1,9 @@
 -- The numbers of the states.
 use Rattle.std.specs.Prelude.{ℕ}
-use Rattle.swarm_objects.specs.declared.tasks.TaskState.{TaskState}
 use Rattle.swarm_objects.specs.declared.tasks.Desired.{Desired}
-use Rattle.swarm_objects.specs.declared.tasks.TaskState.TheVariants as state
 use Rattle.swarm_objects.specs.declared.tasks.Desired.TheVariants as desired
+use Rattle.swarm_objects.specs.declared.tasks.TaskState.{TaskState}
+use Rattle.swarm_objects.specs.declared.tasks.TaskState.TheVariants as state
 
 abbrev pub rank : TaskState → ℕ
 rank state.New = 0

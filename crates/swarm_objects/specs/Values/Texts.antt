@@ -1,10 +1,10 @@
 -- The texts of values that scripts, replies and constraints share.
 use Rattle.std.specs.Prelude.{ℕ, List, codes}
 use Rattle.swarm_objects.specs.declared.ids.Kind.{Kind}
-use Rattle.swarm_objects.specs.declared.nodes.NodeRole.{NodeRole}
-use Rattle.swarm_objects.specs.declared.tasks.TaskState.{TaskState}
 use Rattle.swarm_objects.specs.declared.ids.Kind.TheVariants as kind
+use Rattle.swarm_objects.specs.declared.nodes.NodeRole.{NodeRole}
 use Rattle.swarm_objects.specs.declared.nodes.NodeRole.TheVariants as role
+use Rattle.swarm_objects.specs.declared.tasks.TaskState.{TaskState}
 use Rattle.swarm_objects.specs.declared.tasks.TaskState.TheVariants as task_state
 
 abbrev pub kind_text : Kind → List ℕ
