@@ -1,11 +1,14 @@
 // The rules of nodes, networks and settings.
 ghost use Rattle.std.specs.Prelude.{◌≡◌, ◌≤◌, find};
 ghost use Rattle.std.specs.Result.{result_err};
-ghost use Rattle.swarm_objects.specs.Rules.Networks.{has_host_bits as host_bits_in, subnet_breaks, subnet_rules};
+ghost use Rattle.swarm_objects.specs.Rules.Networks.{has_host_bits, subnet_breaks, subnet_rules};
 ghost use Rattle.swarm_objects.specs.Rules.Nodes.{node_breaks, node_rules, resource_rules, resources_break};
 ghost use Rattle.swarm_objects.specs.Rules.Settings.{settings_break, settings_rules};
 
-use crate::{LONGEST_TIME, MOST_CPU, MOST_ITEMS, MOST_MEM};
+use swarm_objects::limits::{
+    FEWEST_BITS, LONGEST_BEAT, LONGEST_TIME, MOST_BITS, MOST_CPU, MOST_ITEMS, MOST_KEPT, MOST_MEM,
+    SHORTEST_BEAT,
+};
 use swarm_objects::{Node, Settings, SpecRule};
 
 /// The first rule that a node breaks.
@@ -33,7 +36,7 @@ pub fn check_resources(cpu: u64, mem: u64) -> Result<(), SpecRule>
 pub fn check_network(base: u32, length: u8) -> Result<(), SpecRule>
     ensures { result_err result ≡ find (subnet_breaks base length) subnet_rules }
 {
-    if length < 16 || 29 < length || has_host_bits(base, length) {
+    if length < FEWEST_BITS || MOST_BITS < length || has_host_bits(base, length) {
         return Err(SpecRule::Subnet);
     }
     Ok(())
@@ -41,9 +44,9 @@ pub fn check_network(base: u32, length: u8) -> Result<(), SpecRule>
 
 // Whether an address has a bit below its first so many.
 fn has_host_bits(base: u32, bits: u8) -> bool
-    requires low { 16 ≤ bits }
-    requires high { bits ≤ 29 }
-    ensures { result ≡ host_bits_in base bits }
+    requires low { FEWEST_BITS ≤ bits }
+    requires high { bits ≤ MOST_BITS }
+    ensures { result ≡ has_host_bits base bits }
 {
     base % 2u32.pow(32 - bits as u32) != 0
 }
@@ -52,9 +55,9 @@ fn has_host_bits(base: u32, bits: u8) -> bool
 pub fn check_settings(settings: &Settings) -> Result<(), SpecRule>
     ensures { result_err result ≡ find (settings_break settings.now) settings_rules }
 {
-    let wrong_beat = settings.heartbeat < 1_000 || 60_000 < settings.heartbeat;
+    let wrong_beat = settings.heartbeat < SHORTEST_BEAT || LONGEST_BEAT < settings.heartbeat;
     let wrong_orphan = settings.orphan < 1 || LONGEST_TIME < settings.orphan;
-    if wrong_beat || wrong_orphan || settings.history > 100 {
+    if wrong_beat || wrong_orphan || settings.history > MOST_KEPT {
         return Err(SpecRule::Settings);
     }
     Ok(())

@@ -3,9 +3,15 @@ ghost use Rattle.std.specs.Prelude.{◌≡◌, find, not};
 ghost use Rattle.std.specs.List.{list_any};
 ghost use Rattle.std.specs.Str.{bytes_eq};
 ghost use Rattle.std.specs.Result.{result_err};
-ghost use Rattle.swarm_objects.specs.Rules.Services.{service_breaks, has_alike, has_too_many_items as too_many_items_in, extent_rules, field_rules, has_wrong_hosts as wrong_hosts_in, has_wrong_ingress as wrong_ingress_in, has_wrong_exit as wrong_exit_in, has_wrong_time as wrong_time_in, has_wrong_work as wrong_work_in, is_empty_job as empty_job, is_host_clash as host_clash, is_ingress_clash as ingress_clash, is_label as label_key, is_too_long as too_long, is_wrong_work_time as wrong_work_time, is_zero_port as zero_port, names_twice as twice_named, service_rules, wants_too_many as too_many_wanted};
+ghost use Rattle.swarm_objects.specs.Rules.Services.{service_breaks, has_alike, has_too_many_items, extent_rules};
+ghost use Rattle.swarm_objects.specs.Rules.Services.{field_rules, has_wrong_hosts, has_wrong_ingress, has_wrong_exit};
+ghost use Rattle.swarm_objects.specs.Rules.Services.{has_wrong_time, has_wrong_work, is_empty_job, is_host_clash};
+ghost use Rattle.swarm_objects.specs.Rules.Services.{is_ingress_clash, is_label, is_too_long, is_wrong_work_time};
+ghost use Rattle.swarm_objects.specs.Rules.Services.{is_zero_port, names_twice, service_rules, wants_too_many};
 
-use crate::{LONGEST_TIME, MOST_CPU, MOST_ITEMS, MOST_MEM};
+use swarm_objects::limits::{
+    LONGEST_TIME, MOST_CPU, MOST_ITEMS, MOST_MEM, MOST_RATIO, MOST_REPLICAS,
+};
 use swarm_objects::{Draft, End, Key, Mode, Ms, Name, Port, ServiceSpec, SpecRule, Workload};
 
 /// The first rule that a draft of a service breaks.
@@ -50,24 +56,24 @@ fn check_fields(draft: &Draft) -> Result<(), SpecRule>
     if has_other_key(spec.template.spread.as_slice()) {
         return Err(SpecRule::Spread);
     }
-    if spec.update.ratio > 1_000 {
+    if spec.update.ratio > MOST_RATIO {
         return Err(SpecRule::Ratio);
     }
     Ok(())
 }
 
 fn wants_too_many(mode: &Mode) -> bool
-    ensures { result ≡ too_many_wanted mode.now }
+    ensures { result ≡ wants_too_many mode.now }
 {
     match mode {
-        Mode::Replicated(replicas) => *replicas > 10_000,
+        Mode::Replicated(replicas) => *replicas > MOST_REPLICAS,
         Mode::Global => false,
-        Mode::Job { total, .. } => *total > 10_000,
+        Mode::Job { total, .. } => *total > MOST_REPLICAS,
     }
 }
 
 fn is_empty_job(mode: &Mode) -> bool
-    ensures { result ≡ empty_job mode.now }
+    ensures { result ≡ is_empty_job mode.now }
 {
     match mode {
         Mode::Job { concurrent, total } => *concurrent == 0 || *total == 0,
@@ -76,20 +82,20 @@ fn is_empty_job(mode: &Mode) -> bool
 }
 
 fn is_too_long(time: Ms) -> bool
-    ensures { result ≡ too_long time }
+    ensures { result ≡ is_too_long time }
 {
     time > LONGEST_TIME
 }
 
 // Whether a time of a workload is 0 or too long.
 fn is_wrong_work_time(time: Ms) -> bool
-    ensures { result ≡ wrong_work_time time }
+    ensures { result ≡ is_wrong_work_time time }
 {
     time == 0 || is_too_long(time)
 }
 
 fn has_wrong_work(workload: &Workload) -> bool
-    ensures { result ≡ wrong_work_in workload.now }
+    ensures { result ≡ has_wrong_work workload.now }
 {
     is_wrong_work_time(workload.prepare)
         || is_wrong_work_time(workload.start)
@@ -98,7 +104,7 @@ fn has_wrong_work(workload: &Workload) -> bool
 }
 
 fn has_wrong_exit(end: &End) -> bool
-    ensures { result ≡ wrong_exit_in end.now }
+    ensures { result ≡ has_wrong_exit end.now }
 {
     match end {
         End::Exit(time, _) => is_wrong_work_time(*time),
@@ -107,7 +113,7 @@ fn has_wrong_exit(end: &End) -> bool
 }
 
 fn has_wrong_time(spec: &ServiceSpec) -> bool
-    ensures { result ≡ wrong_time_in spec.now }
+    ensures { result ≡ has_wrong_time spec.now }
 {
     has_wrong_work(&spec.template.workload)
         || is_too_long(spec.template.restart.delay)
@@ -117,7 +123,7 @@ fn has_wrong_time(spec: &ServiceSpec) -> bool
 }
 
 fn has_too_many_items(draft: &Draft) -> bool
-    ensures { result ≡ too_many_items_in draft.now }
+    ensures { result ≡ has_too_many_items draft.now }
 {
     let template = &draft.spec.template;
     template.constraints.as_slice().len() > MOST_ITEMS
@@ -136,7 +142,7 @@ fn is_among(name: &Name, names: &[Name]) -> bool
 
 #[tactic(auto, using(crate::proofs::Alike::alike_steps))]
 fn names_twice(names: &[Name]) -> bool
-    ensures { result ≡ twice_named names.now }
+    ensures { result ≡ names_twice names.now }
 {
     let mut rest = names;
     while let Some((first, others)) = rest.split_first() {
@@ -149,50 +155,50 @@ fn names_twice(names: &[Name]) -> bool
 }
 
 fn has_wrong_ingress(ports: &[Port]) -> bool
-    ensures { result ≡ wrong_ingress_in ports.now }
+    ensures { result ≡ has_wrong_ingress ports.now }
 {
     has_zero_port(ports) || has_ingress_clash(ports)
 }
 
 fn has_wrong_hosts(ports: &[Port]) -> bool
-    ensures { result ≡ wrong_hosts_in ports.now }
+    ensures { result ≡ has_wrong_hosts ports.now }
 {
     has_zero_port(ports) || has_host_clash(ports)
 }
 
 fn has_zero_port(ports: &[Port]) -> bool
-    ensures { result ≡ list_any zero_port ports.now }
+    ensures { result ≡ list_any is_zero_port ports.now }
 {
     ports.iter().any(is_zero_port)
 }
 
 fn is_zero_port(port: &Port) -> bool
-    ensures { result ≡ zero_port port.now }
+    ensures { result ≡ is_zero_port port.now }
 {
     port.target == 0 || port.number == Some(0)
 }
 
 fn is_host_clash(one: &Port, two: &Port) -> bool
-    ensures { result ≡ host_clash one.now two.now }
+    ensures { result ≡ is_host_clash one.now two.now }
 {
     one.udp == two.udp && one.number.is_some() && one.number == two.number
 }
 
 fn is_ingress_clash(one: &Port, two: &Port) -> bool
-    ensures { result ≡ ingress_clash one.now two.now }
+    ensures { result ≡ is_ingress_clash one.now two.now }
 {
     one.udp == two.udp && (one.target == two.target || is_host_clash(one, two))
 }
 
 fn clashes_as_host(port: &Port, ports: &[Port]) -> bool
-    ensures { result ≡ list_any (host_clash port.now) ports.now }
+    ensures { result ≡ list_any (is_host_clash port.now) ports.now }
 {
     ports.iter().any(|other| is_host_clash(port, other))
 }
 
 #[tactic(auto, using(crate::proofs::Alike::alike_steps))]
 fn has_host_clash(ports: &[Port]) -> bool
-    ensures { result ≡ has_alike host_clash ports.now }
+    ensures { result ≡ has_alike is_host_clash ports.now }
 {
     let mut rest = ports;
     while let Some((first, others)) = rest.split_first() {
@@ -205,14 +211,14 @@ fn has_host_clash(ports: &[Port]) -> bool
 }
 
 fn clashes_as_ingress(port: &Port, ports: &[Port]) -> bool
-    ensures { result ≡ list_any (ingress_clash port.now) ports.now }
+    ensures { result ≡ list_any (is_ingress_clash port.now) ports.now }
 {
     ports.iter().any(|other| is_ingress_clash(port, other))
 }
 
 #[tactic(auto, using(crate::proofs::Alike::alike_steps))]
 fn has_ingress_clash(ports: &[Port]) -> bool
-    ensures { result ≡ has_alike ingress_clash ports.now }
+    ensures { result ≡ has_alike is_ingress_clash ports.now }
 {
     let mut rest = ports;
     while let Some((first, others)) = rest.split_first() {
@@ -225,13 +231,13 @@ fn has_ingress_clash(ports: &[Port]) -> bool
 }
 
 fn has_other_key(keys: &[Key]) -> bool
-    ensures { result ≡ list_any (λ k. not (label_key k)) keys.now }
+    ensures { result ≡ list_any (λ k. not (is_label k)) keys.now }
 {
     keys.iter().any(|key| !is_label(key))
 }
 
 fn is_label(key: &Key) -> bool
-    ensures { result ≡ label_key key.now }
+    ensures { result ≡ is_label key.now }
 {
     matches!(key, Key::Label(_) | Key::Engine(_))
 }

@@ -6,7 +6,7 @@ use Rattle.swarm_model.specs.Calls.Refusals.{too_many, unless}
 use Rattle.swarm_model.specs.Changed.{changes_between}
 use Rattle.swarm_model.specs.Outcome.{Answered}
 use Rattle.swarm_objects.specs.Changes.{id_taken}
-use Rattle.swarm_objects.specs.Limits.{most_watchers, most_waiting}
+use Rattle.swarm_objects.specs.Limits.{most_watchers, most_events}
 use Rattle.swarm_objects.specs.Rows.{watcher_id, drop_row, change_row}
 use Rattle.swarm_objects.specs.World.{World}
 use Rattle.swarm_objects.specs.declared.ids.Kind.{Kind}
@@ -73,7 +73,7 @@ told_at entry id w = record w { watchers = change_row watcher_id id (told_all en
 -- more events than a watcher may have waiting take it away; else it is told them all
 abbrev pub polled : ℕ → World → ℕ → List Event → Reply × World
 polled entry w id events =
-    if nat_lt most_waiting (length events) then (reply.Refused (refusal.Lagged (length events)), without_watcher id w)
+    if nat_lt most_events (length events) then (reply.Refused (refusal.Lagged (length events)), without_watcher id w)
     else (reply.Events events, told_at entry id w)
 
 abbrev pub watch_poll : ℕ → World → ℕ → Option Watcher → Answered
