@@ -6,7 +6,7 @@ ghost use Rattle.swarm_objects.specs.Today.Duties.{effect};
 ghost use Rattle.swarm_objects.specs.Nodes.Sessions.{new_session as new_session_of, ready_node};
 ghost use Rattle.swarm_model.specs.Today.History.{duty_outcome};
 ghost use Rattle.swarm_objects.specs.Rows.{change_row, node_id, task_id};
-ghost use Rattle.swarm_objects.specs.World.{IsSmall};
+ghost use Rattle.swarm_objects.specs.Bounds.{IsSmall};
 ghost use Rattle.swarm_plain.specs.Plain.{world_of};
 
 use crate::filters::refusal_counts;

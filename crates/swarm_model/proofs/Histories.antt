@@ -1,11 +1,13 @@
 -- Laws of histories.
 use Rattle.std.proofs.Common.{◌≡◌, ℕ, ◌+◌, ◌*◌, ◌≤◌, ◌<◌, List, [], ◌∷◌, ◌++◌, Bool, true, false, not, refl, Result, Ok, Err, ap, nat_lt, nat_le, length, cond, sym, ◌∙◌, subst, arith, Option, Some, None}
 use Rattle.std.proofs.lemmas.Bool.Decides.{nat_tests}
-use Rattle.swarm_objects.specs.World.{World, Tables, IsSmall, empty_world}
+use Rattle.swarm_objects.specs.World.{World, Tables, empty_world}
+use Rattle.swarm_objects.specs.Bounds.{IsSmall}
 use Rattle.swarm_objects.specs.Today.CanDo.{can_do}
 use Rattle.swarm_model.specs.Today.Calls.{outcome, call_outcome, view_outcome, refused, txn_outcome, apply_op, apply_ops, create_node, node_named, with_node, new_node, is_admitted, is_full}
 use Rattle.swarm_objects.specs.Limits.{most_ops}
 use Rattle.swarm_objects.specs.CallWords.{is_halt}
+use Rattle.swarm_model.proofs.Times.{agents-replay, sent-replay, times-replay}
 use Rattle.swarm_model.specs.Outcome.{Outcome}
 use Rattle.swarm_objects.specs.Today.Duties.{is_due}
 use Rattle.swarm_objects.specs.Today.Duties.{after_duty, with_new_task, with_reasons}
@@ -270,6 +272,9 @@ IsSmall-replay H legal =
       clock = omega (arith, moved.0);
       next_id = omega (arith, moved.2, few);
       heartbeat = omega (arith, ap (λ (s : Settings). s.heartbeat) moved.1);
+      times = times-replay H;
+      agents = agents-replay H;
+      sent = sent-replay H;
     }
 
 still_running : (w : World) (H : List Entry) → IsLegalFrom w H → (w.halted ≡ false → w.entries ≤ 300000) → (replay_from w H).halted ≡ false → (replay_from w H).entries ≤ 300000

@@ -1,3 +1,4 @@
 pub mod DutyLemmas
 pub mod Examples
 pub mod Histories
+pub mod Times

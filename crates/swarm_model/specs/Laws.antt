@@ -6,5 +6,4 @@ pub mod OneTemplate
 pub mod Reconciliation
 pub mod Rises
 pub mod Size
-pub mod Sound
 pub mod Steps

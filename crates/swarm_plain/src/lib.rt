@@ -6,7 +6,8 @@ mod lists;
 mod reads;
 
 ghost use Rattle.std.specs.Prelude.{◌≡◌, [], ◌∷◌, ◌⊎◌, ◌+◌, ◌^◌, ◌<◌, ◌≤◌, false, length, IfOk, IfErr, OnErr, Ok, Err};
-ghost use Rattle.swarm_objects.specs.World.{empty_world, IsSmall};
+ghost use Rattle.swarm_objects.specs.World.{empty_world};
+ghost use Rattle.swarm_objects.specs.Bounds.{IsSmall};
 ghost use Rattle.swarm_model.specs.Today.Calls.{apply_op, apply_ops, call_outcome, outcome};
 ghost use Rattle.swarm_objects.specs.CallWords.{is_settle};
 ghost use Rattle.swarm_plain.specs.Plain.{world_of};
