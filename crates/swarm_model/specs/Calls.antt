@@ -45,7 +45,9 @@ txn_answer (Ok done) = Ok (reply.Txn done.1, done.0)
 txn_answer (Err r) = Err r
 
 abbrev pub txn : ℕ → World → List Op → Answered
-txn version w ops = if nat_lt most_ops (length ops) then Err (refusal.TooManyOps (length ops)) else txn_answer (apply_ops version ops w [])
+txn version w ops =
+    if nat_lt most_ops (length ops) then Err (refusal.TooManyOps (length ops))
+    else txn_answer (apply_ops version ops w [])
 
 -- a query changes nothing
 abbrev pub viewed : World → View → Answered

@@ -23,11 +23,13 @@ restarted_by _ = None
 -- the policy gives this cause at the restart of the task, and the place's newest task is this one
 abbrev pub closes_with : Tables → ℕ → Task → Service → Option Closed
 closes_with t id x s =
-    if not (has_other t s x) && is_some_and (is_task id) (newest (tasks_of_place s x.place t.tasks)) then no_restart t s x else None
+    if not (has_other t s x) && is_some_and (is_task id) (newest (tasks_of_place s x.place t.tasks))
+    then no_restart t s x else None
 
 abbrev pub cause_of_restart : Tables → ℕ → ℕ → Option Closed
 cause_of_restart t id restarted_id =
-    on_row None (λ x. on_row None (closes_with t id x) (row_at service_id x.service t.services)) (row_at task_id restarted_id t.tasks)
+    on_row None (λ x. on_row None (closes_with t id x) (row_at service_id x.service t.services))
+    (row_at task_id restarted_id t.tasks)
 
 -- the cause that the entry sets on the task, where it sets one
 abbrev pub cause_set : World → ℕ → What → Option Closed
@@ -45,7 +47,8 @@ later before entry (Some cause) = Some (record { entry = entry; cause = cause })
 -- the last of the entries that set a cause on the task, or the one from before
 abbrev pub closing_from : ℕ → World → Option Closing → List Entry → Option Closing
 closing_from id w before [] = before
-closing_from id w before (e ∷ es) = closing_from id (step_world w e) (later before (w.entries + 1) (cause_set w id e.what)) es
+closing_from id w before (e ∷ es) =
+    closing_from id (step_world w e) (later before (w.entries + 1) (cause_set w id e.what)) es
 
 abbrev pub closing : List Entry → ℕ → Option Closing
 closing h id = closing_from id empty_world None h

@@ -57,13 +57,15 @@ same_node_state _ _ = false
 -- what an operator gives a node
 abbrev pub same_node_wish : Node → Node → Bool
 same_node_wish a b =
-    bytes_eq a.name b.name && pointwise same_label a.labels b.labels && same_node_role a.role b.role && same_availability a.availability b.availability
+    bytes_eq a.name b.name && pointwise same_label a.labels b.labels && same_node_role a.role b.role
+    && same_availability a.availability b.availability
 
 -- what it is and has
 abbrev pub same_node_facts : Node → Node → Bool
 same_node_facts a b =
     same_node_state a.state b.state && a.down_since == b.down_since && a.cpu == b.cpu && a.mem == b.mem
-    && bytes_eq a.os b.os && bytes_eq a.arch b.arch && pointwise same_label a.engine b.engine && same_bool a.remote b.remote
+    && bytes_eq a.os b.os && bytes_eq a.arch b.arch && pointwise same_label a.engine b.engine
+    && same_bool a.remote b.remote
 
 abbrev pub same_node : Node → Node → Bool
 same_node a b = a.version == b.version && same_node_wish a b && same_node_facts a b
@@ -92,7 +94,8 @@ same_update a b =
 
 abbrev pub same_spec : ServiceSpec → ServiceSpec → Bool
 same_spec a b =
-    same_numbers_of_mode a.mode b.mode && same_template a.template b.template && pointwise same_port a.ports b.ports && same_update a.update b.update
+    same_numbers_of_mode a.mode b.mode && same_template a.template b.template && pointwise same_port a.ports b.ports
+    && same_update a.update b.update
 
 abbrev pub same_status : RunStatus → RunStatus → Bool
 same_status status.Updating status.Updating = true
@@ -107,7 +110,9 @@ abbrev pub same_replaced : Replaced → Replaced → Bool
 same_replaced a b = same_place a.place b.place && a.task == b.task && a.created == b.created
 
 abbrev pub same_run : UpdateRun → UpdateRun → Bool
-same_run a b = same_status a.status b.status && a.version == b.version && a.total == b.total && pointwise same_replaced a.replaced b.replaced
+same_run a b =
+    same_status a.status b.status && a.version == b.version && a.total == b.total
+    && pointwise same_replaced a.replaced b.replaced
 
 abbrev pub same_port_number : PortNumber → PortNumber → Bool
 same_port_number a b = a.target == b.target && same_bool a.udp b.udp && a.number == b.number
@@ -135,14 +140,18 @@ same_cause _ _ = false
 -- what a task is made with
 abbrev pub same_task_making : Task → Task → Bool
 same_task_making a b =
-    a.service == b.service && same_place a.place b.place && a.iteration == b.iteration && same_template a.template b.template
-    && a.born == b.born && desired_rank a.goal == desired_rank b.goal && a.created == b.created && a.raise_at == b.raise_at
+    a.service == b.service && same_place a.place b.place && a.iteration == b.iteration
+    && same_template a.template b.template
+    && a.born == b.born && desired_rank a.goal == desired_rank b.goal && a.created == b.created
+    && a.raise_at == b.raise_at
 
 -- what becomes of it
 abbrev pub same_task_facts : Task → Task → Bool
 same_task_facts a b =
-    option_eq same_number a.node b.node && rank a.state == rank b.state && a.since == b.since && desired_rank a.desired == desired_rank b.desired
-    && pointwise same_address a.addresses b.addresses && same_note a.note b.note && option_eq same_cause a.closed b.closed
+    option_eq same_number a.node b.node && rank a.state == rank b.state && a.since == b.since
+    && desired_rank a.desired == desired_rank b.desired
+    && pointwise same_address a.addresses b.addresses && same_note a.note b.note
+    && option_eq same_cause a.closed b.closed
 
 abbrev pub same_task : Task → Task → Bool
 same_task a b = a.version == b.version && same_task_making a b && same_task_facts a b

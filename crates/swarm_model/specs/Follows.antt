@@ -1,4 +1,5 @@
--- What a history has to do with a script's lines and a number of workers, and the one history that a single caller makes.
+-- What a history has to do with a script's lines and a number of workers, and the one history that a single caller
+-- makes.
 use Rattle.std.specs.Prelude.{List, true, ◌≡◌, ◌-◌, Bool, [], if◌then◌else◌, not, ◌∷◌, ℕ, ◌++◌, flat_map, sum_by, ◌≤◌, false, ◌<◌, ⊤, None, Option, Some}
 use Rattle.std.specs.List.{list_all}
 use Rattle.swarm_model.specs.History.{step_world, replay_from}
@@ -55,9 +56,11 @@ AreStrides w left [] = ⊤
 AreStrides w left (s ∷ ss) =
     IsTickOf (replay_from w s.stretch) left s × AreStrides (replay_from w (entries_of_stride s)) (left - s.ms) ss
 
--- the stretch after the last tick, before these entries: unless it is full, caller 0's next call finds a world that isn't busy
+-- the stretch after the last tick, before these entries: unless it is full, caller 0's next call finds a world that
+-- isn't busy
 abbrev pub IsTail : World → List Entry → List Entry → Type 0
-IsTail w tail rest = IsStretch tail × (own_duties tail < full_stretch → quiet_at_next_call (replay_from w tail) rest ≡ true)
+IsTail w tail rest =
+    IsStretch tail × (own_duties tail < full_stretch → quiet_at_next_call (replay_from w tail) rest ≡ true)
 
 -- What a line makes.
 
@@ -70,7 +73,8 @@ pub record IsWaited (w : World) (ms : ℕ) (part rest : List Entry) : Type 0 whe
   pub all : left_after ms strides ≡ 0
   pub tail_is : IsTail (replay_from w (entries_of_strides strides)) tail rest
 
--- a settle line's: at most so many duties of caller 0, and then its call, which finds the world busy only after just so many
+-- a settle line's: at most so many duties of caller 0, and then its call, which finds the world busy only after just
+-- so many
 pub record IsSettled (w : World) (budget : ℕ) (part : List Entry) : Type 0 where
   pub duties : List Entry
   pub entries : part ≡ duties ++ own_call (call.Settle budget) ∷ []

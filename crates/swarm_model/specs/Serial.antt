@@ -11,7 +11,10 @@ use Rattle.swarm_objects.specs.declared.calls.Entry.{Entry}
 abbrev pub settle_entries : ℕ → World → List Entry
 settle_entries zero w = []
 settle_entries (suc n) w =
-    elim (busy_duty (settle_answer w)) [ Some d ↦ own_duty d ∷ settle_entries n (step_world w (own_duty d)) | None ↦ [] ]
+    elim (busy_duty (settle_answer w)) [
+      | Some d ↦ own_duty d ∷ settle_entries n (step_world w (own_duty d))
+      | None ↦ []
+    ]
 
 -- duties, and then a tick
 abbrev pub stride_entries : World → List Entry → ℕ → List Entry
@@ -25,7 +28,8 @@ abbrev pub wait_entries : ℕ → World → ℕ → List Entry
 wait_entries zero w time = settle_entries full_stretch w
 wait_entries (suc n) w time =
     elim (nat_lt w.tables.clock time) [
-      | true ↦ next_stride w (time - w.tables.clock) ++ wait_entries n (replay_from w (next_stride w (time - w.tables.clock))) time
+      | true ↦ next_stride w (time - w.tables.clock)
+    ++ wait_entries n (replay_from w (next_stride w (time - w.tables.clock))) time
       | false ↦ settle_entries full_stretch w
     ]
 

@@ -83,15 +83,19 @@ has_waiting_place t s = list_any (is_to_replace t s) (place_numbers t s)
 
 -- when the places in flight whose task runs cease to be that
 abbrev pub flight_times : Tables → Service → UpdateRun → List ℕ
-flight_times t s run = map (λ x. x.since + s.spec.update.delay) (filter is_running (flat_map (flying_tasks t s) run.replaced))
+flight_times t s run =
+    map (λ x. x.since + s.spec.update.delay) (filter is_running (flat_map (flying_tasks t s) run.replaced))
 
 -- a place that is to be replaced is held back by parallelism
 abbrev pub flight_wait : Tables → Service → UpdateRun → List Wait
-flight_wait t s run = if has_waiting_place t s && not (has_room t s run) then wait_till cause.Update s.id (least_time (flight_times t s run)) else []
+flight_wait t s run =
+    if has_waiting_place t s && not (has_room t s run)
+    then wait_till cause.Update s.id (least_time (flight_times t s run)) else []
 
 -- when the watching of new tasks ends, of those for which that isn't reached
 abbrev pub watch_times : Tables → Service → UpdateRun → List ℕ
-watch_times t s run = map (λ (i : Replaced). i.created + s.spec.update.monitor) (filter (λ i. not (is_watched t s i)) run.replaced)
+watch_times t s run =
+    map (λ (i : Replaced). i.created + s.spec.update.monitor) (filter (λ i. not (is_watched t s i)) run.replaced)
 
 abbrev pub watch_wait : Tables → Service → UpdateRun → List Wait
 watch_wait t s run = if has_dirty_place t s then [] else wait_till cause.Update s.id (least_time (watch_times t s run))
@@ -166,7 +170,8 @@ held_answer s x = settle.Held s x.id
 
 -- the least live clean task below RUNNING of a service with a run under way
 abbrev pub held_by : Tables → Service → List Settle
-held_by t s = if has_open_run s then option_to_list (option_map (held_answer s.id) (find (is_holding s) t.tasks)) else []
+held_by t s =
+    if has_open_run s then option_to_list (option_map (held_answer s.id) (find (is_holding s) t.tasks)) else []
 
 abbrev pub is_paused_status : RunStatus → Bool
 is_paused_status status.Paused = true

@@ -44,7 +44,8 @@ wanted version d x = record x { version = version; desired = d }
 
 -- every task of the place that isn't to be removed is to be
 abbrev pub without_place : ℕ → Tables → Service → ℕ → Tables
-without_place version t s k = change_where (λ x. is_in_place s (place_at s.spec.mode k) x && is_kept x) (wanted version desired.Remove) t
+without_place version t s k =
+    change_where (λ x. is_in_place s (place_at s.spec.mode k) x && is_kept x) (wanted version desired.Remove) t
 
 -- a new task stands in the place
 abbrev pub with_new : ℕ → Desired → Tables → Service → ℕ → Tables

@@ -8,4 +8,5 @@ use Rattle.swarm_objects.specs.declared.settings.Settings.{Settings}
 
 abbrev pub set_cluster : World → Settings → Done
 set_cluster w settings =
-    unless (bad_spec (find (settings_break settings) settings_rules)) (with_tables w (record w.tables { settings = settings }), 0)
+    unless (bad_spec (find (settings_break settings) settings_rules))
+    (with_tables w (record w.tables { settings = settings }), 0)

@@ -41,4 +41,5 @@ in_mode change a = record a { mode = change a.mode }
 -- a call on the agent of a node that is inside
 abbrev pub on_agent : World → List ℕ → (NodeAgent → NodeAgent) → Answered
 on_agent w name change =
-    on_node w.tables name (λ n. if n.remote then Err (refusal.WrongKind n.id) else Ok (reply.AgentDone n.id, change_agent n.id change w))
+    on_node w.tables name
+    (λ n. if n.remote then Err (refusal.WrongKind n.id) else Ok (reply.AgentDone n.id, change_agent n.id change w))

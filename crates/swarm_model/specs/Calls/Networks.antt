@@ -29,4 +29,5 @@ create_network w n =
 
 abbrev pub remove_network : World → Network → Done
 remove_network w n =
-    unless (in_use w.tables n.id) (with_tables w (record w.tables { networks = drop_row network_id n.id w.tables.networks }), n.id)
+    unless (in_use w.tables n.id)
+    (with_tables w (record w.tables { networks = drop_row network_id n.id w.tables.networks }), n.id)

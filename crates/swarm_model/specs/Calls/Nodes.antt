@@ -94,4 +94,5 @@ without_node version w id = record w {
 
 abbrev pub remove_node : ℕ → World → Bool → Node → Done
 remove_node version w force n =
-    unless (refuse (not force && not (is_down n.state)) (refusal.NodeNotDown n.state)) (without_node version w n.id, n.id)
+    unless (refuse (not force && not (is_down n.state)) (refusal.NodeNotDown n.state))
+    (without_node version w n.id, n.id)

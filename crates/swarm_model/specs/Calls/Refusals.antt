@@ -138,7 +138,8 @@ abbrev pub task_uses : ℕ → Task → Bool
 task_uses network x = is_not_over x && list_any (same_number network) x.template.networks
 
 abbrev pub users : Tables → ℕ → List ℕ
-users t network = map service_id (filter (service_uses network) t.services) ++ map task_id (filter (task_uses network) t.tasks)
+users t network =
+    map service_id (filter (service_uses network) t.services) ++ map task_id (filter (task_uses network) t.tasks)
 
 -- the least id of a user
 abbrev pub in_use : Tables → ℕ → Option Refusal

@@ -43,7 +43,8 @@ admits_session t node session = is_none (not_admitted t.clock session (session_o
 
 -- what follows, for a remote node under a live session
 abbrev pub on_session : Tables → List ℕ → ℕ → (Node → Answered) → Answered
-on_session t name session next = on_remote t name (λ n. elim (not_admitted t.clock session (session_of t n.id)) [ Some r ↦ Err r | None ↦ next n ])
+on_session t name session next =
+    on_remote t name (λ n. elim (not_admitted t.clock session (session_of t n.id)) [ Some r ↦ Err r | None ↦ next n ])
 
 -- Opening.
 
@@ -57,7 +58,8 @@ abbrev pub fits_in : Kept → Task → Bool
 fits_in kept x = nat_le x.template.cpu kept.cpu && nat_le x.template.mem kept.mem
 
 abbrev pub keep_task : Kept → Task → Kept
-keep_task kept x = record { cpu = kept.cpu - x.template.cpu; mem = kept.mem - x.template.mem; tasks = kept.tasks ++ x ∷ [] }
+keep_task kept x =
+    record { cpu = kept.cpu - x.template.cpu; mem = kept.mem - x.template.mem; tasks = kept.tasks ++ x ∷ [] }
 
 -- a task on the node that no longer fits in what is left is rejected
 abbrev pub keep_or_reject : ℕ → ℕ → Kept → Task → Kept
@@ -72,7 +74,8 @@ keep_other version clock node kept x =
 
 -- by rising id
 abbrev pub tasks_within : ℕ → ℕ → ℕ → ℕ → ℕ → List Task → List Task
-tasks_within version clock node cpu mem tasks = (fold (keep_other version clock node) (record { cpu = cpu; mem = mem; tasks = [] }) tasks).tasks
+tasks_within version clock node cpu mem tasks =
+    (fold (keep_other version clock node) (record { cpu = cpu; mem = mem; tasks = [] }) tasks).tasks
 
 abbrev pub with_resources : ℕ → ℕ → ℕ → Node → Node
 with_resources version cpu mem n = record (ready_node version n) { cpu = cpu; mem = mem }
@@ -96,13 +99,15 @@ begin_with version w node cpu mem =
     (begun_reply w.tables, without_sent node (with_tables w (begun_tables version w.tables node cpu mem)))
 
 abbrev pub remote_begin : ℕ → World → List ℕ → Option ℕ → Option ℕ → Answered
-remote_begin version w name cpu mem = on_remote w.tables name (λ n. begin_with version w n.id (given_or cpu n.cpu) (given_or mem n.mem))
+remote_begin version w name cpu mem =
+    on_remote w.tables name (λ n. begin_with version w n.id (given_or cpu n.cpu) (given_or mem n.mem))
 
 -- Beats, messages and reports.
 
 abbrev pub remote_beat : World → List ℕ → ℕ → Answered
 remote_beat w name session =
-    on_session w.tables name session (λ n. Ok (reply.Beat (w.tables.clock + 3 * w.tables.settings.heartbeat), with_tables w (after_beat w.tables n.id)))
+    let deadline = w.tables.clock + 3 * w.tables.settings.heartbeat in
+    on_session w.tables name session (λ n. Ok (reply.Beat deadline, with_tables w (after_beat w.tables n.id)))
 
 abbrev pub pulled : World → ℕ → Option Message → World
 pulled w node None = w

@@ -101,7 +101,8 @@ go_back version w s None = Err refusal.NoPrevious
 go_back version w s (Some spec) = Ok (put_service w (respecified version true spec s), s.id)
 
 abbrev pub rollback_service : ℕ → World → Option ℕ → Service → Done
-rollback_service version w asked s = elim (conflict asked s.version) [ Some r ↦ Err r | None ↦ go_back version w s s.previous ]
+rollback_service version w asked s =
+    elim (conflict asked s.version) [ Some r ↦ Err r | None ↦ go_back version w s s.previous ]
 
 abbrev pub is_attempt_of : ℕ → Attempt → Bool
 is_attempt_of service a = a.service == service

@@ -47,7 +47,15 @@ use Rattle.swarm_objects.specs.declared.views.TaskShown.{TaskShown}
 
 -- what a list of nodes shows of one
 abbrev pub shown : Node → NodeShown
-shown n = record { id = n.id; name = n.name; state = n.state; availability = n.availability; role = n.role; cpu = n.cpu; mem = n.mem }
+shown n = record {
+  id = n.id;
+  name = n.name;
+  state = n.state;
+  availability = n.availability;
+  role = n.role;
+  cpu = n.cpu;
+  mem = n.mem;
+}
 
 -- by its name, or by its id where it is gone
 abbrev pub by_name : ℕ → Option (List ℕ) → Shown
@@ -182,5 +190,6 @@ shows t (query.ListTasks (Some name)) = on_service_by t name (λ s. Ok (tasks_sh
 shows t (query.InspectNode name) = on_node t name (λ n. Ok (view.Node (node_detail n)))
 shows t (query.InspectService name) = on_service_by t name (λ s. Ok (view.Service (service_detail t s)))
 shows t (query.InspectNetwork name) = on_network_by t name (λ n. Ok (view.Network (network_detail n)))
-shows t (query.InspectTask id) = found kind.Task (wanted_by.Id id) (row_at task_id id t.tasks) (λ x. Ok (view.Task (task_detail t x)))
+shows t (query.InspectTask id) =
+    found kind.Task (wanted_by.Id id) (row_at task_id id t.tasks) (λ x. Ok (view.Task (task_detail t x)))
 shows t query.Clock = Ok (view.Clock t.clock)

@@ -47,7 +47,8 @@ is_waited_for watchers e = list_any (λ x. waits_for x e) watchers
 -- the events of an entry are kept where a watcher waits for them, and as long as one does
 abbrev pub kept_events : World → World → List Watcher → List Event
 kept_events old new [] = []
-kept_events old new (x ∷ xs) = filter (is_waited_for (x ∷ xs)) (old.events ++ changes_between (old.entries + 1) old.tables new.tables)
+kept_events old new (x ∷ xs) =
+    filter (is_waited_for (x ∷ xs)) (old.events ++ changes_between (old.entries + 1) old.tables new.tables)
 
 -- Calls.
 
@@ -55,11 +56,13 @@ abbrev pub new_watcher : ℕ → ℕ → Filter → Watcher
 new_watcher entry id f = record { id = id; filter = f; cursor = entry }
 
 abbrev pub with_watcher : ℕ → World → Filter → World
-with_watcher entry w f = record w { tables = id_taken w.tables; watchers = w.watchers ++ new_watcher entry w.tables.next_id f ∷ [] }
+with_watcher entry w f =
+    record w { tables = id_taken w.tables; watchers = w.watchers ++ new_watcher entry w.tables.next_id f ∷ [] }
 
 abbrev pub watch_begin : ℕ → World → Filter → Answered
 watch_begin entry w f =
-    unless (too_many kind.Watcher most_watchers (length w.watchers)) (reply.WatchBegun w.tables.next_id, with_watcher entry w f)
+    unless (too_many kind.Watcher most_watchers (length w.watchers))
+    (reply.WatchBegun w.tables.next_id, with_watcher entry w f)
 
 abbrev pub without_watcher : ℕ → World → World
 without_watcher id w = record w { watchers = drop_row watcher_id id w.watchers }

@@ -31,7 +31,9 @@ has_its_node t x = not (is_placed x) || is_node_and t (λ n. true) x
 
 -- a task's goal is RUNNING or COMPLETE
 abbrev pub has_a_goal : Task → Bool
-has_a_goal x = nat_lt (desired_rank desired.Ready) (desired_rank x.goal) && nat_lt (desired_rank x.goal) (desired_rank desired.Shutdown)
+has_a_goal x =
+    nat_lt (desired_rank desired.Ready) (desired_rank x.goal)
+    && nat_lt (desired_rank x.goal) (desired_rank desired.Shutdown)
 
 -- a task is COMPLETE exactly where its service is a job
 abbrev pub has_goal_of : Task → Service → Bool
@@ -47,7 +49,8 @@ is_of_its_service t x = on_row true (λ s. has_goal_of x s && has_place_of x s) 
 -- Places.
 
 abbrev pub is_closed_only : List Task → Task → Bool
-is_closed_only tasks x = is_none x.closed || not (is_some_and (is_task x.id) (newest tasks)) || not (list_any is_live tasks)
+is_closed_only tasks x =
+    is_none x.closed || not (is_some_and (is_task x.id) (newest tasks)) || not (list_any is_live tasks)
 
 -- a cause stands on an older task, or on a newest one without live tasks
 abbrev pub has_right_causes : List Task → Bool
@@ -90,7 +93,8 @@ abbrev pub same_desired : Desired → Desired → Bool
 same_desired a b = desired_rank a == desired_rank b
 
 abbrev pub executor_desires : List Executor → Assigned → Bool
-executor_desires executors a = is_row_and executor_task (λ e. same_desired e.desired a.desired && not e.gone) executors a.task
+executor_desires executors a =
+    is_row_and executor_task (λ e. same_desired e.desired a.desired && not e.gone) executors a.task
 
 -- the inbox decides where it names the task or is complete; else the executor has the desired state
 abbrev pub is_told_of : NodeAgent → Option Message → Assigned → Bool
@@ -118,15 +122,18 @@ is_to_be_taken task (Some s) = has_row assigned_task task s.tasks
 -- an executor without a task is gone, or its agent is about to be told so
 abbrev pub has_task_or_goes : World → NodeAgent → Executor → Bool
 has_task_or_goes w a e =
-    has_row task_id e.task w.tables.tasks || e.gone || on_row false (is_taken_by e.task) a.inbox || is_to_be_taken e.task (sent_of w a.node)
+    has_row task_id e.task w.tables.tasks || e.gone || on_row false (is_taken_by e.task) a.inbox
+    || is_to_be_taken e.task (sent_of w a.node)
 
 abbrev pub is_agent_sane : World → NodeAgent → Bool
 is_agent_sane w a =
-    list_all (is_behind_executor w.tables.tasks) a.executors && is_told w a && list_all (has_task_or_goes w a) a.executors
+    list_all (is_behind_executor w.tables.tasks) a.executors && is_told w a
+    && list_all (has_task_or_goes w a) a.executors
 
 -- All.
 
 abbrev pub is_sane : World → Bool
 is_sane w =
-    list_all (has_its_node w.tables) w.tables.tasks && list_all has_a_goal w.tables.tasks && list_all (is_of_its_service w.tables) w.tables.tasks
+    list_all (has_its_node w.tables) w.tables.tasks && list_all has_a_goal w.tables.tasks
+    && list_all (is_of_its_service w.tables) w.tables.tasks
     && list_all (is_service_sane w.tables) w.tables.services && list_all (is_agent_sane w) w.agents

@@ -26,7 +26,8 @@ has_room_for t n = nat_le (reserved_cpu t n.id) n.cpu && nat_le (reserved_mem t 
 -- two services hold a number of one protocol
 abbrev pub share_port : Service → Service → Bool
 share_port a b =
-    list_any (λ number. holds_port false number b) (ports_held false a) || list_any (λ number. holds_port true number b) (ports_held true a)
+    list_any (λ number. holds_port false number b) (ports_held false a)
+    || list_any (λ number. holds_port true number b) (ports_held true a)
 
 abbrev pub has_address : Task → Address → Bool
 has_address x a = list_any (same_address a) x.addresses

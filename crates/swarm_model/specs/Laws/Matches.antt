@@ -46,7 +46,8 @@ abbrev pub has_right_node : Tables → Service → ℕ → Bool
 has_right_node t s k = is_row_and node_id (λ n. wants_here s n || may_keep s n) t.nodes k
 
 abbrev pub matches_nodes : Tables → Service → Bool
-matches_nodes t s = all_nodes t (λ n. not (wants_here s n) || is_held_place t s n.id) && list_all (has_right_node t s) (held_places t s)
+matches_nodes t s =
+    all_nodes t (λ n. not (wants_here s n) || is_held_place t s n.id) && list_all (has_right_node t s) (held_places t s)
 
 -- as many places are held as are wanted
 abbrev pub matches_mode : Tables → Service → Mode → Bool
@@ -79,7 +80,9 @@ runs_well w s x = is_running x && is_node_and w.tables (runs_well_on w s x) x
 
 -- PENDING where no node admits it, and the note says why
 abbrev pub is_unplaceable : Tables → Task → Bool
-is_unplaceable t x = is_pending x.state && not (list_any (admits t x) (tested_nodes t x)) && same_note (note.Filters (refusal_counts t x)) x.note
+is_unplaceable t x =
+    is_pending x.state && not (list_any (admits t x) (tested_nodes t x))
+    && same_note (note.Filters (refusal_counts t x)) x.note
 
 abbrev pub is_open_of : Service → Bool → Bool
 is_open_of s udp = list_any (λ p. same_bool p.udp udp) (unnumbered_ports s)
@@ -89,7 +92,8 @@ abbrev pub says_exhausted : Tables → Service → Task → Note → Bool
 says_exhausted t s x note.Empty = false
 says_exhausted t s x (note.Filters counts) = false
 says_exhausted t s x (note.NoPort udp) = is_open_of s udp && is_none (free_port t udp)
-says_exhausted t s x (note.NoAddress network) = list_any (same_number network) x.template.networks && is_none (free_address t network)
+says_exhausted t s x (note.NoAddress network) =
+    list_any (same_number network) x.template.networks && is_none (free_address t network)
 
 abbrev pub is_unprovided : Tables → Service → Task → Bool
 is_unprovided t s x = is_new x.state && says_exhausted t s x x.note
@@ -101,7 +105,8 @@ is_aimed x = desired_rank x.desired == desired_rank x.goal
 
 -- the one live task of the place is clean, has its goal as desired state, and runs or names why it doesn't
 abbrev pub is_well : World → Service → Task → Bool
-is_well w s x = is_clean s x && is_aimed x && (runs_well w s x || is_unplaceable w.tables x || is_unprovided w.tables s x)
+is_well w s x =
+    is_clean s x && is_aimed x && (runs_well w s x || is_unplaceable w.tables x || is_unprovided w.tables s x)
 
 abbrev pub is_one_well : World → Service → List Task → Bool
 is_one_well w s [] = false
@@ -141,7 +146,8 @@ tasks_run_on t node = map task_id (filter (is_run_on node) t.tasks)
 -- the executors from ACCEPTED to RUNNING all run, and are one for each live task that is observed RUNNING there
 abbrev pub matches_agent : Tables → NodeAgent → Bool
 matches_agent t a =
-    list_all is_executor_running (filter is_in_hand a.executors) && pointwise same_number (tasks_in_hand a) (tasks_run_on t a.node)
+    list_all is_executor_running (filter is_in_hand a.executors)
+    && pointwise same_number (tasks_in_hand a) (tasks_run_on t a.node)
 
 abbrev pub is_matched_node : World → Node → Bool
 is_matched_node w n = not (is_ready n.state) || n.remote || is_row_and agent_node (matches_agent w.tables) w.agents n.id

@@ -46,7 +46,8 @@ is_silent_duty _ = false
 abbrev pub by_caller : ℕ → Duty → Entry
 by_caller caller d = record { by = caller; what = what.Duty d }
 
--- the law: no more than 2000 * M * M duties follow a legal history, and at most 400 * M of them other than explain and note
+-- the law: no more than 2000 * M * M duties follow a legal history, and at most 400 * M of them other than explain
+-- and note
 abbrev pub BoundLaw : Type 0
 BoundLaw =
     (h : List Entry) (ds : List Duty) → IsLegal (h ++ map (by_caller 0) ds)

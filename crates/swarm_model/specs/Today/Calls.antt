@@ -54,7 +54,8 @@ new_node version id name draft = record {
 
 -- the world with this row more, which has the next id
 abbrev pub with_node : World → Node → World
-with_node w node = record w { tables = record w.tables { next_id = w.tables.next_id + 1; nodes = w.tables.nodes ++ node ∷ [] } }
+with_node w node =
+    record w { tables = record w.tables { next_id = w.tables.next_id + 1; nodes = w.tables.nodes ++ node ∷ [] } }
 
 -- a node joins, where no other has its name and there is room for one more
 abbrev pub create_node : ℕ → World → List ℕ → NodeDraft → Option ℕ → Result (World × ℕ) Refusal
@@ -66,13 +67,18 @@ create_node version w name draft None =
 -- an operation of the entry with this number; one that can't be done yet does nothing, and no legal history has it
 abbrev pub apply_op : ℕ → World → Op → Result (World × ℕ) Refusal
 apply_op version w (CreateNode name draft) = create_node version w name draft (node_named name w.tables.nodes)
-apply_op version w (CreateService name draft) = create_service version w name draft (broken_rule draft) (service_named name w.tables.services)
+apply_op version w (CreateService name draft) =
+    create_service version w name draft (broken_rule draft) (service_named name w.tables.services)
 apply_op version w _ = Ok (w, 0)
 
 -- operations from the first to the last, each in the world that the earlier ones leave, after these ids
 abbrev pub apply_ops : ℕ → List Op → World → List ℕ → Result (World × List ℕ) Refusal
 apply_ops version [] w ids = Ok (w, ids)
-apply_ops version (op ∷ ops) w ids = elim (apply_op version w op) [ Ok done ↦ apply_ops version ops done.0 (ids ++ done.1 ∷ []) | Err refusal ↦ Err refusal ]
+apply_ops version (op ∷ ops) w ids =
+    elim (apply_op version w op) [
+      | Ok done ↦ apply_ops version ops done.0 (ids ++ done.1 ∷ [])
+      | Err refusal ↦ Err refusal
+    ]
 
 -- the new world, with one entry more than the old one
 abbrev pub counted : World → World → World
@@ -103,7 +109,8 @@ view_outcome w _ = nothing_done w
 -- what a call that becomes an entry is answered, and the world after it
 abbrev pub call_outcome : World → Call → Outcome
 call_outcome w (Txn ops) =
-    if nat_lt most_ops (length ops) then refused w (TooManyOps (length ops)) else txn_outcome w (apply_ops (w.entries + 1) ops w [])
+    if nat_lt most_ops (length ops) then refused w (TooManyOps (length ops))
+    else txn_outcome w (apply_ops (w.entries + 1) ops w [])
 call_outcome w (View query) = view_outcome w query
 call_outcome w (Settle budget) = record { reply = Tested budget (settle_answer w); after = counted w w }
 call_outcome w Halt = record { reply = HaltDone; after = record w { entries = w.entries + 1; halted = true } }

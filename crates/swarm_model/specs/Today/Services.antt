@@ -38,7 +38,8 @@ new_service version id name draft = record {
 
 -- the world with this row more, which has the next id
 abbrev pub with_service : World → Service → World
-with_service w s = record w { tables = record w.tables { next_id = w.tables.next_id + 1; services = w.tables.services ++ s ∷ [] } }
+with_service w s =
+    record w { tables = record w.tables { next_id = w.tables.next_id + 1; services = w.tables.services ++ s ∷ [] } }
 
 -- a service comes, where its draft breaks no rule, no other has its name and there is room for one more
 abbrev pub create_service : ℕ → World → List ℕ → Draft → Option SpecRule → Option ℕ → Result (World × ℕ) Refusal

@@ -54,7 +54,8 @@ ending clock e end.Reject = None
 -- before it starts
 abbrev pub early_step : ℕ → Executor → TaskState → Option Executor
 early_step clock e state.Accepted = Some (moved clock state.Preparing e)
-early_step clock e state.Preparing = at_time clock (e.since + e.workload.prepare) (moved clock (prepared e.workload.end) e)
+early_step clock e state.Preparing =
+    at_time clock (e.since + e.workload.prepare) (moved clock (prepared e.workload.end) e)
 early_step clock e state.Ready = if is_to_go e.desired then Some (moved clock state.Starting e) else None
 early_step clock e _ = None
 
@@ -78,7 +79,8 @@ is_late s = nat_le (rank state.Starting) (rank s) && nat_le (rank s) (rank state
 -- the executor after the step that is due, where one is
 abbrev pub executor_step : ℕ → Executor → Option Executor
 executor_step clock e =
-    if is_early e.state then (if wants_to_stop e then Some (moved clock state.Shutdown e) else early_step clock e e.state)
+    if is_early e.state
+    then (if wants_to_stop e then Some (moved clock state.Shutdown e) else early_step clock e e.state)
     else if is_late e.state then late clock e e.stopping
     else None
 

@@ -31,7 +31,8 @@ abbrev pub assigned_task : Assigned → ℕ
 assigned_task a = a.task
 
 abbrev pub same_assigned : Assigned → Assigned → Bool
-same_assigned a b = a.task == b.task && desired_rank a.desired == desired_rank b.desired && same_workload a.workload b.workload
+same_assigned a b =
+    a.task == b.task && desired_rank a.desired == desired_rank b.desired && same_workload a.workload b.workload
 
 -- what one of them says is sent already
 abbrev pub is_sent : List Assigned → Assigned → Bool
@@ -60,13 +61,15 @@ abbrev pub complete_message : List Assigned → Message
 complete_message due = record { complete = true; applies_to = 0; results_in = 1; changes = map assign.Update due }
 
 abbrev pub difference_message : ℕ → List AssignChange → Message
-difference_message count changes = record { complete = false; applies_to = count; results_in = count + 1; changes = changes }
+difference_message count changes =
+    record { complete = false; applies_to = count; results_in = count + 1; changes = changes }
 
 abbrev pub message_with : ℕ → List AssignChange → Option Message
 message_with count [] = None
 message_with count (c ∷ cs) = Some (difference_message count (c ∷ cs))
 
--- the first message of a session has all that is due; a later one has the difference from what was sent, where there is one
+-- the first message of a session has all that is due; a later one has the difference from what was sent, where there
+-- is one
 abbrev pub next_message : Option NodeSent → List Assigned → Option Message
 next_message None due = Some (complete_message due)
 next_message (Some s) due = message_with s.count (changes_of s.tasks due)
@@ -79,7 +82,9 @@ message_for w node = next_message (sent_of w node) (due_set w.tables node)
 
 -- after the message the node was sent what is due
 abbrev pub with_sent : World → ℕ → Message → World
-with_sent w node m = record w { sent = with_row sent_node (record { node = node; count = m.results_in; tasks = due_set w.tables node }) w.sent }
+with_sent w node m =
+    let sent : NodeSent = record { node = node; count = m.results_in; tasks = due_set w.tables node } in
+    record w { sent = with_row sent_node sent w.sent }
 
 -- Applying a message.
 
@@ -104,7 +109,8 @@ gone_executor e = record e { gone = true }
 -- an executor that is there gets its desired state, and another one comes
 abbrev pub updated : ℕ → List Executor → Assigned → List Executor
 updated clock executors a =
-    if has_row executor_task a.task executors then change_executor a.task (λ e. record e { desired = a.desired }) executors
+    if has_row executor_task a.task executors
+    then change_executor a.task (λ e. record e { desired = a.desired }) executors
     else with_row executor_task (new_executor clock a) executors
 
 abbrev pub apply_change : ℕ → List Executor → AssignChange → List Executor

@@ -85,7 +85,8 @@ abbrev pub begun : NodeAgent → NodeAgent
 begun a = record a { inbox = None; applied = 0 }
 
 abbrev pub after_register : ℕ → World → ℕ → World
-after_register version w node = change_agent node begun (without_sent node (with_tables w (registered version w.tables node)))
+after_register version w node =
+    change_agent node begun (without_sent node (with_tables w (registered version w.tables node)))
 
 -- the session lasts for three heartbeats from now
 abbrev pub beaten : Tables → NodeSession → NodeSession

@@ -39,7 +39,8 @@ abbrev pub is_fresh : Tables → Task → Bool
 is_fresh t x = is_new x.state && is_wanted x && has_service t x
 
 abbrev pub gets_address : Tables → Task → Bool
-gets_address t x = is_fresh t x && is_service_and t has_numbered_ports x && list_all (has_free_address t) x.template.networks
+gets_address t x =
+    is_fresh t x && is_service_and t has_numbered_ports x && list_all (has_free_address t) x.template.networks
 
 -- Why a task gets none.
 

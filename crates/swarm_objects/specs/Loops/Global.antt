@@ -41,7 +41,8 @@ come_duties t s mode.Global = duty_where (is_missing t s) (λ n. duty.GlobalCrea
 come_duties t s (mode.Job concurrent total) = []
 
 abbrev pub global : Tables → List Duty
-global t = flat_map (λ s. leave_duties t s s.spec.mode) t.services ++ flat_map (λ s. come_duties t s s.spec.mode) t.services
+global t =
+    flat_map (λ s. leave_duties t s s.spec.mode) t.services ++ flat_map (λ s. come_duties t s s.spec.mode) t.services
 
 -- What they do.
 

@@ -26,7 +26,8 @@ is_old t x = is_service_and t (is_old_of x) x
 abbrev pub has_old : Tables → Service → Bool
 has_old t s = list_any (λ x. is_of s.id x && is_old_of x s) t.tasks
 
--- a new task in the least slot from 0 that isn't held, while fewer run than may and fewer slots are held than there are tasks
+-- a new task in the least slot from 0 that isn't held, while fewer run than may and fewer slots are held than there
+-- are tasks
 abbrev pub next_duty : Tables → Service → Mode → List Duty
 next_duty t s (mode.Replicated replicas) = []
 next_duty t s mode.Global = []

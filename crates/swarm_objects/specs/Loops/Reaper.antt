@@ -37,7 +37,8 @@ abbrev pub is_trimmed : Tables → Task → Bool
 is_trimmed t x = is_service_and t (is_trimmed_in t x) x
 
 abbrev pub reaper : Tables → List Duty
-reaper t = duty_where is_removable (λ x. duty.Delete x.id) t.tasks ++ duty_where (is_trimmed t) (λ x. duty.Trim x.id) t.tasks
+reaper t =
+    duty_where is_removable (λ x. duty.Delete x.id) t.tasks ++ duty_where (is_trimmed t) (λ x. duty.Trim x.id) t.tasks
 
 -- What they do.
 

@@ -47,7 +47,8 @@ first_to_go t s = least_by (down_cmp t s) None (held_places t s)
 
 abbrev pub down_duty : Tables → Service → Mode → List Duty
 down_duty t s (mode.Replicated replicas) =
-    if nat_lt replicas (length (held_places t s)) then option_to_list (option_map (duty.Down s.id) (first_to_go t s)) else []
+    if nat_lt replicas (length (held_places t s))
+    then option_to_list (option_map (duty.Down s.id) (first_to_go t s)) else []
 down_duty t s mode.Global = []
 down_duty t s (mode.Job concurrent total) = []
 

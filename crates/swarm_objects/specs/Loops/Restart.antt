@@ -42,7 +42,8 @@ abbrev pub is_held_up : Tables → Task → Bool
 is_held_up t x = list_any (λ y. is_beside x y && not (y.id == x.id) && is_in_the_way t y) t.tasks
 
 abbrev pub wants_raise : Tables → Task → Bool
-wants_raise t x = is_to_wait x && not (has_ended x) && nat_le x.raise_at t.clock && is_current t x && not (is_held_up t x)
+wants_raise t x =
+    is_to_wait x && not (has_ended x) && nat_le x.raise_at t.clock && is_current t x && not (is_held_up t x)
 
 abbrev pub restart : Tables → List Duty
 restart t =
@@ -68,16 +69,20 @@ with_attempt t s p = record t { attempts = t.attempts ++ new_attempt t s p ∷ [
 
 -- the task that comes in its place waits for the delay
 abbrev pub next_task : ℕ → Tables → Service → Place → Task
-next_task version t s p = record (new_task version t s p desired.Ready) { raise_at = t.clock + s.spec.template.restart.delay }
+next_task version t s p =
+    record (new_task version t s p desired.Ready) { raise_at = t.clock + s.spec.template.restart.delay }
 
 -- a new task comes, or the place's newest task gets the cause
 abbrev pub by_policy : ℕ → Tables → Service → Place → Option Closed → Tables
 by_policy version t s p None = with_task (with_attempt t s p) (next_task version t s p)
-by_policy version t s p (Some cause) = on_row t (λ y. change_task y.id (closed_by version cause) t) (newest (tasks_of_place s p t.tasks))
+by_policy version t s p (Some cause) =
+    on_row t (λ y. change_task y.id (closed_by version cause) t) (newest (tasks_of_place s p t.tasks))
 
 -- the task is to stop; where no other live task is in its place, the place gets a new task or is closed
 abbrev pub restarted : ℕ → Tables → Task → Service → Tables
-restarted version t x s = if has_other t s x then shut version x.id t else by_policy version (shut version x.id t) s x.place (no_restart t s x)
+restarted version t x s =
+    if has_other t s x then shut version x.id t
+    else by_policy version (shut version x.id t) s x.place (no_restart t s x)
 
 abbrev pub after_restart : ℕ → Tables → ℕ → Tables
 after_restart version t id = on_task t id (λ x. on_service t x.service (restarted version t x))

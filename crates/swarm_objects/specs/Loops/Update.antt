@@ -40,7 +40,8 @@ is_to_start t s = has_dirty_place t s && not (is_some_and (is_of_version s) s.ru
 -- a clean live task of the place runs, and a dirty one is live
 abbrev pub is_to_swap : Tables → Service → ℕ → Bool
 is_to_swap t s k =
-    list_any (λ x. is_live_clean s x && is_running x) (place_tasks t s k) && list_any (is_live_dirty s) (place_tasks t s k)
+    list_any (λ x. is_live_clean s x && is_running x) (place_tasks t s k)
+    && list_any (is_live_dirty s) (place_tasks t s k)
 
 -- the place is dirty, without a clean live task
 abbrev pub is_to_replace : Tables → Service → ℕ → Bool
@@ -61,7 +62,8 @@ abbrev pub open_duties : Tables → Service → UpdateRun → List Duty
 open_duties t s run =
     when (fails t s run) (duty.Fail s.id)
     ++ places_where (is_of_version s run) (is_to_swap t s) (duty.Swap s.id) (place_numbers t s)
-    ++ places_where (is_of_version s run && lets_replace t s run) (is_to_replace t s) (duty.Replace s.id) (place_numbers t s)
+    ++ places_where (is_of_version s run && lets_replace t s run)
+    (is_to_replace t s) (duty.Replace s.id) (place_numbers t s)
     ++ when (is_to_finish t s run) (duty.Finish s.id)
 
 abbrev pub run_duties : Tables → Service → Option UpdateRun → List Duty
@@ -145,7 +147,8 @@ may_roll_back s = is_rollback s.spec.update.action && is_some_and (λ run. is_up
 
 abbrev pub swap_place : ℕ → Tables → ℕ → Service → Tables
 swap_place version t k s =
-    change_where (λ x. is_in_place s (place_at s.spec.mode k) x && is_live_dirty s x) (wanted version desired.Shutdown) t
+    change_where (λ x. is_in_place s (place_at s.spec.mode k) x && is_live_dirty s x)
+    (wanted version desired.Shutdown) t
 
 -- the item takes the place of the one with its place
 abbrev pub with_item : Replaced → List Replaced → List Replaced
@@ -163,12 +166,14 @@ live_of_place s k x = is_in_place s (place_at s.spec.mode k) x && is_live x
 
 -- stop-first: the live tasks are to stop, and the new one waits; start-first: the new one goes ahead
 abbrev pub by_order : ℕ → Tables → Service → ℕ → UpdateOrder → Tables
-by_order version t s k order.StopFirst = with_new version desired.Ready (change_where (live_of_place s k) (wanted version desired.Shutdown) t) s k
+by_order version t s k order.StopFirst =
+    with_new version desired.Ready (change_where (live_of_place s k) (wanted version desired.Shutdown) t) s k
 by_order version t s k order.StartFirst = with_new version (goal_of s.spec.mode) t s k
 
 abbrev pub replace_place : ℕ → Tables → ℕ → Service → Tables
 replace_place version t k s =
-    change_service s.id (replaced_in version (item_of t (place_at s.spec.mode k))) (by_order version t s k s.spec.update.order)
+    change_service s.id (replaced_in version (item_of t (place_at s.spec.mode k)))
+    (by_order version t s k s.spec.update.order)
 
 -- Each duty on its service, where that is there.
 

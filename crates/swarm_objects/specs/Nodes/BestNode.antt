@@ -29,7 +29,8 @@ abbrev pub spread_cmp : Tables → ℕ → List Key → List Key → Node → No
 spread_cmp t service earlier [] a b = Equal
 spread_cmp t service earlier (k ∷ ks) a b =
     ordering_then (nat_cmp (branch_load t service (earlier ++ k ∷ []) a) (branch_load t service (earlier ++ k ∷ []) b))
-    (ordering_then (slice_cmp nat_cmp (key_value a k) (key_value b k)) (spread_cmp t service (earlier ++ k ∷ []) ks a b))
+    (ordering_then (slice_cmp nat_cmp (key_value a k) (key_value b k))
+    (spread_cmp t service (earlier ++ k ∷ []) ks a b))
 
 -- the live tasks of all services from ASSIGNED to RUNNING on the node
 abbrev pub load : Tables → ℕ → ℕ

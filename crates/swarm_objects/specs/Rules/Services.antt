@@ -48,7 +48,8 @@ has_wrong_exit (end.Exit time code) = is_wrong_work_time time
 has_wrong_exit end.Reject = false
 
 abbrev pub has_wrong_work : Workload → Bool
-has_wrong_work w = is_wrong_work_time w.prepare || is_wrong_work_time w.start || is_wrong_work_time w.stop || has_wrong_exit w.end
+has_wrong_work w =
+    is_wrong_work_time w.prepare || is_wrong_work_time w.start || is_wrong_work_time w.stop || has_wrong_exit w.end
 
 -- a time that is too long, or one of the workload that is 0
 abbrev pub has_wrong_time : ServiceSpec → Bool

@@ -39,7 +39,8 @@ abbrev pub numbers_given : Bool → List PortNumber → List ℕ
 numbers_given udp numbers = map (λ n. n.number) (filter (λ n. same_bool n.udp udp) numbers)
 
 abbrev pub ports_held : Bool → Service → List ℕ
-ports_held udp s = numbers_named udp s.spec.ports ++ numbers_named udp (ports_of s.previous) ++ numbers_given udp s.numbers
+ports_held udp s =
+    numbers_named udp s.spec.ports ++ numbers_named udp (ports_of s.previous) ++ numbers_given udp s.numbers
 
 -- the least number of the protocol that no service holds
 abbrev pub free_port : Tables → Bool → Option ℕ

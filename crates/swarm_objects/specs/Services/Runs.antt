@@ -48,7 +48,9 @@ counts_as_failure _ = false
 
 -- a task of the run's version that was rejected, completed or failed within the monitor time
 abbrev pub is_failure : Service → UpdateRun → Task → Bool
-is_failure s run x = is_of s.id x && x.born == run.version && counts_as_failure x.state && nat_lt x.since (x.created + s.spec.update.monitor)
+is_failure s run x =
+    is_of s.id x && x.born == run.version && counts_as_failure x.state
+    && nat_lt x.since (x.created + s.spec.update.monitor)
 
 abbrev pub failures : Tables → Service → UpdateRun → ℕ
 failures t s run = count_by (is_failure s run) t.tasks
@@ -69,7 +71,8 @@ fails t s run = is_present s run && not (goes_on s.spec.update.action) && is_exc
 
 -- a clean live task that is below RUNNING, or RUNNING for less than the delay
 abbrev pub is_flying : Tables → Service → Task → Bool
-is_flying t s x = is_live_clean s x && (is_below_running x || (is_running x && nat_lt t.clock (x.since + s.spec.update.delay)))
+is_flying t s x =
+    is_live_clean s x && (is_below_running x || (is_running x && nat_lt t.clock (x.since + s.spec.update.delay)))
 
 -- such tasks of a place that the run replaced
 abbrev pub flying_tasks : Tables → Service → Replaced → List Task

@@ -36,7 +36,8 @@ closes t = is_some t.closed && nat_lt (desired_rank t.desired) (desired_rank des
 
 -- a live task stands in the place, or its newest task closes it
 abbrev pub is_held : Service → Place → List Task → Bool
-is_held s p tasks = list_any is_live (tasks_of_place s p tasks) || is_some_and closes (newest (tasks_of_place s p tasks))
+is_held s p tasks =
+    list_any is_live (tasks_of_place s p tasks) || is_some_and closes (newest (tasks_of_place s p tasks))
 
 -- the number of the slot or of the node
 abbrev pub place_number : Place → ℕ

@@ -14,7 +14,8 @@ use Rattle.swarm_objects.specs.declared.templates.RestartCondition.TheVariants a
 
 -- the attempts that count
 abbrev pub attempts_made : Tables → Service → Place → ℕ
-attempts_made t s p = count_by (is_kept_attempt t.clock s.id p s.template_version s.spec.template.restart.window) t.attempts
+attempts_made t s p =
+    count_by (is_kept_attempt t.clock s.id p s.template_version s.spec.template.restart.window) t.attempts
 
 abbrev pub forbids : RestartCondition → Bool → Bool
 forbids condition.Never complete = true
@@ -30,5 +31,6 @@ abbrev pub no_restart : Tables → Service → Task → Option Closed
 no_restart t s x =
     if is_job s.spec.mode && is_complete x.state then Some closed.Done
     else if forbids s.spec.template.restart.condition (is_complete x.state) then Some closed.Condition
-    else if reaches (attempts_made t s x.place) s.spec.template.restart.max_attempts then Some (closed.Attempts (attempts_made t s x.place))
+    else if reaches (attempts_made t s x.place) s.spec.template.restart.max_attempts
+    then Some (closed.Attempts (attempts_made t s x.place))
     else None

@@ -19,10 +19,13 @@ has_number numbers p = is_some p.number || list_any (λ n. n.target == p.target 
 abbrev pub has_numbered_ports : Service → Bool
 has_numbered_ports s = list_all (has_number s.numbers) s.spec.ports
 
--- the task can get its addresses: its service is there, with a number for each port; no network gives addresses yet, so it
+-- the task can get its addresses: its service is there, with a number for each port; no network gives addresses yet,
+-- so it
 -- must name none
 abbrev pub wants_address : Tables → Task → Bool
-wants_address t x = is_new x.state && is_wanted x && is_some_and has_numbered_ports (row_at service_id x.service t.services) && length x.template.networks == 0
+wants_address t x =
+    is_new x.state && is_wanted x && is_some_and has_numbered_ports (row_at service_id x.service t.services)
+    && length x.template.networks == 0
 
 abbrev pub allocator : Tables → List Duty
 allocator t = map (λ x. duty.Address x.id) (filter (wants_address t) t.tasks)

@@ -50,7 +50,8 @@ abbrev pub with_new_task : ℕ → Tables → Place → Option Service → Table
 with_new_task version t place None = t
 with_new_task version t place (Some s) = with_task t (new_task version t s place desired.Running)
 
--- the tables after the duty, which is the entry with this number; a duty that isn't written yet is never due, and does nothing
+-- the tables after the duty, which is the entry with this number; a duty that isn't written yet is never due, and
+-- does nothing
 abbrev pub after_duty : ℕ → Tables → Duty → Tables
 after_duty version t (duty.ReplicatedCreate s k) = with_new_task version t (Slot k) (row_at service_id s t.services)
 after_duty version t (duty.Address x) = change_task x (addressed version t.clock) t

@@ -47,7 +47,8 @@ refusals t x filter = count_by (refuses t x filter) t.nodes
 
 -- for each filter, in order
 abbrev pub refusal_counts : Tables → Task → List ℕ
-refusal_counts t x = refusals t x 0 ∷ refusals t x 1 ∷ refusals t x 2 ∷ refusals t x 3 ∷ refusals t x 4 ∷ refusals t x 5 ∷ []
+refusal_counts t x =
+    refusals t x 0 ∷ refusals t x 1 ∷ refusals t x 2 ∷ refusals t x 3 ∷ refusals t x 4 ∷ refusals t x 5 ∷ []
 
 abbrev pub admits : Tables → Task → Node → Bool
 admits t x n = is_tested_on x.place n.id && is_none (refused_by t n)
