@@ -5,7 +5,7 @@ use Rattle.std.specs.Option.{option_map, option_or}
 use Rattle.std.specs.Str.{bytes_eq, str_to_ascii_lowercase}
 use Rattle.swarm_objects.specs.declared.templates.Key.{Key}
 use Rattle.swarm_objects.specs.declared.templates.Key.TheVariants as key
-use Rattle.swarm_filters.specs.Grammar.{is_name}
+use Rattle.swarm_objects.specs.Names.{is_name}
 
 -- the key that a word in small letters is, of those without a name
 abbrev pub fixed_key : List ℕ → Option Key

@@ -7,7 +7,7 @@ use Rattle.std.specs.Str.{bytes_eq}
 use Rattle.swarm_objects.specs.declared.templates.Key.{Key}
 use Rattle.swarm_objects.specs.declared.templates.Key.TheVariants as key
 use Rattle.swarm_objects.specs.declared.templates.Constraint.{Constraint}
-use Rattle.swarm_filters.specs.Grammar.{is_name, is_value}
+use Rattle.swarm_objects.specs.Names.{is_name, is_value}
 
 -- what was read: spaces; a key's first bytes, in small letters; a label of the node or, where true, of the engine, with a
 -- name's first bytes; a key and spaces; half of a sign; a sign and spaces; a value's first bytes; a constraint and a space
