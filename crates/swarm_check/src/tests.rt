@@ -3,8 +3,8 @@ use crate::{check_network, check_node, check_resources, check_service, check_set
 use std::alloc::Global;
 use std::test::Fail;
 use swarm_objects::{
-    Availability, Constraint, Draft, Duplicate, End, Key, Labels, List, Mode, Ms, Name, NoMemory, Node, NodeRole, NodeState,
-    Platform, Port, Settings, SpecRule, add,
+    Availability, Constraint, Draft, Duplicate, End, Key, Labels, List, Mode, Ms, Name, NoMemory,
+    Node, NodeRole, NodeState, Platform, Port, Settings, SpecRule, add,
 };
 
 const DAY: Ms = 86_400_000;

@@ -1,5 +1,6 @@
 -- The form of a constraint, and where a text leaves it.
-use Rattle.std.specs.Prelude.{◌≡◌, ◌↔◌, Option, Some, ℕ, ◌+◌, ◌<◌, ◌≤◌, ◌==◌, List, ◌++◌, length, take, codes, Bool, true, false}
+use Rattle.std.specs.Prelude.{◌≡◌, ◌↔◌, Option, Some, ℕ, ◌+◌, ◌<◌, ◌≤◌, ◌==◌, List, ◌++◌, length, take, codes, Bool}
+use Rattle.std.specs.Prelude.{true, false}
 use Rattle.std.specs.Prelude.{IsTrue}
 use Rattle.std.specs.List.{list_all}
 use Rattle.std.specs.Str.{str_to_ascii_lowercase}
@@ -20,7 +21,8 @@ Spells text word = str_to_ascii_lowercase text ≡ word
 
 -- the text is this prefix, in letters of either case, and then this very name
 abbrev pub SpellsLabel : List ℕ → List ℕ → List ℕ → Type 0
-SpellsLabel text prefix name = (front : List ℕ) × (Spells front prefix × ((text ≡ front ++ name) × IsTrue (is_name name)))
+SpellsLabel text prefix name =
+    (front : List ℕ) × (Spells front prefix × ((text ≡ front ++ name) × IsTrue (is_name name)))
 
 abbrev pub IsKey : List ℕ → Key → Type 0
 IsKey text key.NodeId = Spells text (codes "node.id")

@@ -20,11 +20,16 @@ fixed_key low =
 -- the name behind the prefix, where the text is that prefix, in letters of either case, and then a name
 abbrev pub name_behind : List ℕ → List ℕ → Option (List ℕ)
 name_behind prefix text =
-    if starts_with nat_eq (str_to_ascii_lowercase text) prefix && is_name (drop (length prefix) text) then Some (drop (length prefix) text) else None
+    if starts_with nat_eq (str_to_ascii_lowercase text) prefix && is_name (drop (length prefix) text)
+    then Some (drop (length prefix) text)
+    else None
 
 -- the label that a text is
 abbrev pub label_of : List ℕ → Option Key
-label_of text = option_or (option_map key.Label (name_behind (codes "node.labels.") text)) (option_map key.Engine (name_behind (codes "engine.labels.") text))
+label_of text =
+    option_or
+      (option_map key.Label (name_behind (codes "node.labels.") text))
+      (option_map key.Engine (name_behind (codes "engine.labels.") text))
 
 -- the key that a text is, where it is one
 abbrev pub key_of : List ℕ → Option Key

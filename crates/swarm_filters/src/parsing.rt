@@ -145,7 +145,9 @@ fn value_step(text: &[u8], place: usize, parts: Parts) -> Option<State>
     requires end { parts.value.end ≡ place }
     ensures shows {
         option_shown text.now (place + 1) result
-            ≡ step (shown text.now place (InValue parts.found parts.equal parts.value.from)) (slice_index text.now place)
+            ≡ step
+                (shown text.now place (InValue parts.found parts.equal parts.value.from))
+                (slice_index text.now place)
     }
     ensures fits { OptionFits (place + 1) result }
 {

@@ -23,7 +23,7 @@ ascii : (xs : List ℕ) → list_all is_name_byte xs ≡ true → IsAscii xs
 ascii [] e = IsAscii-nil
 ascii (x ∷ xs) e =
     IsAscii-cons x xs (byte x (first (is_name_byte x) (list_all is_name_byte xs) e))
-      (ascii xs (second (is_name_byte x) (list_all is_name_byte xs) e))
+    (ascii xs (second (is_name_byte x) (list_all is_name_byte xs) e))
 
 pub IsUtf8-value : (bytes : List ℕ) → IsTrue (is_value bytes) → IsUtf8 bytes
 IsUtf8-value bytes e = IsUtf8-from_ascii bytes (ascii bytes (second _ (list_all is_name_byte bytes) e))

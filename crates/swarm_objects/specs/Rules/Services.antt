@@ -1,5 +1,6 @@
 -- The rules of services, in the order in which they are tested.
-use Rattle.std.specs.Prelude.{Bool, false, ◌||◌, List, [], ◌∷◌, nat_lt, ◌==◌, ℕ, length, Option, Some, None, ◌&&◌, true, not, ◌++◌, find}
+use Rattle.std.specs.Prelude.{Bool, false, ◌||◌, List, [], ◌∷◌, nat_lt, ◌==◌, ℕ, length, Option, Some, None, ◌&&◌}
+use Rattle.std.specs.Prelude.{true, not, ◌++◌, find}
 use Rattle.std.specs.List.{list_any}
 use Rattle.std.specs.Str.{bytes_eq}
 use Rattle.swarm_objects.specs.Limits.{most_replicas, longest_time, most_cpu, most_mem, most_items, most_ratio}
@@ -48,7 +49,8 @@ has_wrong_exit (end.Exit time code) = is_wrong_work_time time
 has_wrong_exit end.Reject = false
 
 abbrev pub has_wrong_work : Workload → Bool
-has_wrong_work w = is_wrong_work_time w.prepare || is_wrong_work_time w.start || is_wrong_work_time w.stop || has_wrong_exit w.end
+has_wrong_work w =
+    is_wrong_work_time w.prepare || is_wrong_work_time w.start || is_wrong_work_time w.stop || has_wrong_exit w.end
 
 -- a time that is too long, or one of the workload that is 0
 abbrev pub has_wrong_time : ServiceSpec → Bool
