@@ -16,7 +16,7 @@ pub fn check_node(node: &Node) -> Result<(), SpecRule>
     ensures { result_err result ≡ find (node_breaks node.now) node_rules }
 {
     check_resources(node.cpu, node.mem)?;
-    if node.labels.as_slice().len() > MOST_ITEMS || node.engine.as_slice().len() > MOST_ITEMS {
+    if node.labels.len() > MOST_ITEMS || node.engine.len() > MOST_ITEMS {
         return Err(SpecRule::Count);
     }
     Ok(())

@@ -126,12 +126,12 @@ fn has_too_many_items(draft: &Draft) -> bool
     ensures { result ≡ has_too_many_items draft.now }
 {
     let template = &draft.spec.template;
-    template.constraints.as_slice().len() > MOST_ITEMS
-        || template.spread.as_slice().len() > MOST_ITEMS
-        || template.platforms.as_slice().len() > MOST_ITEMS
-        || draft.networks.as_slice().len() > MOST_ITEMS
-        || draft.spec.ports.as_slice().len() > MOST_ITEMS
-        || template.host_ports.as_slice().len() > MOST_ITEMS
+    template.constraints.len() > MOST_ITEMS
+        || template.spread.len() > MOST_ITEMS
+        || template.platforms.len() > MOST_ITEMS
+        || draft.networks.len() > MOST_ITEMS
+        || draft.spec.ports.len() > MOST_ITEMS
+        || template.host_ports.len() > MOST_ITEMS
 }
 
 fn is_among(name: &Name, names: &[Name]) -> bool

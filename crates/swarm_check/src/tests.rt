@@ -3,63 +3,17 @@ use crate::{check_network, check_node, check_resources, check_service, check_set
 use std::alloc::Global;
 use std::test::Fail;
 use swarm_objects::{
-    Availability, Constraint, Draft, Duplicate, End, FailureAction, Key, Labels, List, Mode, Ms,
-    Name, NoMemory, Node, NodeRole, NodeState, Platform, Port, RestartCondition, RestartPolicy,
-    ServiceSpec, Settings, SpecRule, Template, UpdateConfig, UpdateOrder, Workload, add,
+    Availability, Constraint, Draft, Duplicate, End, Key, Labels, List, Mode, Ms, Name, NoMemory,
+    Node, NodeRole, NodeState, Platform, Port, Settings, SpecRule, add,
 };
 
 const DAY: Ms = 86_400_000;
 
 const MOST_MEM: u64 = 1_152_921_504_606_846_976;
 
-fn template(alloc: Global) -> Template {
-    Template {
-        workload: Workload {
-            prepare: 1,
-            start: 1,
-            stop: 1,
-            end: End::Never,
-        },
-        cpu: 0,
-        mem: 0,
-        constraints: List::new(alloc),
-        spread: List::new(alloc),
-        platforms: List::new(alloc),
-        max_replicas: 0,
-        networks: List::new(alloc),
-        host_ports: List::new(alloc),
-        restart: RestartPolicy {
-            condition: RestartCondition::Any,
-            delay: 5_000,
-            max_attempts: 0,
-            window: 0,
-        },
-    }
-}
-
-// A draft that breaks no rule.
-fn draft(alloc: Global) -> Draft {
-    Draft {
-        spec: ServiceSpec {
-            mode: Mode::Replicated(1),
-            template: template(alloc),
-            ports: List::new(alloc),
-            update: UpdateConfig {
-                parallelism: 1,
-                delay: 0,
-                monitor: 5_000,
-                action: FailureAction::Pause,
-                ratio: 0,
-                order: UpdateOrder::StopFirst,
-            },
-        },
-        networks: List::new(alloc),
-    }
-}
-
 // The rule that a draft with this mode breaks.
 fn mode_rule(alloc: Global, mode: Mode) -> Option<SpecRule> {
-    let mut draft = draft(alloc);
+    let mut draft = Draft::usual(alloc);
     draft.spec.mode = mode;
     check_service(&draft).err()
 }
@@ -93,7 +47,7 @@ fn empty_jobs(rt: HostRuntime) {
 
 // The rule that a draft breaks whose tasks take so long to prepare, to start and to stop.
 fn work_rule(alloc: Global, prepare: Ms, start: Ms, stop: Ms) -> Option<SpecRule> {
-    let mut draft = draft(alloc);
+    let mut draft = Draft::usual(alloc);
     draft.spec.template.workload = Workload {
         prepare,
         start,
@@ -118,7 +72,7 @@ fn times_of_work(rt: HostRuntime) {
 
 // The rule that a draft breaks whose tasks exit after so long.
 fn exit_rule(alloc: Global, time: Ms) -> Option<SpecRule> {
-    let mut draft = draft(alloc);
+    let mut draft = Draft::usual(alloc);
     draft.spec.template.workload.end = End::Exit(time, 255);
     check_service(&draft).err()
 }
@@ -134,7 +88,7 @@ fn times_of_exits(rt: HostRuntime) {
 
 // The rule that a draft breaks with this delay and window of restarts.
 fn restart_rule(alloc: Global, delay: Ms, window: Ms) -> Option<SpecRule> {
-    let mut draft = draft(alloc);
+    let mut draft = Draft::usual(alloc);
     draft.spec.template.restart.delay = delay;
     draft.spec.template.restart.window = window;
     check_service(&draft).err()
@@ -151,7 +105,7 @@ fn times_of_restarts(rt: HostRuntime) {
 
 // The rule that a draft breaks with this delay, monitor time and ratio of updates.
 fn update_rule(alloc: Global, delay: Ms, monitor: Ms, ratio: u64) -> Option<SpecRule> {
-    let mut draft = draft(alloc);
+    let mut draft = Draft::usual(alloc);
     draft.spec.update.delay = delay;
     draft.spec.update.monitor = monitor;
     draft.spec.update.ratio = ratio;
@@ -170,7 +124,7 @@ fn times_and_ratios_of_updates(rt: HostRuntime) {
 
 // The rule that a draft with this reservation breaks.
 fn reservation_rule(alloc: Global, cpu: u64, mem: u64) -> Option<SpecRule> {
-    let mut draft = draft(alloc);
+    let mut draft = Draft::usual(alloc);
     draft.spec.template.cpu = cpu;
     draft.spec.template.mem = mem;
     check_service(&draft).err()
@@ -247,7 +201,7 @@ fn choice_rule(
         equal: true,
         value: Name::new(alloc, "eu")?,
     };
-    let mut draft = draft(alloc);
+    let mut draft = Draft::usual(alloc);
     draft.spec.template.constraints = copies(alloc, &constraint, constraints)?;
     draft.spec.template.spread = copies(alloc, &zone(alloc)?, spread)?;
     draft.spec.template.platforms = some_platforms(alloc, platforms)?;
@@ -272,7 +226,7 @@ fn reach_rule(
     ingress: u16,
     hosts: u16,
 ) -> Result<Option<SpecRule>, NoMemory> {
-    let mut draft = draft(alloc);
+    let mut draft = Draft::usual(alloc);
     draft.networks = some_names(alloc, networks)?;
     draft.spec.ports = some_ports(alloc, ingress)?;
     draft.spec.template.host_ports = some_ports(alloc, hosts)?;
@@ -292,7 +246,7 @@ fn counts_of_networks_and_ports(rt: HostRuntime) -> Result<(), Fail> {
 
 // The rule that a draft breaks that names two networks.
 fn networks_rule(alloc: Global, one: &str, two: &str) -> Result<Option<SpecRule>, NoMemory> {
-    let mut draft = draft(alloc);
+    let mut draft = Draft::usual(alloc);
     add(&mut draft.networks, Name::new(alloc, one)?)?;
     add(&mut draft.networks, Name::new(alloc, "middle")?)?;
     add(&mut draft.networks, Name::new(alloc, two)?)?;
@@ -328,7 +282,7 @@ fn udp(target: u16, number: u16) -> Port {
 
 // The rule that a draft with these ingress ports breaks.
 fn ingress_rule(alloc: Global, one: Port, two: Port) -> Result<Option<SpecRule>, NoMemory> {
-    let mut draft = draft(alloc);
+    let mut draft = Draft::usual(alloc);
     add(&mut draft.spec.ports, one)?;
     add(&mut draft.spec.ports, two)?;
     Ok(check_service(&draft).err())
@@ -336,7 +290,7 @@ fn ingress_rule(alloc: Global, one: Port, two: Port) -> Result<Option<SpecRule>,
 
 // The rule that a draft with these host ports breaks.
 fn hosts_rule(alloc: Global, one: Port, two: Port) -> Result<Option<SpecRule>, NoMemory> {
-    let mut draft = draft(alloc);
+    let mut draft = Draft::usual(alloc);
     add(&mut draft.spec.template.host_ports, one)?;
     add(&mut draft.spec.template.host_ports, two)?;
     Ok(check_service(&draft).err())
@@ -395,7 +349,7 @@ fn ports_of_zero(rt: HostRuntime) -> Result<(), Fail> {
 
 // The rule that a draft breaks that prefers this key.
 fn spread_rule(alloc: Global, key: Key) -> Result<Option<SpecRule>, NoMemory> {
-    let mut draft = draft(alloc);
+    let mut draft = Draft::usual(alloc);
     add(&mut draft.spec.template.spread, zone(alloc)?)?;
     add(&mut draft.spec.template.spread, key)?;
     Ok(check_service(&draft).err())
@@ -420,7 +374,7 @@ fn spread_keys(rt: HostRuntime) -> Result<(), Fail> {
 
 // A draft that breaks all eight rules.
 fn worst_draft(alloc: Global) -> Result<Draft, NoMemory> {
-    let mut draft = draft(alloc);
+    let mut draft = Draft::usual(alloc);
     draft.spec.mode = Mode::Job {
         concurrent: 0,
         total: 10_001,

@@ -10,7 +10,8 @@ use Rattle.std.proofs.lemmas.List.{length-map, map-append, take-append-drop, tak
 use Rattle.std.proofs.lemmas.Slice.Eq.{bytes_eq-Decides}
 use Rattle.swarm_objects.specs.declared.templates.Key.{Key}
 use Rattle.swarm_objects.specs.declared.templates.Key.TheVariants as key
-use Rattle.swarm_filters.specs.Grammar.{is_name, IsKey, SpellsLabel, HoldsExactly}
+use Rattle.swarm_filters.specs.Grammar.{IsKey, SpellsLabel, HoldsExactly}
+use Rattle.swarm_objects.specs.Names.{is_name}
 use Rattle.swarm_filters.specs.Keys.{fixed_key, name_behind, label_of, key_of}
 use Rattle.swarm_filters.proofs.Wholes.{first_true, second_true}
 

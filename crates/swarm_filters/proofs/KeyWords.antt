@@ -11,7 +11,7 @@ use Rattle.std.proofs.lemmas.Slice.Eq.{bytes_eq-Decides}
 use Rattle.swarm_objects.specs.declared.templates.Key.{Key}
 use Rattle.swarm_objects.specs.declared.templates.Key.TheVariants as key
 use Rattle.swarm_objects.specs.declared.templates.Constraint.{Constraint}
-use Rattle.swarm_filters.specs.Grammar.{is_name, is_value}
+use Rattle.swarm_objects.specs.Names.{is_name, is_value}
 use Rattle.swarm_filters.specs.Machine.{Reading, in_key, in_label, after_key, in_value, constraint_with, label_key, key_words, word_begun}
 use Rattle.swarm_filters.proofs.Suffixes.{InKey, KeyTail, Spelling, AfterKey, Suffix, at, same, never}
 

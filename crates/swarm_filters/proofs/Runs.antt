@@ -6,7 +6,8 @@ use Rattle.std.proofs.lemmas.List.{append-nil}
 use Rattle.swarm_objects.specs.declared.templates.Key.{Key}
 use Rattle.swarm_objects.specs.declared.templates.Key.TheVariants as key
 use Rattle.swarm_objects.specs.declared.templates.Constraint.{Constraint}
-use Rattle.swarm_filters.specs.Grammar.{is_value, is_name, IsKey, sign_of, IsConstraint}
+use Rattle.swarm_filters.specs.Grammar.{IsKey, sign_of, IsConstraint}
+use Rattle.swarm_objects.specs.Names.{is_value, is_name}
 use Rattle.swarm_filters.specs.Machine.{Reading, start, in_key, in_label, after_key, in_sign, after_sign, in_value, finished, label_key, constraint_with, key_words, key_begun, behind_key, step, goes_on, run, whole_of}
 use Rattle.swarm_filters.proofs.Suffixes.{FromStart, InKey, KeyTail, AfterKey, AfterSign, ValueTail, Suffix, at, same, never, space_more, behind_key-suffix, in_sign-suffix, after_sign-suffix, finished-suffix, in_value-suffix, in_label-suffix}
 use Rattle.swarm_filters.proofs.KeyWords.{IsSound, Completes, completes_at, end_of, all_good, word_begun-suffix, word_begun-completes}

@@ -3,7 +3,7 @@ use Rattle.std.proofs.Common.{◌≡◌, ℕ, ◌+◌, ◌<◌, ◌≤◌, List,
 use Rattle.std.specs.Prelude.{slice_index, ◌==◌}
 use Rattle.std.proofs.lemmas.Bool.Decides.{Decides-eqb}
 use Rattle.swarm_objects.specs.declared.templates.Key.{Key}
-use Rattle.swarm_filters.specs.Grammar.{is_name, is_value}
+use Rattle.swarm_objects.specs.Names.{is_name, is_value}
 use Rattle.swarm_filters.specs.Machine.{in_label, in_value, finished, label_key, constraint_with, behind_key, step}
 use Rattle.swarm_filters.specs.Shown.{part}
 use Rattle.swarm_filters.proofs.Places.{part-next}

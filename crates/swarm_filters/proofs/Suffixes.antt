@@ -8,7 +8,8 @@ use Rattle.std.proofs.lemmas.List.{append-nil, append_assoc}
 use Rattle.swarm_objects.specs.declared.templates.Key.{Key}
 use Rattle.swarm_objects.specs.declared.templates.Key.TheVariants as key
 use Rattle.swarm_objects.specs.declared.templates.Constraint.{Constraint}
-use Rattle.swarm_filters.specs.Grammar.{is_space, AreSpaces, is_value, is_name, sign_of}
+use Rattle.swarm_filters.specs.Grammar.{is_space, AreSpaces, sign_of}
+use Rattle.swarm_objects.specs.Names.{is_value, is_name}
 use Rattle.swarm_filters.specs.Machine.{Reading, start, in_key, in_label, after_key, in_sign, after_sign, in_value, finished, label_key, constraint_with, behind_key, step}
 
 pub record AfterWhole (known : Constraint) (text : List ℕ) (c : Constraint) : Type 0 where

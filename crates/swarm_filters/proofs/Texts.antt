@@ -7,7 +7,8 @@ use Rattle.std.proofs.Math.Seq.{take-suc, take-length}
 use Rattle.std.proofs.lemmas.Str.{IsUtf8-from_ascii}
 use Rattle.std.proofs.lemmas.Str.Ascii.{IsAscii-nil, IsAscii-cons}
 use Rattle.std.proofs.lemmas.Bool.Decides.{nat_tests}
-use Rattle.swarm_filters.specs.Grammar.{is_name_byte, is_name, begins_name, is_value, IsConstraint, IsFault}
+use Rattle.swarm_filters.specs.Grammar.{IsConstraint, IsFault}
+use Rattle.swarm_objects.specs.Names.{is_name_byte, is_name, begins_name, is_value}
 use Rattle.swarm_filters.specs.Machine.{Reading, start, step, goes_on, run, whole_of}
 use Rattle.swarm_filters.specs.Shown.{PartsRead, PartsFit, key_at, whole_at}
 use Rattle.swarm_filters.specs.declared.states.Parts.{Parts}
@@ -45,18 +46,3 @@ pub parts_read : (text : List ℕ) (s : Reading) (p : Parts) → run start (take
 parts_read text s p read whole fits =
     let is : IsConstraint text (whole_at text p) = IsConstraint-read text s (whole_at text p) (all_read text s read) whole in
     record { fits = fits; is = is; named = key_has_text-IsKey is.key_text (key_at text p.found) is.is_key; valued = is.valued }
-
--- names are text
-
-byte : (b : ℕ) → is_name_byte b ≡ true → b < 128
-byte b e = grind (arith, nat_tests)
-
-ascii : (xs : List ℕ) → list_all is_name_byte xs ≡ true → IsAscii xs
-ascii [] e = IsAscii-nil
-ascii (x ∷ xs) e = IsAscii-cons x xs (byte x (first_true (is_name_byte x) (list_all is_name_byte xs) e)) (ascii xs (second_true (is_name_byte x) (list_all is_name_byte xs) e))
-
-pub IsUtf8-value : (bytes : List ℕ) → IsTrue (is_value bytes) → IsUtf8 bytes
-IsUtf8-value bytes e = IsUtf8-from_ascii bytes (ascii bytes (second_true (nat_lt 0 (length bytes) && nat_le (length bytes) 63) (list_all is_name_byte bytes) e))
-
-pub is_value-name : (name : List ℕ) → IsTrue (is_name name) → IsTrue (is_value name)
-is_value-name name e = second_true (begins_name name) (is_value name) e

@@ -10,7 +10,9 @@ use Rattle.std.proofs.lemmas.List.Folds.{list_all-append}
 use Rattle.swarm_objects.specs.declared.templates.Key.{Key}
 use Rattle.swarm_objects.specs.declared.templates.Key.TheVariants as key
 use Rattle.swarm_objects.specs.declared.templates.Constraint.{Constraint}
-use Rattle.swarm_filters.specs.Grammar.{is_space, AreSpaces, is_name_byte, is_value, is_name, begins_name, Spells, IsKey, sign_of, IsConstraint}
+use Rattle.swarm_filters.specs.Grammar.{is_space, AreSpaces, Spells, IsKey, sign_of, IsConstraint}
+use Rattle.swarm_objects.specs.Limits.{longest_name}
+use Rattle.swarm_objects.specs.Names.{is_name_byte, is_value, is_name, begins_name}
 use Rattle.swarm_filters.specs.Machine.{Reading, start, in_key, in_label, after_key, in_sign, after_sign, in_value, finished, label_key, constraint_with, key_begun, behind_key, step, goes_on, run, whole_of}
 use Rattle.swarm_filters.proofs.Suffixes.{same, never, is_byte}
 
@@ -62,7 +64,7 @@ finished_keeps c b e = ap (λ x. cond x (Some (finished c)) None) e
 
 -- names and values
 
-fewer : (m n : ℕ) → m ≤ n → nat_le n 63 ≡ true → nat_le m 63 ≡ true
+fewer : (m n : ℕ) → m ≤ n → nat_le n longest_name ≡ true → nat_le m longest_name ≡ true
 fewer m n le e = grind (arith, nat_tests)
 
 some : (n : ℕ) → 0 < n → nat_lt 0 n ≡ true
@@ -72,14 +74,14 @@ value_begun : (v : List ℕ) (b : ℕ) (more : List ℕ) → is_value (v ++ b �
 value_begun v b more e =
     let long : length (v ++ b ∷ more) ≡ length v + length (b ∷ more) = length-append v (b ∷ more) in
     let short : length (v ++ b ∷ []) ≡ length v + length (b ∷ []) = length-append v (b ∷ []) in
-    let sizes : (nat_lt 0 (length (v ++ b ∷ more)) && nat_le (length (v ++ b ∷ more)) 63) ≡ true = first_true (nat_lt 0 (length (v ++ b ∷ more)) && nat_le (length (v ++ b ∷ more)) 63) (list_all is_name_byte (v ++ b ∷ more)) e in
-    let within : nat_le (length (v ++ b ∷ [])) 63 ≡ true = fewer (length (v ++ b ∷ [])) (length (v ++ b ∷ more)) (omega arith) (second_true (nat_lt 0 (length (v ++ b ∷ more))) (nat_le (length (v ++ b ∷ more)) 63) sizes) in
+    let sizes : (nat_lt 0 (length (v ++ b ∷ more)) && nat_le (length (v ++ b ∷ more)) longest_name) ≡ true = first_true (nat_lt 0 (length (v ++ b ∷ more)) && nat_le (length (v ++ b ∷ more)) longest_name) (list_all is_name_byte (v ++ b ∷ more)) e in
+    let within : nat_le (length (v ++ b ∷ [])) longest_name ≡ true = fewer (length (v ++ b ∷ [])) (length (v ++ b ∷ more)) (omega arith) (second_true (nat_lt 0 (length (v ++ b ∷ more))) (nat_le (length (v ++ b ∷ more)) longest_name) sizes) in
     let above : nat_lt 0 (length (v ++ b ∷ [])) ≡ true = some (length (v ++ b ∷ [])) (omega arith) in
-    let each : (list_all is_name_byte v && list_all is_name_byte (b ∷ more)) ≡ true = sym (list_all-append is_name_byte v (b ∷ more)) ∙ second_true (nat_lt 0 (length (v ++ b ∷ more)) && nat_le (length (v ++ b ∷ more)) 63) (list_all is_name_byte (v ++ b ∷ more)) e in
+    let each : (list_all is_name_byte v && list_all is_name_byte (b ∷ more)) ≡ true = sym (list_all-append is_name_byte v (b ∷ more)) ∙ second_true (nat_lt 0 (length (v ++ b ∷ more)) && nat_le (length (v ++ b ∷ more)) longest_name) (list_all is_name_byte (v ++ b ∷ more)) e in
     let front : list_all is_name_byte v ≡ true = first_true (list_all is_name_byte v) (list_all is_name_byte (b ∷ more)) each in
     let one : is_name_byte b ≡ true = first_true (is_name_byte b) (list_all is_name_byte more) (second_true (list_all is_name_byte v) (list_all is_name_byte (b ∷ more)) each) in
     let all : list_all is_name_byte (v ++ b ∷ []) ≡ true = list_all-append is_name_byte v (b ∷ []) ∙ ap (λ x. x && (is_name_byte b && true)) front ∙ ap (λ x. x && true) one in
-    ap (λ x. x && nat_le (length (v ++ b ∷ [])) 63 && list_all is_name_byte (v ++ b ∷ [])) above ∙ ap (λ x. x && list_all is_name_byte (v ++ b ∷ [])) within ∙ all
+    ap (λ x. x && nat_le (length (v ++ b ∷ [])) longest_name && list_all is_name_byte (v ++ b ∷ [])) above ∙ ap (λ x. x && list_all is_name_byte (v ++ b ∷ [])) within ∙ all
 
 begins_alike : (n : List ℕ) (b : ℕ) (more : List ℕ) → begins_name (n ++ b ∷ []) ≡ begins_name (n ++ b ∷ more)
 begins_alike [] b more = refl
@@ -93,7 +95,7 @@ name_begun n b more e =
 name_ended : (n : List ℕ) (b : ℕ) → is_name_byte b ≡ false → is_name (n ++ b ∷ []) ≡ false
 name_ended n b e =
     let all : list_all is_name_byte (n ++ b ∷ []) ≡ false = list_all-append is_name_byte n (b ∷ []) ∙ and_false (list_all is_name_byte n) (is_name_byte b && true) (ap (λ x. x && true) e) in
-    and_false (begins_name (n ++ b ∷ [])) (is_value (n ++ b ∷ [])) (and_false (nat_lt 0 (length (n ++ b ∷ [])) && nat_le (length (n ++ b ∷ [])) 63) (list_all is_name_byte (n ++ b ∷ [])) all)
+    and_false (begins_name (n ++ b ∷ [])) (is_value (n ++ b ∷ [])) (and_false (nat_lt 0 (length (n ++ b ∷ [])) && nat_le (length (n ++ b ∷ [])) longest_name) (list_all is_name_byte (n ++ b ∷ [])) all)
 
 -- no byte of names is a space
 no_space : (b : ℕ) → is_name_byte b ≡ true → (b == 32) ≡ false
@@ -105,7 +107,7 @@ no_space b e = go (b == 32) refl
 
 value_byte : (v : List ℕ) (b : ℕ) → is_value (v ++ b ∷ []) ≡ true → is_name_byte b ≡ true
 value_byte v b e =
-    let each : (list_all is_name_byte v && (is_name_byte b && true)) ≡ true = sym (list_all-append is_name_byte v (b ∷ [])) ∙ second_true (nat_lt 0 (length (v ++ b ∷ [])) && nat_le (length (v ++ b ∷ [])) 63) (list_all is_name_byte (v ++ b ∷ [])) e in
+    let each : (list_all is_name_byte v && (is_name_byte b && true)) ≡ true = sym (list_all-append is_name_byte v (b ∷ [])) ∙ second_true (nat_lt 0 (length (v ++ b ∷ [])) && nat_le (length (v ++ b ∷ [])) longest_name) (list_all is_name_byte (v ++ b ∷ [])) e in
     first_true (is_name_byte b) true (second_true (list_all is_name_byte v) (is_name_byte b && true) each)
 
 -- labels

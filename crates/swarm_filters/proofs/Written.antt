@@ -5,7 +5,8 @@ use Rattle.std.proofs.lemmas.List.{append-nil}
 use Rattle.swarm_objects.specs.declared.templates.Key.{Key}
 use Rattle.swarm_objects.specs.declared.templates.Key.TheVariants as key
 use Rattle.swarm_objects.specs.declared.templates.Constraint.{Constraint}
-use Rattle.swarm_filters.specs.Grammar.{is_value, sign_of, IsKey, IsConstraint}
+use Rattle.swarm_filters.specs.Grammar.{sign_of, IsKey, IsConstraint}
+use Rattle.swarm_objects.specs.Names.{is_value}
 use Rattle.swarm_filters.specs.Machine.{constraint_of}
 use Rattle.swarm_filters.specs.Keys.{key_of}
 use Rattle.swarm_filters.specs.Spellings.{key_text, constraint_text, key_has_text, constraint_has_text}

@@ -1,11 +1,13 @@
 -- The form of a constraint, and where a text leaves it.
-use Rattle.std.specs.Prelude.{◌≡◌, ◌↔◌, Option, Some, ℕ, ◌+◌, ◌<◌, ◌≤◌, ◌==◌, ◌&&◌, ◌||◌, nat_lt, nat_le, List, [], ◌∷◌, ◌++◌, length, take, codes, Bool, true, false, IsTrue}
-use Rattle.std.specs.Char.{is_ascii_alphanumeric}
+use Rattle.std.specs.Prelude.{◌≡◌, ◌↔◌, Option, Some, ℕ, ◌+◌, ◌<◌, ◌≤◌, ◌==◌, List, ◌++◌, length, take, codes, Bool}
+use Rattle.std.specs.Prelude.{true, false}
+use Rattle.std.specs.Prelude.{IsTrue}
 use Rattle.std.specs.List.{list_all}
 use Rattle.std.specs.Str.{str_to_ascii_lowercase}
 use Rattle.swarm_objects.specs.declared.templates.Key.{Key}
 use Rattle.swarm_objects.specs.declared.templates.Key.TheVariants as key
 use Rattle.swarm_objects.specs.declared.templates.Constraint.{Constraint}
+pub use Rattle.swarm_objects.specs.Names.{is_name_byte, is_value, begins_name, is_name}
 
 abbrev pub is_space : ℕ → Bool
 is_space b = b == 32
@@ -13,29 +15,14 @@ is_space b = b == 32
 abbrev pub AreSpaces : List ℕ → Type 0
 AreSpaces bytes = IsTrue (list_all is_space bytes)
 
--- a letter, a digit, or one of - _ .
-abbrev pub is_name_byte : ℕ → Bool
-is_name_byte b = is_ascii_alphanumeric b || b == 45 || b == 95 || b == 46
-
--- 1 to 63 bytes of names
-abbrev pub is_value : List ℕ → Bool
-is_value bytes = nat_lt 0 (length bytes) && nat_le (length bytes) 63 && list_all is_name_byte bytes
-
-abbrev pub begins_name : List ℕ → Bool
-begins_name [] = false
-begins_name (b ∷ bs) = is_ascii_alphanumeric b
-
--- such bytes, of which the first is a letter or a digit
-abbrev pub is_name : List ℕ → Bool
-is_name bytes = begins_name bytes && is_value bytes
-
 -- the text is this word, in letters of either case
 abbrev pub Spells : List ℕ → List ℕ → Type 0
 Spells text word = str_to_ascii_lowercase text ≡ word
 
 -- the text is this prefix, in letters of either case, and then this very name
 abbrev pub SpellsLabel : List ℕ → List ℕ → List ℕ → Type 0
-SpellsLabel text prefix name = (front : List ℕ) × (Spells front prefix × ((text ≡ front ++ name) × IsTrue (is_name name)))
+SpellsLabel text prefix name =
+    (front : List ℕ) × (Spells front prefix × ((text ≡ front ++ name) × IsTrue (is_name name)))
 
 abbrev pub IsKey : List ℕ → Key → Type 0
 IsKey text key.NodeId = Spells text (codes "node.id")

@@ -1,5 +1,6 @@
 -- Constraints as a machine that reads bytes.
-use Rattle.std.specs.Prelude.{ℕ, ◌==◌, List, [], ◌∷◌, ◌++◌, codes, nat_eq, Bool, true, false, if◌then◌else◌, Option, Some, None}
+use Rattle.std.specs.Prelude.{ℕ, ◌==◌, List, [], ◌∷◌, ◌++◌, codes, nat_eq, Bool, true, false, if◌then◌else◌, Option}
+use Rattle.std.specs.Prelude.{Some, None}
 use Rattle.std.specs.Char.{to_ascii_lowercase}
 use Rattle.std.specs.List.{starts_with}
 use Rattle.std.specs.Option.{option_and_then}
@@ -7,10 +8,11 @@ use Rattle.std.specs.Str.{bytes_eq}
 use Rattle.swarm_objects.specs.declared.templates.Key.{Key}
 use Rattle.swarm_objects.specs.declared.templates.Key.TheVariants as key
 use Rattle.swarm_objects.specs.declared.templates.Constraint.{Constraint}
-use Rattle.swarm_filters.specs.Grammar.{is_name, is_value}
+use Rattle.swarm_objects.specs.Names.{is_name, is_value}
 
--- what was read: spaces; a key's first bytes, in small letters; a label of the node or, where true, of the engine, with a
--- name's first bytes; a key and spaces; half of a sign; a sign and spaces; a value's first bytes; a constraint and a space
+-- what was read: spaces; a key's first bytes, in small letters; a label of the node or, where true, of the engine, with
+-- a name's first bytes; a key and spaces; half of a sign; a sign and spaces; a value's first bytes; a constraint and a
+-- space
 pub data Reading : Type 0 where
   start : Reading
   in_key : List ℕ → Reading
@@ -32,7 +34,8 @@ abbrev pub label_words : List (List ℕ × Reading)
 label_words = (codes "node.labels.", in_label false []) ∷ (codes "engine.labels.", in_label true []) ∷ []
 
 abbrev pub platform_words : List (List ℕ × Reading)
-platform_words = (codes "node.platform.os", after_key key.Os) ∷ (codes "node.platform.arch", after_key key.Arch) ∷ label_words
+platform_words =
+    (codes "node.platform.os", after_key key.Os) ∷ (codes "node.platform.arch", after_key key.Arch) ∷ label_words
 
 -- the words that keys begin with, and what is read with each; none begins another
 abbrev pub key_words : List (List ℕ × Reading)
@@ -67,7 +70,8 @@ step (in_label engine name) b =
 step (after_key k) b = behind_key k b
 step (in_sign k equal) b = if b == 61 then Some (after_sign k equal) else None
 step (after_sign k equal) b =
-    if b == 32 then Some (after_sign k equal) else (if is_value (b ∷ []) then Some (in_value k equal (b ∷ [])) else None)
+    if b == 32 then Some (after_sign k equal)
+    else (if is_value (b ∷ []) then Some (in_value k equal (b ∷ [])) else None)
 step (in_value k equal value) b =
     if b == 32 then Some (finished (constraint_with k equal value))
     else (if is_value (value ++ b ∷ []) then Some (in_value k equal (value ++ b ∷ [])) else None)

@@ -4,8 +4,10 @@ use Rattle.std.specs.Str.{str_to_ascii_lowercase}
 use Rattle.swarm_objects.specs.declared.templates.Key.{Key}
 use Rattle.swarm_objects.specs.declared.templates.Key.TheVariants as key
 use Rattle.swarm_objects.specs.declared.templates.Constraint.{Constraint}
-use Rattle.swarm_filters.specs.Grammar.{IsConstraint, is_value}
-use Rattle.swarm_filters.specs.Machine.{Reading, start, in_key, in_label, after_key, in_sign, after_sign, in_value, finished, label_key, constraint_with}
+use Rattle.swarm_filters.specs.Grammar.{IsConstraint}
+use Rattle.swarm_objects.specs.Names.{is_value}
+use Rattle.swarm_filters.specs.Machine.{Reading, start, in_key, in_label, after_key, in_sign, after_sign, in_value}
+use Rattle.swarm_filters.specs.Machine.{finished, label_key, constraint_with}
 use Rattle.swarm_filters.specs.Spellings.{key_has_text}
 use Rattle.swarm_filters.specs.declared.states.Span.{Span}
 use Rattle.swarm_filters.specs.declared.states.Found.{Found}

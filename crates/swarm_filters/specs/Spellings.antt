@@ -3,7 +3,8 @@ use Rattle.std.specs.Prelude.{List, ℕ, ◌++◌, codes, Bool, true, ◌&&◌}
 use Rattle.swarm_objects.specs.declared.templates.Key.{Key}
 use Rattle.swarm_objects.specs.declared.templates.Key.TheVariants as key
 use Rattle.swarm_objects.specs.declared.templates.Constraint.{Constraint}
-use Rattle.swarm_filters.specs.Grammar.{is_name, is_value, sign_of}
+use Rattle.swarm_filters.specs.Grammar.{sign_of}
+use Rattle.swarm_objects.specs.Names.{is_name, is_value}
 
 abbrev pub key_text : Key → List ℕ
 key_text key.NodeId = codes "node.id"

@@ -1,12 +1,14 @@
 // Keys from their texts.
-ghost use Rattle.std.specs.Prelude.{◌≡◌, if◌then◌else◌, Some, None, IfOk, IfSome, IsTrue, option_copied};
+ghost use Rattle.std.specs.Prelude.{◌≡◌, IfOk, IfSome, IsTrue, option_copied};
 ghost use Rattle.std.specs.Str.{str_to_ascii_lowercase};
-ghost use Rattle.swarm_filters.specs.Grammar.{HoldsExactly, IsKey, is_name as name_test, is_value};
-ghost use Rattle.swarm_filters.specs.Keys.{fixed_key as fixed_key_in, key_of, label_of as label_in, name_behind as name_behind_in};
+ghost use Rattle.swarm_filters.specs.Grammar.{HoldsExactly, IsKey};
+ghost use Rattle.swarm_filters.specs.Keys.{fixed_key, key_of, label_of, name_behind};
+ghost use Rattle.swarm_objects.specs.Names.{is_name};
 
-use crate::parsing::{is_name, is_word};
+use crate::parsing::is_word;
 use std::alloc::Global;
-use swarm_objects::{Key, Name, NoMemory};
+use swarm_objects::names::{is_name, name_of};
+use swarm_objects::{Key, NoMemory};
 
 /// The key that a text is, if it is one: a fixed word, or a prefix and the name of a label.
 pub fn parse_key(alloc: Global, text: &str) -> Result<Option<Key>, NoMemory>
@@ -27,20 +29,8 @@ pub fn read_key(alloc: Global, word: &[u8]) -> Result<Option<Key>, NoMemory>
     }
 }
 
-/// The name that a word's bytes are, if they are one: 1 to 63 letters, digits and bytes `-`, `_` and `.`, of which the first
-/// is a letter or a digit.
-pub fn read_name(alloc: Global, word: &[u8]) -> Result<Option<Name>, NoMemory>
-    ensures { IfOk result (λ name. name ≡ if name_test word.now then Some word.now else None) }
-{
-    if is_name(word) {
-        Ok(Some(name_of(alloc, word)?))
-    } else {
-        Ok(None)
-    }
-}
-
 fn fixed_key(word: &[u8]) -> Option<Key>
-    ensures { result ≡ fixed_key_in (str_to_ascii_lowercase word.now) }
+    ensures { result ≡ fixed_key (str_to_ascii_lowercase word.now) }
 {
     if is_word(b"node.id", word) {
         Some(Key::NodeId)
@@ -58,7 +48,7 @@ fn fixed_key(word: &[u8]) -> Option<Key>
 }
 
 fn label_of(alloc: Global, word: &[u8]) -> Result<Option<Key>, NoMemory>
-    ensures { IfOk result (λ key. key ≡ label_in word.now) }
+    ensures { IfOk result (λ key. key ≡ label_of word.now) }
 {
     if let Some(name) = name_behind(b"node.labels.", word) {
         return Ok(Some(Key::Label(name_of(alloc, name)?)));
@@ -72,24 +62,13 @@ fn label_of(alloc: Global, word: &[u8]) -> Result<Option<Key>, NoMemory>
 // The name behind a prefix that stands in letters of either case.
 fn name_behind<'a>(prefix: &[u8], word: &'a [u8]) -> Option<&'a [u8]>
     requires { str_to_ascii_lowercase prefix.now ≡ prefix.now }
-    ensures name { option_copied result ≡ name_behind_in prefix.now word.now }
-    ensures named { IfSome result (λ name. IsTrue (name_test name.now)) }
+    ensures name { option_copied result ≡ name_behind prefix.now word.now }
+    ensures named { IfSome result (λ name. IsTrue (is_name name.now)) }
 {
     let (front, rest) = word.split_at_checked(prefix.len())?;
     if is_word(prefix, front) && is_name(rest) {
         Some(rest)
     } else {
         None
-    }
-}
-
-/// The name with these bytes.
-pub fn name_of(alloc: Global, bytes: &[u8]) -> Result<Name, NoMemory>
-    requires { IsTrue (is_value bytes.now) }
-    ensures { IfOk result (λ name. name ≡ bytes.now) }
-{
-    match str::from_utf8(bytes) {
-        Ok(name) => Name::new(alloc, name),
-        Err(_) => unreachable!(),
     }
 }

@@ -9,6 +9,7 @@ mod states;
 #[cfg(test)]
 mod tests;
 
-pub use keys::{parse_key, read_key, read_name};
+pub use keys::{parse_key, read_key};
 pub use matching::matches;
 pub use parsed::{ParseFault, parse_constraint, read_constraint};
+pub use swarm_objects::names::read_name;

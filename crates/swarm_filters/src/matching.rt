@@ -1,7 +1,7 @@
 // Which nodes a constraint admits.
 ghost use Rattle.std.specs.Prelude.{◌≡◌, decimal};
 ghost use Rattle.std.specs.Str.{str_eq_ignore_ascii_case};
-ghost use Rattle.swarm_objects.specs.Nodes.Constraints.{has_value as value_at, label_value, meets};
+ghost use Rattle.swarm_objects.specs.Nodes.Constraints.{has_value, label_value, meets};
 
 use itoa::Buffer;
 use swarm_objects::{Constraint, Key, Labels, Node, NodeRole};
@@ -15,7 +15,7 @@ pub fn matches(constraint: &Constraint, node: &Node) -> bool
 
 // Whether a node has this text for a key, in letters of either case.
 fn has_value(node: &Node, key: &Key, value: &str) -> bool
-    ensures { result ≡ value_at node.now key.now value.now }
+    ensures { result ≡ has_value node.now key.now value.now }
 {
     match key {
         Key::NodeId => is_number(node.id, value),

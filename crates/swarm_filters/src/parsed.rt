@@ -1,15 +1,17 @@
 // Constraints from their texts.
 ghost use Rattle.std.specs.Prelude.{◌≡◌, ◌≤◌, length, IfErr, IfOk, IsTrue};
-ghost use Rattle.swarm_filters.specs.Grammar.{HoldsExactly, IsConstraint, IsFault, IsOnly, is_value};
+ghost use Rattle.swarm_filters.specs.Grammar.{HoldsExactly, IsConstraint, IsFault, IsOnly};
 ghost use Rattle.swarm_filters.specs.Machine.{constraint_of, whole_of};
-ghost use Rattle.swarm_filters.specs.Shown.{FoundFits, OptionPartsFit, PartsFit, PartsRead, SpanFits, StateFits, key_at, option_whole, shown, span_of, whole_at};
+ghost use Rattle.swarm_filters.specs.Shown.{FoundFits, OptionPartsFit, PartsFit, PartsRead, SpanFits, StateFits};
+ghost use Rattle.swarm_filters.specs.Shown.{key_at, option_whole, shown, span_of, whole_at};
 ghost use Rattle.swarm_filters.specs.Spellings.{key_has_text};
+ghost use Rattle.swarm_objects.specs.Names.{is_value};
 ghost use Rattle.swarm_filters.specs.Faults.{IsAnswer, IsParseFault};
 
-use crate::keys::name_of;
 use crate::parsing::step;
 use crate::states::{Found, Parts, Span, State};
 use std::alloc::Global;
+use swarm_objects::names::name_of;
 use swarm_objects::{Constraint, Key, Name, NoMemory};
 use thiserror::Error;
 

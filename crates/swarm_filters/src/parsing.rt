@@ -1,46 +1,13 @@
 // Reading constraints.
 ghost use Rattle.std.specs.Prelude.{◌≡◌, ◌+◌, ◌<◌, ◌≤◌, length, drop, nat_eq, slice_index};
-ghost use Rattle.std.specs.List.{list_all, starts_with};
+ghost use Rattle.std.specs.List.{starts_with};
 ghost use Rattle.std.specs.Str.{bytes_eq, str_eq_ignore_ascii_case, str_to_ascii_lowercase};
-ghost use Rattle.swarm_filters.specs.Grammar.{begins_name as begins_test, is_name as name_test, is_name_byte as name_byte, is_value as value_test};
-ghost use Rattle.swarm_filters.specs.Machine.{behind_key as behind_key_of, key_words, label_words, platform_words, step as step_of, word_begun};
+ghost use Rattle.swarm_filters.specs.Machine.{behind_key, key_words, label_words, platform_words, step, word_begun};
 ghost use Rattle.swarm_filters.specs.declared.states.State.TheVariants.{AfterSign, InKey, InLabel, InValue, Start};
 ghost use Rattle.swarm_filters.specs.Shown.{FoundFits, OptionFits, StateFits, key_at, option_shown, part, shown};
 
 use crate::states::{Found, Parts, Span, State};
-
-fn is_name_byte(byte: u8) -> bool
-    ensures { result ≡ name_byte byte }
-{
-    byte.is_ascii_alphanumeric() || byte == b'-' || byte == b'_' || byte == b'.'
-}
-
-fn are_name_bytes(bytes: &[u8]) -> bool
-    ensures { result ≡ list_all name_byte bytes.now }
-{
-    bytes.iter().all(|&byte| is_name_byte(byte))
-}
-
-fn is_value(bytes: &[u8]) -> bool
-    ensures { result ≡ value_test bytes.now }
-{
-    !bytes.is_empty() && bytes.len() <= 63 && are_name_bytes(bytes)
-}
-
-fn begins_name(bytes: &[u8]) -> bool
-    ensures { result ≡ begins_test bytes.now }
-{
-    match bytes {
-        [first, ..] => first.is_ascii_alphanumeric(),
-        [] => false,
-    }
-}
-
-pub fn is_name(bytes: &[u8]) -> bool
-    ensures { result ≡ name_test bytes.now }
-{
-    begins_name(bytes) && is_value(bytes)
-}
+use swarm_objects::names::{is_name, is_value};
 
 /// Whether the bytes are the word, in letters of either case.
 pub fn is_word(word: &[u8], bytes: &[u8]) -> bool
@@ -69,7 +36,9 @@ fn is_same_text(one: &[u8], two: &[u8]) -> bool
 fn key_begun(text: &[u8], from: usize, end: usize) -> Option<State>
     requires order { from ≤ end }
     requires within { end ≤ length text.now }
-    ensures shows { option_shown text.now end result ≡ word_begun (str_to_ascii_lowercase (part text.now from end)) key_words }
+    ensures shows {
+        option_shown text.now end result ≡ word_begun (str_to_ascii_lowercase (part text.now from end)) key_words
+    }
     ensures fits { OptionFits end result }
 {
     let bytes = &text[from..end];
@@ -93,7 +62,9 @@ fn key_begun(text: &[u8], from: usize, end: usize) -> Option<State>
 fn platform_begun(text: &[u8], from: usize, end: usize) -> Option<State>
     requires order { from ≤ end }
     requires within { end ≤ length text.now }
-    ensures shows { option_shown text.now end result ≡ word_begun (str_to_ascii_lowercase (part text.now from end)) platform_words }
+    ensures shows {
+        option_shown text.now end result ≡ word_begun (str_to_ascii_lowercase (part text.now from end)) platform_words
+    }
     ensures fits { OptionFits end result }
 {
     let bytes = &text[from..end];
@@ -113,7 +84,9 @@ fn platform_begun(text: &[u8], from: usize, end: usize) -> Option<State>
 fn label_begun(text: &[u8], from: usize, end: usize) -> Option<State>
     requires order { from ≤ end }
     requires within { end ≤ length text.now }
-    ensures shows { option_shown text.now end result ≡ word_begun (str_to_ascii_lowercase (part text.now from end)) label_words }
+    ensures shows {
+        option_shown text.now end result ≡ word_begun (str_to_ascii_lowercase (part text.now from end)) label_words
+    }
     ensures fits { OptionFits end result }
 {
     let bytes = &text[from..end];
@@ -133,7 +106,7 @@ fn label_begun(text: &[u8], from: usize, end: usize) -> Option<State>
 // What a byte behind a whole key makes.
 fn behind_key(text: &[u8], place: usize, found: Found, byte: u8) -> Option<State>
     requires { FoundFits place found }
-    ensures shows { option_shown text.now place result ≡ behind_key_of (key_at text.now found) byte }
+    ensures shows { option_shown text.now place result ≡ behind_key (key_at text.now found) byte }
     ensures fits { OptionFits place result }
 {
     match byte {
@@ -148,7 +121,10 @@ fn behind_key(text: &[u8], place: usize, found: Found, byte: u8) -> Option<State
 fn label_step(text: &[u8], place: usize, engine: bool, from: usize) -> Option<State>
     requires below { place < length text.now }
     requires order { from ≤ place }
-    ensures shows { option_shown text.now (place + 1) result ≡ step_of (shown text.now place (InLabel engine from)) (slice_index text.now place) }
+    ensures shows {
+        option_shown text.now (place + 1) result
+            ≡ step (shown text.now place (InLabel engine from)) (slice_index text.now place)
+    }
     ensures fits { OptionFits (place + 1) result }
 {
     if is_name(&text[from..place + 1]) {
@@ -167,7 +143,12 @@ fn value_step(text: &[u8], place: usize, parts: Parts) -> Option<State>
     requires found { FoundFits place parts.found }
     requires order { parts.value.from ≤ place }
     requires end { parts.value.end ≡ place }
-    ensures shows { option_shown text.now (place + 1) result ≡ step_of (shown text.now place (InValue parts.found parts.equal parts.value.from)) (slice_index text.now place) }
+    ensures shows {
+        option_shown text.now (place + 1) result
+            ≡ step
+                (shown text.now place (InValue parts.found parts.equal parts.value.from))
+                (slice_index text.now place)
+    }
     ensures fits { OptionFits (place + 1) result }
 {
     if text[place] == b' ' {
@@ -183,7 +164,10 @@ fn value_step(text: &[u8], place: usize, parts: Parts) -> Option<State>
 fn value_begun(text: &[u8], place: usize, found: Found, equal: bool) -> Option<State>
     requires below { place < length text.now }
     requires found { FoundFits place found }
-    ensures shows { option_shown text.now (place + 1) result ≡ step_of (shown text.now place (AfterSign found equal)) (slice_index text.now place) }
+    ensures shows {
+        option_shown text.now (place + 1) result
+            ≡ step (shown text.now place (AfterSign found equal)) (slice_index text.now place)
+    }
     ensures fits { OptionFits (place + 1) result }
 {
     if text[place] == b' ' {
@@ -197,7 +181,9 @@ fn value_begun(text: &[u8], place: usize, found: Found, equal: bool) -> Option<S
 
 fn start_step(text: &[u8], place: usize) -> Option<State>
     requires below { place < length text.now }
-    ensures shows { option_shown text.now (place + 1) result ≡ step_of (shown text.now place Start) (slice_index text.now place) }
+    ensures shows {
+        option_shown text.now (place + 1) result ≡ step (shown text.now place Start) (slice_index text.now place)
+    }
     ensures fits { OptionFits (place + 1) result }
 {
     if text[place] == b' ' {
@@ -209,7 +195,9 @@ fn start_step(text: &[u8], place: usize) -> Option<State>
 fn key_step(text: &[u8], place: usize, from: usize) -> Option<State>
     requires below { place < length text.now }
     requires order { from ≤ place }
-    ensures shows { option_shown text.now (place + 1) result ≡ step_of (shown text.now place (InKey from)) (slice_index text.now place) }
+    ensures shows {
+        option_shown text.now (place + 1) result ≡ step (shown text.now place (InKey from)) (slice_index text.now place)
+    }
     ensures fits { OptionFits (place + 1) result }
 {
     key_begun(text, from, place + 1)
@@ -219,7 +207,9 @@ fn key_step(text: &[u8], place: usize, from: usize) -> Option<State>
 pub fn step(text: &[u8], place: usize, state: State) -> Option<State>
     requires below { place < length text.now }
     requires fits { StateFits place state }
-    ensures shows { option_shown text.now (place + 1) result ≡ step_of (shown text.now place state) (slice_index text.now place) }
+    ensures shows {
+        option_shown text.now (place + 1) result ≡ step (shown text.now place state) (slice_index text.now place)
+    }
     ensures fits { OptionFits (place + 1) result }
 {
     match state {

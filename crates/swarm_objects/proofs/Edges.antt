@@ -1,12 +1,14 @@
--- Each limit at its edge: the greatest number that is within it, and the first one beyond.
-use Rattle.std.proofs.Common.{ℕ, ◌≡◌, ◌^◌, ◌+◌, Bool, true, false, refl}
+-- Each limit at its edge: the greatest number that is within it, and the first one beyond; and what nothing was said of.
+use Rattle.std.proofs.Common.{ℕ, ◌≡◌, ◌^◌, ◌+◌, Bool, true, false, None, find, refl}
+use Rattle.std.specs.Prelude.{codes}
+use Rattle.swarm_objects.specs.Defaults.{usual_draft, usual_node, usual_settings}
 use Rattle.swarm_objects.specs.Limits.{most_entries, most_ops, most_nodes, most_services, most_networks, most_watchers}
 use Rattle.swarm_objects.specs.Limits.{most_events, longest_tick, largest_budget, longest_script, longest_line}
 use Rattle.swarm_objects.specs.Limits.{longest_entry}
 use Rattle.swarm_objects.specs.Rules.Networks.{subnet_breaks}
 use Rattle.swarm_objects.specs.Rules.Nodes.{resources_break}
-use Rattle.swarm_objects.specs.Rules.Services.{wants_too_many, is_too_long, is_too_many}
-use Rattle.swarm_objects.specs.Rules.Settings.{settings_break}
+use Rattle.swarm_objects.specs.Rules.Services.{wants_too_many, is_too_long, is_too_many, broken_rule}
+use Rattle.swarm_objects.specs.Rules.Settings.{settings_break, settings_rules}
 use Rattle.swarm_objects.specs.declared.rules.SpecRule.TheVariants as rule
 use Rattle.swarm_objects.specs.declared.services.Mode.TheVariants as mode
 
@@ -62,3 +64,13 @@ texts = (refl, refl, refl)
 
 clock : (longest_tick ≡ 1000) × (largest_budget ≡ 100000)
 clock = (refl, refl)
+
+-- what nothing was said of breaks no rule
+usual_service : broken_rule usual_draft ≡ None
+usual_service = refl
+
+usual_cluster : find (settings_break usual_settings) settings_rules ≡ None
+usual_cluster = refl
+
+usual_machine : (usual_node.cpu ≡ 4000) × (usual_node.mem ≡ 2 ^ 33) × (usual_node.os ≡ codes "linux") × (usual_node.arch ≡ codes "amd64")
+usual_machine = (refl, refl, refl, refl)

@@ -67,5 +67,8 @@ pub const LONGEST_SCRIPT: u64 = 16 << 20;
 /// Bytes of a script's line, not counting its newline.
 pub const LONGEST_LINE: usize = 8_192;
 
+/// Bytes of a name, and of a constraint's value.
+pub const LONGEST_NAME: usize = 63;
+
 /// Bytes of a journal's line, with its newline.
 pub const LONGEST_ENTRY: usize = 8_224;

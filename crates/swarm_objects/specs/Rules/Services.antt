@@ -1,5 +1,6 @@
 -- The rules of services, in the order in which they are tested.
-use Rattle.std.specs.Prelude.{Bool, false, ◌||◌, List, [], ◌∷◌, nat_lt, ◌==◌, ℕ, length, Option, Some, None, ◌&&◌, true, not, ◌++◌, find}
+use Rattle.std.specs.Prelude.{Bool, false, ◌||◌, List, [], ◌∷◌, nat_lt, ◌==◌, ℕ, length, Option, Some, None, ◌&&◌}
+use Rattle.std.specs.Prelude.{true, not, ◌++◌, find}
 use Rattle.std.specs.List.{list_any}
 use Rattle.std.specs.Str.{bytes_eq}
 use Rattle.swarm_objects.specs.Limits.{most_replicas, longest_time, most_cpu, most_mem, most_items, most_ratio}
