@@ -4,11 +4,10 @@ use Rattle.std.proofs.lemmas.Bool.Decides.{nat_tests}
 use Rattle.swarm_objects.specs.World.{World, Tables, empty_world}
 use Rattle.swarm_objects.specs.Bounds.{IsSmall}
 use Rattle.swarm_objects.specs.Today.CanDo.{can_do}
-use Rattle.swarm_model.specs.Today.Calls.{outcome, call_outcome, view_outcome, refused, txn_outcome, apply_op, apply_ops, create_node, node_named, with_node, new_node, is_admitted, is_full}
+use Rattle.swarm_model.specs.Today.Calls.{outcome, call_outcome, view_outcome, refused, txn_outcome, apply_op, apply_ops, create_node, node_named, with_node, new_node, is_admitted, is_full, refusal_of, unless_refused}
 use Rattle.swarm_objects.specs.Limits.{most_ops}
 use Rattle.swarm_objects.specs.CallWords.{is_halt}
 use Rattle.swarm_model.proofs.Times.{agents-replay, sent-replay, times-replay}
-use Rattle.swarm_model.specs.Outcome.{Outcome}
 use Rattle.swarm_objects.specs.Today.Duties.{is_due}
 use Rattle.swarm_objects.specs.Today.Duties.{after_duty, with_new_task, with_reasons}
 use Rattle.swarm_objects.specs.Rows.{row_at, service_id, task_id}
@@ -30,7 +29,7 @@ use Rattle.swarm_objects.specs.declared.calls.Query.TheVariants.{ListNodes, List
 use Rattle.swarm_objects.specs.declared.calls.Op.{Op}
 use Rattle.swarm_objects.specs.declared.calls.Op.TheVariants.{CreateNode, CreateService}
 use Rattle.swarm_objects.specs.declared.replies.Refusal.{Refusal}
-use Rattle.swarm_objects.specs.declared.replies.Refusal.TheVariants.{TooManyOps}
+use Rattle.swarm_objects.specs.declared.replies.Refusal.TheVariants.{TooManyOps, Halted, Full}
 use Rattle.swarm_objects.specs.declared.calls.Entry.{Entry}
 use Rattle.swarm_objects.specs.declared.calls.What.{What}
 use Rattle.swarm_objects.specs.declared.calls.What.TheVariants.{Call as Called, Duty as Done}
@@ -299,10 +298,24 @@ admitted w call running few = ap (λ (t : Bool). cond t false (not (is_full w ca
 pub admitted-Halt : (w : World) → w.halted ≡ false → is_admitted w Halt ≡ true
 admitted-Halt w running = ap (λ (t : Bool). cond t false true) running
 
-chosen : (halted full : Bool) (x y z : Outcome) → cond halted false (not full) ≡ true → cond halted x (cond full y z) ≡ z
-chosen true full x y z e = cc
-chosen false true x y z e = cc
-chosen false false x y z e = refl
+refused_not : (halted full : Bool) (x y : Refusal) → cond halted false (not full) ≡ true →
+    ◌≡◌ {A = Option Refusal} (cond halted (Some x) (cond full (Some y) None)) None
+refused_not true full x y e = cc
+refused_not false true x y e = cc
+refused_not false false x y e = refl
+
+pub refusal-admitted : (w : World) (call : Call) → is_admitted w call ≡ true → refusal_of w call ≡ None
+refusal-admitted w call e = refused_not w.halted (is_full w call) Halted (Full w.entries) e
 
 pub outcome-admitted : (w : World) (call : Call) → is_admitted w call ≡ true → outcome w call ≡ call_outcome w call
-outcome-admitted w call e = chosen w.halted (is_full w call) _ _ (call_outcome w call) e
+outcome-admitted w call e = ap (λ r. unless_refused r w (call_outcome w call)) (refusal-admitted w call e)
+
+admitted_so : (halted full : Bool) (x y : Refusal) →
+    ◌≡◌ {A = Option Refusal} (cond halted (Some x) (cond full (Some y) None)) None → cond halted false (not full) ≡ true
+admitted_so true full x y e = cc
+admitted_so false true x y e = cc
+admitted_so false false x y e = refl
+
+-- a call that nothing refuses becomes an entry
+pub admitted-unrefused : (w : World) (call : Call) → refusal_of w call ≡ None → is_admitted w call ≡ true
+admitted-unrefused w call e = admitted_so w.halted (is_full w call) Halted (Full w.entries) e

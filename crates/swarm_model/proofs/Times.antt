@@ -1,5 +1,5 @@
 -- The times of the worlds that the program makes today: the clock stands, and each row's time is near.
-use Rattle.std.proofs.Common.{◌≡◌, ℕ, ◌+◌, ◌*◌, ◌∷◌, ◌++◌, List, [], Bool, true, false, refl, Result, Ok, Err, ap, ◌∙◌, sym, subst, arith, cond, eqb, nat_lt, nat_le, length, Option, Some, None, inl, inr, ◌⊎◌, find}
+use Rattle.std.proofs.Common.{◌≡◌, ℕ, ◌+◌, ◌*◌, ◌∷◌, ◌++◌, List, [], Bool, true, false, refl, Result, Ok, Err, ap, ◌∙◌, sym, subst, arith, cond, eqb, nat_lt, length, Option, Some, None, inl, inr, ◌⊎◌, find}
 use Rattle.std.specs.Prelude.{◌&&◌, ◌||◌, ◌==◌}
 use Rattle.std.proofs.lemmas.Bool.Decides.{nat_tests}
 use Rattle.std.specs.List.{list_all}
@@ -29,7 +29,6 @@ use Rattle.swarm_objects.specs.declared.calls.What.{What}
 use Rattle.swarm_objects.specs.declared.calls.What.TheVariants.{Call as Called, Duty as Done}
 use Rattle.swarm_objects.specs.declared.duties.Duty.{Duty}
 use Rattle.swarm_objects.specs.declared.duties.Duty.TheVariants as duty
-use Rattle.swarm_objects.specs.declared.nodes.Node.{Node}
 use Rattle.swarm_objects.specs.declared.nodes.NodeDraft.{NodeDraft}
 use Rattle.swarm_objects.specs.declared.replies.Refusal.{Refusal}
 use Rattle.swarm_objects.specs.declared.rules.SpecRule.{SpecRule}
@@ -37,7 +36,6 @@ use Rattle.swarm_objects.specs.declared.rules.SpecRule.TheVariants as rule
 use Rattle.swarm_objects.specs.declared.services.Draft.{Draft}
 use Rattle.swarm_objects.specs.declared.services.Service.{Service}
 use Rattle.swarm_objects.specs.declared.services.ServiceSpec.{ServiceSpec}
-use Rattle.swarm_objects.specs.declared.sessions.NodeSession.{NodeSession}
 use Rattle.swarm_objects.specs.declared.settings.Settings.{Settings}
 use Rattle.swarm_objects.specs.declared.tasks.Attempt.{Attempt}
 use Rattle.swarm_objects.specs.declared.tasks.Desired.{Desired}

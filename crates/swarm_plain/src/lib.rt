@@ -8,22 +8,18 @@ mod reads;
 ghost use Rattle.std.specs.Prelude.{◌≡◌, [], ◌∷◌, ◌⊎◌, ◌+◌, ◌^◌, ◌<◌, ◌≤◌, false, length, IfOk, IfErr, OnErr, Ok, Err};
 ghost use Rattle.swarm_objects.specs.World.{empty_world};
 ghost use Rattle.swarm_objects.specs.Bounds.{IsSmall};
-ghost use Rattle.swarm_model.specs.Today.Calls.{apply_op, apply_ops, call_outcome, outcome};
+ghost use Rattle.swarm_model.specs.Today.Calls.{apply_op, apply_ops, call_outcome, outcome, refusal_of};
 ghost use Rattle.swarm_objects.specs.CallWords.{is_settle};
 ghost use Rattle.swarm_plain.specs.Plain.{world_of};
 ghost use Rattle.swarm_model.specs.Outcome.{Meets, Gives};
 
 use std::alloc::Global;
+pub use swarm_objects::limits::MOST_ENTRIES as HISTORY;
+use swarm_objects::limits::{MOST_ENTRIES, MOST_OPS};
 use swarm_objects::{
     Attempt, Call, Duplicate, Event, Id, List, Ms, Network, NoMemory, Node, NodeAgent, NodeSent,
     NodeSession, Op, Query, Refusal, Reply, Service, Settings, Task, Version, Watcher,
 };
-
-/// The most entries of a history, not counting Halt.
-pub const HISTORY: u64 = 300_000;
-
-/// The most operations of a transaction.
-const OPS: usize = 200;
 
 /// The world as lists of rows, each by rising id. It is the reference that other forms of the world are compared with:
 /// every look-up is a scan.
@@ -193,7 +189,7 @@ impl Plain {
         ensures { Meets (call_outcome (world_of self.old) (Call.Txn ops.now)) (world_of self.old) result (world_of self.new) }
     {
         let count = ops.len();
-        if count > OPS {
+        if count > MOST_OPS {
             self.entries += 1;
             return Reply::Refused(Refusal::TooManyOps(count as u64));
         }
@@ -223,16 +219,30 @@ impl Plain {
         }
     }
 
-    /// Answers the call, which isn't the settle test. A call that can't be done yet does nothing and is answered `Did`. A call that becomes an entry counts as one, also where it is refused; `Halted`, `Full` and
-    /// `NoMemory` change nothing at all. `Halt` takes no memory.
+    /// Why the call doesn't become an entry: `Halted` or `Full`. There is always room for `Halt`.
+    pub fn refuses(&self, call: &Call) -> Option<Refusal>
+        ensures { result ≡ refusal_of (world_of self.now) call.now }
+    {
+        if self.halted {
+            return Some(Refusal::Halted);
+        }
+        match call {
+            Call::Halt => None,
+            _ if self.entries >= MOST_ENTRIES => Some(Refusal::Full(self.entries)),
+            _ => None,
+        }
+    }
+
+    /// Answers the call, which isn't the settle test. A call that can't be done yet does nothing and is answered `Did`.
+    /// A refused call is an entry too, unless the refusal is `Halted`, `Full` or `NoMemory`. `Halt` takes no memory.
     pub fn call(&mut self, call: &Call) -> Reply
         requires small { IsSmall (world_of self.old) }
         requires other { is_settle call.now ≡ false }
         ensures reply { Meets (outcome (world_of self.old) call.now) (world_of self.old) result (world_of self.new) }
         ensures halt { call.now ≡ Call.Halt → Gives (outcome (world_of self.old) Call.Halt) result (world_of self.new) }
     {
-        if self.halted {
-            return Reply::Refused(Refusal::Halted);
+        if let Some(refusal) = self.refuses(call) {
+            return Reply::Refused(refusal);
         }
         match call {
             Call::Halt => {
@@ -240,7 +250,6 @@ impl Plain {
                 self.halted = true;
                 Reply::HaltDone
             }
-            _ if self.entries >= HISTORY => Reply::Refused(Refusal::Full(self.entries)),
             Call::Txn(ops) => self.txn(ops.as_slice()),
             Call::View(query) => self.view(query),
             Call::Settle(_) => unreachable!(),

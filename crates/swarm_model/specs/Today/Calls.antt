@@ -124,8 +124,15 @@ is_full w call = if is_halt call then false else nat_le most_entries w.entries
 abbrev pub is_admitted : World → Call → Bool
 is_admitted w call = if w.halted then false else not (is_full w call)
 
--- what any call is answered, and the world after it; a call that is no entry changes nothing
+-- why a call becomes no entry, if it doesn't
+abbrev pub refusal_of : World → Call → Option Refusal
+refusal_of w call = if w.halted then Some Halted else (if is_full w call then Some (Full w.entries) else None)
+
+-- a call that becomes no entry changes nothing
+abbrev pub unless_refused : Option Refusal → World → Outcome → Outcome
+unless_refused (Some refusal) w done = record { reply = Refused refusal; after = w }
+unless_refused None w done = done
+
+-- what any call is answered, and the world after it
 abbrev pub outcome : World → Call → Outcome
-outcome w call =
-    if w.halted then record { reply = Refused Halted; after = w }
-    else (if is_full w call then record { reply = Refused (Full w.entries); after = w } else call_outcome w call)
+outcome w call = unless_refused (refusal_of w call) w (call_outcome w call)
