@@ -3,19 +3,19 @@ use Rattle.std.proofs.Common.{◌≡◌, ℕ, List, Option, Some, None, refl, sy
 use Rattle.std.specs.Option.{option_and_then}
 use Rattle.swarm_objects.specs.declared.templates.Constraint.{Constraint}
 use Rattle.swarm_filters.specs.Grammar.{HoldsExactly, IsConstraint, IsFault, IsOnly}
-use Rattle.swarm_filters.specs.Machine.{Reading, start, run, whole_of, constraint_of}
+use Rattle.swarm_filters.specs.Machine.{Progress, start, run_bytes, whole_of, constraint_of}
 use Rattle.swarm_filters.proofs.Runs.{IsConstraint-read}
-use Rattle.swarm_filters.proofs.Wholes.{run-IsConstraint}
+use Rattle.swarm_filters.proofs.Wholes.{run_bytes-IsConstraint}
 
 pub constraint_of-complete : (text : List ℕ) (c : Constraint) → IsConstraint text c → constraint_of text ≡ Some c
 constraint_of-complete text c is =
-    let made : (s : Reading) × ((run start text ≡ Some s) × (whole_of s ≡ Some c)) = run-IsConstraint text c is in
+    let made : (s : Progress) × ((run_bytes start text ≡ Some s) × (whole_of s ≡ Some c)) = run_bytes-IsConstraint text c is in
     ap (λ o. option_and_then whole_of o) made.1.0 ∙ made.1.1
 
 pub constraint_of-sound : (text : List ℕ) (c : Constraint) → constraint_of text ≡ Some c → IsConstraint text c
-constraint_of-sound text c is = go (run start text) refl is
+constraint_of-sound text c is = go (run_bytes start text) refl is
   where
-    go : (o : Option Reading) → run start text ≡ o → option_and_then whole_of o ≡ Some c → IsConstraint text c
+    go : (o : Option Progress) → run_bytes start text ≡ o → option_and_then whole_of o ≡ Some c → IsConstraint text c
     go None e h = absurd (cc)
     go (Some s) e h = IsConstraint-read text s c e h
 

@@ -12,7 +12,7 @@ use Rattle.swarm_objects.specs.declared.templates.Key.{Key}
 use Rattle.swarm_objects.specs.declared.templates.Key.TheVariants as key
 use Rattle.swarm_objects.specs.declared.templates.Constraint.{Constraint}
 use Rattle.swarm_objects.specs.Names.{is_name, is_value}
-use Rattle.swarm_filters.specs.Machine.{Reading, in_key, in_label, after_key, in_value, constraint_with, label_key, key_words, word_begun}
+use Rattle.swarm_filters.specs.Machine.{Progress, in_key, in_label, after_key, in_value, constraint_with, label_key, key_words, word_begun}
 use Rattle.swarm_filters.proofs.Suffixes.{InKey, KeyTail, Spelling, AfterKey, Suffix, at, same, never}
 
 small_rest : (bs : List ℕ) → list_all (λ b. to_ascii_lowercase b == b) bs ≡ true → str_to_ascii_lowercase bs ≡ bs
@@ -31,15 +31,15 @@ both_small true y e = e
 both_small false y e = absurd (cc)
 
 -- the bytes of a value make one
-abbrev pub IsSound : Reading → Type 0
+abbrev pub IsSound : Progress → Type 0
 IsSound (in_value k equal value) = IsTrue (is_value value)
 IsSound _ = Unit {0}
 
-abbrev pub Completes : Reading → Type 0
+abbrev pub Completes : Progress → Type 0
 Completes r = IsSound r × ((t : List ℕ) × ((c : Constraint) × Suffix r t c))
 
 -- the word is in small letters, and what is read with it is right
-pub record IsGood (word : List ℕ) (r : Reading) : Type 0 where
+pub record IsGood (word : List ℕ) (r : Progress) : Type 0 where
   pub small : list_all (λ b. to_ascii_lowercase b == b) word ≡ true
   pub finds : (bytes : List ℕ) (b : ℕ) (t : List ℕ) (c : Constraint) → word ≡ bytes ++ to_ascii_lowercase b ∷ [] → Suffix r t c → InKey bytes (b ∷ t) c
   pub begins : (bytes rest : List ℕ) → Spelling bytes rest word → Completes (in_key bytes)
@@ -71,7 +71,7 @@ good_label g word small tail = record {
   fits = (tt, (codes "a==a", (constraint_with (label_key g (codes "a")) true (codes "a"), record { more = codes "a"; rest = codes "==a"; whole = refl; named = refl; behind = end_of (label_key g (codes "a")) })));
 }
 
-abbrev pub AllGood : List (List ℕ × Reading) → Type 0
+abbrev pub AllGood : List (List ℕ × Progress) → Type 0
 AllGood [] = Unit {0}
 AllGood (word ∷ words) = IsGood word.0 word.1 × AllGood words
 
@@ -113,7 +113,7 @@ joined_tail bytes b raw (key.Engine name) is = (b ∷ is.0, (joined bytes b is.0
 longer_key : (bytes : List ℕ) (b : ℕ) (t : List ℕ) (c : Constraint) → InKey (bytes ++ to_ascii_lowercase b ∷ []) t c → InKey bytes (b ∷ t) c
 longer_key bytes b t c rest = record { raw = b ∷ rest.raw; found = rest.found; rest = rest.rest; whole = ap (λ r. b ∷ r) rest.whole; is_key = joined_tail bytes b rest.raw rest.found rest.is_key; behind = rest.behind }
 
-pub word_begun-suffix : (bytes : List ℕ) (b : ℕ) (words : List (List ℕ × Reading)) → AllGood words → (s : Reading) (t : List ℕ) (c : Constraint) → word_begun (bytes ++ to_ascii_lowercase b ∷ []) words ≡ Some s → Suffix s t c → InKey bytes (b ∷ t) c
+pub word_begun-suffix : (bytes : List ℕ) (b : ℕ) (words : List (List ℕ × Progress)) → AllGood words → (s : Progress) (t : List ℕ) (c : Constraint) → word_begun (bytes ++ to_ascii_lowercase b ∷ []) words ≡ Some s → Suffix s t c → InKey bytes (b ∷ t) c
 word_begun-suffix bytes b [] good s t c h suffix = never s h
 word_begun-suffix bytes b (w ∷ words) good s t c h suffix = whole (bytes_eq w.0 (bytes ++ to_ascii_lowercase b ∷ [])) refl h (λ e. word_begun-suffix bytes b words good.1 s t c e suffix)
   where
@@ -133,10 +133,10 @@ spelled word bytes small begins =
     let each : (list_all (λ b. to_ascii_lowercase b == b) bytes && list_all (λ b. to_ascii_lowercase b == b) (drop (length bytes) word)) ≡ true = sym (list_all-append (λ b. to_ascii_lowercase b == b) bytes (drop (length bytes) word)) ∙ ap (λ x. list_all (λ b. to_ascii_lowercase b == b) x) parts ∙ small in
     ap (λ x. bytes ++ x) (small_rest (drop (length bytes) word) (both_small (list_all (λ b. to_ascii_lowercase b == b) bytes) (list_all (λ b. to_ascii_lowercase b == b) (drop (length bytes) word)) each)) ∙ parts
 
-pub completes_at : (r s : Reading) → r ≡ s → Completes r → Completes s
+pub completes_at : (r s : Progress) → r ≡ s → Completes r → Completes s
 completes_at r s e done = subst (λ q. Completes q) e done
 
-pub word_begun-completes : (bytes : List ℕ) (words : List (List ℕ × Reading)) → AllGood words → (s : Reading) → word_begun bytes words ≡ Some s → Completes s
+pub word_begun-completes : (bytes : List ℕ) (words : List (List ℕ × Progress)) → AllGood words → (s : Progress) → word_begun bytes words ≡ Some s → Completes s
 word_begun-completes bytes [] good s h = never s h
 word_begun-completes bytes (w ∷ words) good s h = whole (bytes_eq w.0 bytes) refl h (λ e. word_begun-completes bytes words good.1 s e)
   where

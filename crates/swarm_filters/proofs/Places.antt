@@ -6,7 +6,7 @@ use Rattle.std.specs.List.{starts_with}
 use Rattle.std.specs.Str.{bytes_eq, str_to_ascii_lowercase}
 use Rattle.std.proofs.Math.Seq.{take-suc}
 use Rattle.std.proofs.lemmas.List.{get_or-drop, map-append, length-map, take-map}
-use Rattle.swarm_filters.specs.Shown.{part}
+use Rattle.swarm_filters.specs.Inside.States.{part}
 
 pub part-next : (text : List ℕ) (from end : ℕ) → from ≤ end → end < length text → part text from (end + 1) ≡ part text from end ++ slice_index text end ∷ []
 part-next text from end order below =

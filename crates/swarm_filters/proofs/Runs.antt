@@ -8,11 +8,11 @@ use Rattle.swarm_objects.specs.declared.templates.Key.TheVariants as key
 use Rattle.swarm_objects.specs.declared.templates.Constraint.{Constraint}
 use Rattle.swarm_filters.specs.Grammar.{IsKey, sign_of, IsConstraint}
 use Rattle.swarm_objects.specs.Names.{is_value, is_name}
-use Rattle.swarm_filters.specs.Machine.{Reading, start, in_key, in_label, after_key, in_sign, after_sign, in_value, finished, label_key, constraint_with, key_words, key_begun, behind_key, step, goes_on, run, whole_of}
+use Rattle.swarm_filters.specs.Machine.{Progress, start, in_key, in_label, after_key, in_sign, after_sign, in_value, finished, label_key, constraint_with, key_words, key_begun, behind_key, byte_step, goes_on, run_bytes, whole_of}
 use Rattle.swarm_filters.proofs.Suffixes.{FromStart, InKey, KeyTail, AfterKey, AfterSign, ValueTail, Suffix, at, same, never, space_more, behind_key-suffix, in_sign-suffix, after_sign-suffix, finished-suffix, in_value-suffix, in_label-suffix}
 use Rattle.swarm_filters.proofs.KeyWords.{IsSound, Completes, completes_at, end_of, all_good, word_begun-suffix, word_begun-completes}
 
-start-suffix : (b : ℕ) (s : Reading) (t : List ℕ) (c : Constraint) → step start b ≡ Some s → Suffix s t c → FromStart (b ∷ t) c
+start-suffix : (b : ℕ) (s : Progress) (t : List ℕ) (c : Constraint) → byte_step start b ≡ Some s → Suffix s t c → FromStart (b ∷ t) c
 start-suffix b s t c = go (b == 32) refl
   where
     go : (x : Bool) → (b == 32) ≡ x → cond x (Some start) (key_begun (to_ascii_lowercase b ∷ [])) ≡ Some s → Suffix s t c → FromStart (b ∷ t) c
@@ -21,15 +21,15 @@ start-suffix b s t c = go (b == 32) refl
         record { gap = b ∷ rest.gap; rest = rest.rest; whole = ap (λ r. b ∷ r) rest.whole; spaces = space_more b rest.gap e rest.spaces; behind = rest.behind }
     go false e h suffix = record { gap = []; rest = b ∷ t; whole = refl; spaces = refl; behind = word_begun-suffix [] b key_words all_good s t c h suffix }
 
-step-suffix : (r : Reading) (b : ℕ) (s : Reading) (t : List ℕ) (c : Constraint) → IsSound r → step r b ≡ Some s → Suffix s t c → Suffix r (b ∷ t) c
-step-suffix start b s t c sound h suffix = start-suffix b s t c h suffix
-step-suffix (in_key bytes) b s t c sound h suffix = word_begun-suffix bytes b key_words all_good s t c h suffix
-step-suffix (in_label g n) b s t c sound h suffix = in_label-suffix g n b s t c h suffix
-step-suffix (after_key k) b s t c sound h suffix = behind_key-suffix k b s t c h suffix
-step-suffix (in_sign k e) b s t c sound h suffix = in_sign-suffix k e b s t c h suffix
-step-suffix (after_sign k e) b s t c sound h suffix = after_sign-suffix k e b s t c h suffix
-step-suffix (in_value k e v) b s t c sound h suffix = in_value-suffix k e v b s t c sound h suffix
-step-suffix (finished known) b s t c sound h suffix = finished-suffix known b s t c h suffix
+byte_step-suffix : (r : Progress) (b : ℕ) (s : Progress) (t : List ℕ) (c : Constraint) → IsSound r → byte_step r b ≡ Some s → Suffix s t c → Suffix r (b ∷ t) c
+byte_step-suffix start b s t c sound h suffix = start-suffix b s t c h suffix
+byte_step-suffix (in_key bytes) b s t c sound h suffix = word_begun-suffix bytes b key_words all_good s t c h suffix
+byte_step-suffix (in_label g n) b s t c sound h suffix = in_label-suffix g n b s t c h suffix
+byte_step-suffix (after_key k) b s t c sound h suffix = behind_key-suffix k b s t c h suffix
+byte_step-suffix (in_sign k e) b s t c sound h suffix = in_sign-suffix k e b s t c h suffix
+byte_step-suffix (after_sign k e) b s t c sound h suffix = after_sign-suffix k e b s t c h suffix
+byte_step-suffix (in_value k e v) b s t c sound h suffix = in_value-suffix k e v b s t c sound h suffix
+byte_step-suffix (finished known) b s t c sound h suffix = finished-suffix known b s t c h suffix
 
 -- each reading can be made whole
 
@@ -75,57 +75,57 @@ in_label_completes g n named = (tt, (codes "==a", (constraint_with (label_key g 
 finished_completes : (c : Constraint) → Completes (finished c)
 finished_completes c = (tt, ([], (c, record { is = refl; spaces = refl })))
 
-when : (x : Bool) (r : Reading) (o : Option Reading) (s : Reading) → (x ≡ true → Completes r) → (o ≡ Some s → Completes s) → cond x (Some r) o ≡ Some s → Completes s
+when : (x : Bool) (r : Progress) (o : Option Progress) (s : Progress) → (x ≡ true → Completes r) → (o ≡ Some s → Completes s) → cond x (Some r) o ≡ Some s → Completes s
 when true r o s this that h = completes_at r s (same r s h) (this refl)
 when false r o s this that h = that h
 
-nothing : (s : Reading) → None ≡ Some s → Completes s
+nothing : (s : Progress) → None ≡ Some s → Completes s
 nothing s h = never s h
 
-behind_key-completes : (k : Key) (b : ℕ) (s : Reading) → behind_key k b ≡ Some s → Completes s
+behind_key-completes : (k : Key) (b : ℕ) (s : Progress) → behind_key k b ≡ Some s → Completes s
 behind_key-completes k b s h =
     when (b == 32) (after_key k) (cond (b == 61) (Some (in_sign k true)) (cond (b == 33) (Some (in_sign k false)) None)) s (λ _. after_key_completes k)
     (λ i. when (b == 61) (in_sign k true) (cond (b == 33) (Some (in_sign k false)) None) s (λ _. in_sign_completes k true)
     (λ j. when (b == 33) (in_sign k false) None s (λ _. in_sign_completes k false) (nothing s) j) i) h
 
-label_ends : (x : Bool) (k : Key) (b : ℕ) (s : Reading) → cond x (behind_key k b) None ≡ Some s → Completes s
+label_ends : (x : Bool) (k : Key) (b : ℕ) (s : Progress) → cond x (behind_key k b) None ≡ Some s → Completes s
 label_ends true k b s h = behind_key-completes k b s h
 label_ends false k b s h = never s h
 
-step-completes : (r : Reading) (b : ℕ) (s : Reading) → step r b ≡ Some s → Completes s
-step-completes start b s h = when (b == 32) start (key_begun (to_ascii_lowercase b ∷ [])) s (λ _. start_completes) (λ i. word_begun-completes (to_ascii_lowercase b ∷ []) key_words all_good s i) h
-step-completes (in_key bytes) b s h = word_begun-completes (bytes ++ to_ascii_lowercase b ∷ []) key_words all_good s h
-step-completes (in_label g n) b s h =
+byte_step-completes : (r : Progress) (b : ℕ) (s : Progress) → byte_step r b ≡ Some s → Completes s
+byte_step-completes start b s h = when (b == 32) start (key_begun (to_ascii_lowercase b ∷ [])) s (λ _. start_completes) (λ i. word_begun-completes (to_ascii_lowercase b ∷ []) key_words all_good s i) h
+byte_step-completes (in_key bytes) b s h = word_begun-completes (bytes ++ to_ascii_lowercase b ∷ []) key_words all_good s h
+byte_step-completes (in_label g n) b s h =
     when (is_name (n ++ b ∷ [])) (in_label g (n ++ b ∷ [])) (cond (is_name n) (behind_key (label_key g n) b) None) s (λ e. in_label_completes g (n ++ b ∷ []) e) (λ i. label_ends (is_name n) (label_key g n) b s i) h
-step-completes (after_key k) b s h = behind_key-completes k b s h
-step-completes (in_sign k e) b s h = when (b == 61) (after_sign k e) None s (λ _. after_sign_completes k e) (nothing s) h
-step-completes (after_sign k e) b s h =
+byte_step-completes (after_key k) b s h = behind_key-completes k b s h
+byte_step-completes (in_sign k e) b s h = when (b == 61) (after_sign k e) None s (λ _. after_sign_completes k e) (nothing s) h
+byte_step-completes (after_sign k e) b s h =
     when (b == 32) (after_sign k e) (cond (is_value (b ∷ [])) (Some (in_value k e (b ∷ []))) None) s (λ _. after_sign_completes k e)
     (λ i. when (is_value (b ∷ [])) (in_value k e (b ∷ [])) None s (λ v. in_value_completes k e (b ∷ []) v) (nothing s) i) h
-step-completes (in_value k e v) b s h =
+byte_step-completes (in_value k e v) b s h =
     when (b == 32) (finished (constraint_with k e v)) (cond (is_value (v ++ b ∷ [])) (Some (in_value k e (v ++ b ∷ []))) None) s (λ _. finished_completes (constraint_with k e v))
     (λ i. when (is_value (v ++ b ∷ [])) (in_value k e (v ++ b ∷ [])) None s (λ w. in_value_completes k e (v ++ b ∷ []) w) (nothing s) i) h
-step-completes (finished c) b s h = when (b == 32) (finished c) None s (λ _. finished_completes c) (nothing s) h
+byte_step-completes (finished c) b s h = when (b == 32) (finished c) None s (λ _. finished_completes c) (nothing s) h
 
 -- many bytes
 
-run-suffix : (bs : List ℕ) (r s : Reading) (t : List ℕ) (c : Constraint) → IsSound r → run r bs ≡ Some s → Suffix s t c → Suffix r (bs ++ t) c
-run-suffix [] r s t c sound h suffix = at r s t c (same r s h) suffix
-run-suffix (b ∷ bs) r s t c sound h suffix = go (step r b) refl h (λ q i j. run-suffix bs q s t c i j suffix)
+run_bytes-suffix : (bs : List ℕ) (r s : Progress) (t : List ℕ) (c : Constraint) → IsSound r → run_bytes r bs ≡ Some s → Suffix s t c → Suffix r (bs ++ t) c
+run_bytes-suffix [] r s t c sound h suffix = at r s t c (same r s h) suffix
+run_bytes-suffix (b ∷ bs) r s t c sound h suffix = go (byte_step r b) refl h (λ q i j. run_bytes-suffix bs q s t c i j suffix)
   where
-    go : (o : Option Reading) → step r b ≡ o → goes_on o (λ q. run q bs) ≡ Some s → ((q : Reading) → IsSound q → run q bs ≡ Some s → Suffix q (bs ++ t) c) → Suffix r (b ∷ (bs ++ t)) c
+    go : (o : Option Progress) → byte_step r b ≡ o → goes_on o (λ q. run_bytes q bs) ≡ Some s → ((q : Progress) → IsSound q → run_bytes q bs ≡ Some s → Suffix q (bs ++ t) c) → Suffix r (b ∷ (bs ++ t)) c
     go None e i rest = never s i
-    go (Some q) e i rest = step-suffix r b q (bs ++ t) c sound e (rest q (step-completes r b q e).0 i)
+    go (Some q) e i rest = byte_step-suffix r b q (bs ++ t) c sound e (rest q (byte_step-completes r b q e).0 i)
 
-pub run-completes : (bs : List ℕ) (r s : Reading) → Completes r → run r bs ≡ Some s → Completes s
-run-completes [] r s done h = completes_at r s (same r s h) done
-run-completes (b ∷ bs) r s done h = go (step r b) refl h (λ q i j. run-completes bs q s i j)
+pub run_bytes-completes : (bs : List ℕ) (r s : Progress) → Completes r → run_bytes r bs ≡ Some s → Completes s
+run_bytes-completes [] r s done h = completes_at r s (same r s h) done
+run_bytes-completes (b ∷ bs) r s done h = go (byte_step r b) refl h (λ q i j. run_bytes-completes bs q s i j)
   where
-    go : (o : Option Reading) → step r b ≡ o → goes_on o (λ q. run q bs) ≡ Some s → ((q : Reading) → Completes q → run q bs ≡ Some s → Completes s) → Completes s
+    go : (o : Option Progress) → byte_step r b ≡ o → goes_on o (λ q. run_bytes q bs) ≡ Some s → ((q : Progress) → Completes q → run_bytes q bs ≡ Some s → Completes s) → Completes s
     go None e i rest = never s i
-    go (Some q) e i rest = rest q (step-completes r b q e) i
+    go (Some q) e i rest = rest q (byte_step-completes r b q e) i
 
-whole_of-suffix : (r : Reading) (c : Constraint) → IsSound r → whole_of r ≡ Some c → Suffix r [] c
+whole_of-suffix : (r : Progress) (c : Constraint) → IsSound r → whole_of r ≡ Some c → Suffix r [] c
 whole_of-suffix (in_value k e v) c sound h =
     let is : constraint_with k e v ≡ c = cc in
     subst (λ d. ValueTail k e v [] d) is (value_whole k e v sound)
@@ -164,13 +164,13 @@ from_start t c a =
     })
 
 -- what is read whole is a constraint
-pub IsConstraint-read : (t : List ℕ) (s : Reading) (c : Constraint) → run start t ≡ Some s → whole_of s ≡ Some c → IsConstraint t c
+pub IsConstraint-read : (t : List ℕ) (s : Progress) (c : Constraint) → run_bytes start t ≡ Some s → whole_of s ≡ Some c → IsConstraint t c
 IsConstraint-read t s c h w =
-    let suffix : Suffix start (t ++ []) c = run-suffix t start s [] c tt h (whole_of-suffix s c (run-completes t start s start_completes h).0 w) in
+    let suffix : Suffix start (t ++ []) c = run_bytes-suffix t start s [] c tt h (whole_of-suffix s c (run_bytes-completes t start s start_completes h).0 w) in
     from_start t c (subst (λ x. FromStart x c) (append-nil t) suffix)
 
 -- what is read can be made whole
-pub Continues-read : (t : List ℕ) (s : Reading) → run start t ≡ Some s → (more : List ℕ) × ((c : Constraint) × IsConstraint (t ++ more) c)
+pub Continues-read : (t : List ℕ) (s : Progress) → run_bytes start t ≡ Some s → (more : List ℕ) × ((c : Constraint) × IsConstraint (t ++ more) c)
 Continues-read t s h =
-    let done : Completes s = run-completes t start s start_completes h in
-    (done.1.0, (done.1.1.0, from_start (t ++ done.1.0) done.1.1.0 (run-suffix t start s done.1.0 done.1.1.0 tt h done.1.1.1)))
+    let done : Completes s = run_bytes-completes t start s start_completes h in
+    (done.1.0, (done.1.1.0, from_start (t ++ done.1.0) done.1.1.0 (run_bytes-suffix t start s done.1.0 done.1.1.0 tt h done.1.1.1)))

@@ -10,7 +10,7 @@ use Rattle.swarm_objects.specs.declared.templates.Key.TheVariants as key
 use Rattle.swarm_objects.specs.declared.templates.Constraint.{Constraint}
 use Rattle.swarm_filters.specs.Grammar.{is_space, AreSpaces, sign_of}
 use Rattle.swarm_objects.specs.Names.{is_value, is_name}
-use Rattle.swarm_filters.specs.Machine.{Reading, start, in_key, in_label, after_key, in_sign, after_sign, in_value, finished, label_key, constraint_with, behind_key, step}
+use Rattle.swarm_filters.specs.Machine.{Progress, start, in_key, in_label, after_key, in_sign, after_sign, in_value, finished, label_key, constraint_with, behind_key, byte_step}
 
 pub record AfterWhole (known : Constraint) (text : List ℕ) (c : Constraint) : Type 0 where
   pub is : c ≡ known
@@ -86,7 +86,7 @@ pub record FromStart (text : List ℕ) (c : Constraint) : Type 0 where
   pub behind : InKey [] rest c
 
 -- this text makes what was read the constraint
-abbrev pub Suffix : Reading → List ℕ → Constraint → Type 0
+abbrev pub Suffix : Progress → List ℕ → Constraint → Type 0
 Suffix start text c = FromStart text c
 Suffix (in_key bytes) text c = InKey bytes text c
 Suffix (in_label engine name) text c = LabelTail engine name text c
@@ -98,13 +98,13 @@ Suffix (finished known) text c = AfterWhole known text c
 
 -- small steps
 
-pub at : (r s : Reading) (t : List ℕ) (c : Constraint) → r ≡ s → Suffix s t c → Suffix r t c
+pub at : (r s : Progress) (t : List ℕ) (c : Constraint) → r ≡ s → Suffix s t c → Suffix r t c
 at r s t c e suffix = subst (λ q. Suffix q t c) (sym e) suffix
 
-pub never : {X : Type 0} (r : Reading) → None ≡ Some r → X
+pub never : {X : Type 0} (r : Progress) → None ≡ Some r → X
 never r e = absurd (cc)
 
-pub same : (r s : Reading) → Some r ≡ Some s → r ≡ s
+pub same : (r s : Progress) → Some r ≡ Some s → r ≡ s
 same r s e = cc
 
 pub is_byte : (b n : ℕ) → (b == n) ≡ true → b ≡ n
@@ -115,7 +115,7 @@ space_more b bs e spaces = ap (λ x. x && list_all is_space bs) e ∙ spaces
 
 -- one byte before the rest
 
-pub behind_key-suffix : (k : Key) (b : ℕ) (s : Reading) (t : List ℕ) (c : Constraint) → behind_key k b ≡ Some s → Suffix s t c → AfterKey k (b ∷ t) c
+pub behind_key-suffix : (k : Key) (b : ℕ) (s : Progress) (t : List ℕ) (c : Constraint) → behind_key k b ≡ Some s → Suffix s t c → AfterKey k (b ∷ t) c
 behind_key-suffix k b s t c = space (b == 32) refl
   where
     space : (x : Bool) → (b == 32) ≡ x → cond x (Some (after_key k)) (cond (b == 61) (Some (in_sign k true)) (cond (b == 33) (Some (in_sign k false)) None)) ≡ Some s → Suffix s t c → AfterKey k (b ∷ t) c
@@ -135,14 +135,14 @@ behind_key-suffix k b s t c = space (b == 32) refl
         equals true f h suffix = sign true (ap (λ n. n ∷ 61 ∷ []) (sym (is_byte b 61 f))) (at (in_sign k true) s t c (same (in_sign k true) s h) suffix)
         equals false f h suffix = other (b == 33) refl h suffix
 
-pub in_sign-suffix : (k : Key) (equal : Bool) (b : ℕ) (s : Reading) (t : List ℕ) (c : Constraint) → step (in_sign k equal) b ≡ Some s → Suffix s t c → SignTail k equal (b ∷ t) c
+pub in_sign-suffix : (k : Key) (equal : Bool) (b : ℕ) (s : Progress) (t : List ℕ) (c : Constraint) → byte_step (in_sign k equal) b ≡ Some s → Suffix s t c → SignTail k equal (b ∷ t) c
 in_sign-suffix k equal b s t c = go (b == 61) refl
   where
     go : (x : Bool) → (b == 61) ≡ x → cond x (Some (after_sign k equal)) None ≡ Some s → Suffix s t c → SignTail k equal (b ∷ t) c
     go true e h suffix = record { rest = t; whole = ap (λ n. n ∷ t) (is_byte b 61 e); behind = at (after_sign k equal) s t c (same (after_sign k equal) s h) suffix }
     go false e h suffix = never s h
 
-pub after_sign-suffix : (k : Key) (equal : Bool) (b : ℕ) (s : Reading) (t : List ℕ) (c : Constraint) → step (after_sign k equal) b ≡ Some s → Suffix s t c → AfterSign k equal (b ∷ t) c
+pub after_sign-suffix : (k : Key) (equal : Bool) (b : ℕ) (s : Progress) (t : List ℕ) (c : Constraint) → byte_step (after_sign k equal) b ≡ Some s → Suffix s t c → AfterSign k equal (b ∷ t) c
 after_sign-suffix k equal b s t c = space (b == 32) refl
   where
     value : (x : Bool) → is_value (b ∷ []) ≡ x → cond x (Some (in_value k equal (b ∷ []))) None ≡ Some s → Suffix s t c → AfterSign k equal (b ∷ t) c
@@ -157,7 +157,7 @@ after_sign-suffix k equal b s t c = space (b == 32) refl
         record { gap = b ∷ rest.gap; value = rest.value; last = rest.last; whole = ap (λ r. b ∷ r) rest.whole; spaces = space_more b rest.gap e rest.spaces; valued = rest.valued; last_spaces = rest.last_spaces; is = rest.is }
     space false e h suffix = value (is_value (b ∷ [])) refl h suffix
 
-pub finished-suffix : (known : Constraint) (b : ℕ) (s : Reading) (t : List ℕ) (c : Constraint) → step (finished known) b ≡ Some s → Suffix s t c → AfterWhole known (b ∷ t) c
+pub finished-suffix : (known : Constraint) (b : ℕ) (s : Progress) (t : List ℕ) (c : Constraint) → byte_step (finished known) b ≡ Some s → Suffix s t c → AfterWhole known (b ∷ t) c
 finished-suffix known b s t c = go (b == 32) refl
   where
     go : (x : Bool) → (b == 32) ≡ x → cond x (Some (finished known)) None ≡ Some s → Suffix s t c → AfterWhole known (b ∷ t) c
@@ -166,7 +166,7 @@ finished-suffix known b s t c = go (b == 32) refl
         record { is = rest.is; spaces = space_more b t e rest.spaces }
     go false e h suffix = never s h
 
-pub in_value-suffix : (k : Key) (equal : Bool) (v : List ℕ) (b : ℕ) (s : Reading) (t : List ℕ) (c : Constraint) → IsTrue (is_value v) → step (in_value k equal v) b ≡ Some s → Suffix s t c → ValueTail k equal v (b ∷ t) c
+pub in_value-suffix : (k : Key) (equal : Bool) (v : List ℕ) (b : ℕ) (s : Progress) (t : List ℕ) (c : Constraint) → IsTrue (is_value v) → byte_step (in_value k equal v) b ≡ Some s → Suffix s t c → ValueTail k equal v (b ∷ t) c
 in_value-suffix k equal v b s t c valued = space (b == 32) refl
   where
     joined : (more : List ℕ) → (v ++ b ∷ []) ++ more ≡ v ++ b ∷ more
@@ -184,7 +184,7 @@ in_value-suffix k equal v b s t c valued = space (b == 32) refl
         record { more = []; gap = b ∷ t; whole = refl; valued = subst (λ w. IsTrue (is_value w)) (sym (append-nil v)) valued; spaces = space_more b t e rest.spaces; is = rest.is ∙ ap (λ w. constraint_with k equal w) (sym (append-nil v)) }
     space false e h suffix = value (is_value (v ++ b ∷ [])) refl h suffix
 
-pub in_label-suffix : (g : Bool) (n : List ℕ) (b : ℕ) (s : Reading) (t : List ℕ) (c : Constraint) → step (in_label g n) b ≡ Some s → Suffix s t c → LabelTail g n (b ∷ t) c
+pub in_label-suffix : (g : Bool) (n : List ℕ) (b : ℕ) (s : Progress) (t : List ℕ) (c : Constraint) → byte_step (in_label g n) b ≡ Some s → Suffix s t c → LabelTail g n (b ∷ t) c
 in_label-suffix g n b s t c = longer (is_name (n ++ b ∷ [])) refl
   where
     joined : (more : List ℕ) → (n ++ b ∷ []) ++ more ≡ n ++ b ∷ more

@@ -2,8 +2,8 @@
 use Rattle.std.specs.Prelude.{◌≡◌, ℕ, List, Option, Some, None, Result, Ok, Err}
 use Rattle.swarm_objects.specs.declared.templates.Constraint.{Constraint}
 use Rattle.swarm_filters.specs.Grammar.{IsFault}
-use Rattle.swarm_filters.specs.declared.parsed.ParseFault.{ParseFault}
-use Rattle.swarm_filters.specs.declared.parsed.ParseFault.TheVariants.{BadConstraint, NoMemory}
+use Rattle.swarm_filters.specs.declared.constraint.ParseFault.{ParseFault}
+use Rattle.swarm_filters.specs.declared.constraint.ParseFault.TheVariants.{BadConstraint, NoMemory}
 
 -- the text is no constraint from this place on; or memory was wanting
 abbrev pub IsParseFault : List ℕ → ParseFault → Type 0

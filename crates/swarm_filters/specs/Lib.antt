@@ -2,5 +2,5 @@ pub mod Grammar
 pub mod Machine
 pub mod Keys
 pub mod Spellings
-pub mod Shown
+pub mod Inside
 pub mod Faults

@@ -6,15 +6,15 @@ use Rattle.swarm_objects.specs.declared.templates.Key.TheVariants as key
 use Rattle.swarm_objects.specs.declared.templates.Constraint.{Constraint}
 use Rattle.swarm_filters.specs.Grammar.{IsConstraint}
 use Rattle.swarm_objects.specs.Names.{is_value}
-use Rattle.swarm_filters.specs.Machine.{Reading, start, in_key, in_label, after_key, in_sign, after_sign, in_value}
+use Rattle.swarm_filters.specs.Machine.{Progress, start, in_key, in_label, after_key, in_sign, after_sign, in_value}
 use Rattle.swarm_filters.specs.Machine.{finished, label_key, constraint_with}
 use Rattle.swarm_filters.specs.Spellings.{key_has_text}
-use Rattle.swarm_filters.specs.declared.states.Span.{Span}
-use Rattle.swarm_filters.specs.declared.states.Found.{Found}
-use Rattle.swarm_filters.specs.declared.states.Found.TheVariants as found
-use Rattle.swarm_filters.specs.declared.states.Parts.{Parts}
-use Rattle.swarm_filters.specs.declared.states.State.{State}
-use Rattle.swarm_filters.specs.declared.states.State.TheVariants as state
+use Rattle.swarm_filters.specs.declared.state.Span.{Span}
+use Rattle.swarm_filters.specs.declared.state.Found.{Found}
+use Rattle.swarm_filters.specs.declared.state.Found.TheVariants as found
+use Rattle.swarm_filters.specs.declared.state.Parts.{Parts}
+use Rattle.swarm_filters.specs.declared.state.State.{State}
+use Rattle.swarm_filters.specs.declared.state.State.TheVariants as state
 
 -- the bytes from one place up to another
 abbrev pub part : List ℕ → ℕ → ℕ → List ℕ
@@ -35,7 +35,7 @@ abbrev pub whole_at : List ℕ → Parts → Constraint
 whole_at text p = constraint_with (key_at text p.found) p.equal (span_of text p.value)
 
 -- what was read of the text up to a place
-abbrev pub shown : List ℕ → ℕ → State → Reading
+abbrev pub shown : List ℕ → ℕ → State → Progress
 shown text place state.Start = start
 shown text place (state.InKey from) = in_key (str_to_ascii_lowercase (part text from place))
 shown text place (state.InLabel engine from) = in_label engine (part text from place)
@@ -45,7 +45,7 @@ shown text place (state.AfterSign f equal) = after_sign (key_at text f) equal
 shown text place (state.InValue f equal from) = in_value (key_at text f) equal (part text from place)
 shown text place (state.Finished p) = finished (whole_at text p)
 
-abbrev pub option_shown : List ℕ → ℕ → Option State → Option Reading
+abbrev pub option_shown : List ℕ → ℕ → Option State → Option Progress
 option_shown text place None = None
 option_shown text place (Some s) = Some (shown text place s)
 

@@ -5,7 +5,7 @@ ghost use Rattle.swarm_filters.specs.Grammar.{HoldsExactly, IsKey};
 ghost use Rattle.swarm_filters.specs.Keys.{fixed_key, key_of, label_of, name_behind};
 ghost use Rattle.swarm_objects.specs.Names.{is_name};
 
-use crate::parsing::is_word;
+use crate::machine::is_word;
 use std::alloc::Global;
 use swarm_objects::names::{is_name, name_of};
 use swarm_objects::{Key, NoMemory};

@@ -1,7 +1,7 @@
 use Rattle.std.proofs.Common.{rules, Some, None, sym}
 use Rattle.swarm_filters.specs.Grammar.{IsConstraint}
 use Rattle.swarm_filters.proofs.Constraints.{constraint_of-complete, constraint_of-fault, exact_constraint}
-use Rattle.swarm_filters.proofs.parsed.read_constraint.Goals as goal
+use Rattle.swarm_filters.proofs.constraint.read_constraint.Goals as goal
 
 pub returns-in_ok-made-in-Ok-clause-form : goal.returns-in_ok-made-in-Ok-clause-form
 returns-in_ok-made-in-Ok-clause-form c =

@@ -1,7 +1,7 @@
 use Rattle.std.proofs.Common.{◌∙◌, sym}
 use Rattle.swarm_filters.proofs.KeyTexts.{behind_found, behind_another, behind_nameless}
-use Rattle.swarm_filters.proofs.keys.name_behind.Goals as goal
-use Rattle.swarm_filters.proofs.keys.name_behind.Goals.{else-is_word-via-then-is_word+else-is_name, else-is_word-via-else-is_word}
+use Rattle.swarm_filters.proofs.key.name_behind.Goals as goal
+use Rattle.swarm_filters.proofs.key.name_behind.Goals.{else-is_word-via-then-is_word+else-is_name, else-is_word-via-else-is_word}
 
 pub returns-then-is_name-clause-name : goal.returns-then-is_name-clause-name
 returns-then-is_name-clause-name c = behind_found c.args.prefix.now c.args.word.now c.in_ok-front.front.now c.in_ok-front.rest.now c.in_ok-front.ensures.cases.1 c.in_ok-front.ensures.cases.2 (sym c.is_word.ensures ∙ c.if-is_word.true) (sym c.is_name.ensures ∙ c.if-is_name.true)

@@ -1,12 +1,12 @@
-// Reading constraints.
+// The machine that reads constraints, byte by byte.
 ghost use Rattle.std.specs.Prelude.{◌≡◌, ◌+◌, ◌<◌, ◌≤◌, length, drop, nat_eq, slice_index};
 ghost use Rattle.std.specs.List.{starts_with};
 ghost use Rattle.std.specs.Str.{bytes_eq, str_eq_ignore_ascii_case, str_to_ascii_lowercase};
-ghost use Rattle.swarm_filters.specs.Machine.{behind_key, key_words, label_words, platform_words, step, word_begun};
-ghost use Rattle.swarm_filters.specs.declared.states.State.TheVariants.{AfterSign, InKey, InLabel, InValue, Start};
-ghost use Rattle.swarm_filters.specs.Shown.{FoundFits, OptionFits, StateFits, key_at, option_shown, part, shown};
+ghost use Rattle.swarm_filters.specs.Machine.{behind_key, key_words, label_words, platform_words, byte_step, word_begun};
+ghost use Rattle.swarm_filters.specs.declared.state.State.TheVariants.{AfterSign, InKey, InLabel, InValue, Start};
+ghost use Rattle.swarm_filters.specs.Inside.States.{FoundFits, OptionFits, StateFits, key_at, option_shown, part, shown};
 
-use crate::states::{Found, Parts, Span, State};
+use crate::state::{Found, Parts, Span, State};
 use swarm_objects::names::{is_name, is_value};
 
 /// Whether the bytes are the word, in letters of either case.
@@ -123,7 +123,7 @@ fn label_step(text: &[u8], place: usize, engine: bool, from: usize) -> Option<St
     requires order { from ≤ place }
     ensures shows {
         option_shown text.now (place + 1) result
-            ≡ step (shown text.now place (InLabel engine from)) (slice_index text.now place)
+            ≡ byte_step (shown text.now place (InLabel engine from)) (slice_index text.now place)
     }
     ensures fits { OptionFits (place + 1) result }
 {
@@ -145,7 +145,7 @@ fn value_step(text: &[u8], place: usize, parts: Parts) -> Option<State>
     requires end { parts.value.end ≡ place }
     ensures shows {
         option_shown text.now (place + 1) result
-            ≡ step
+            ≡ byte_step
                 (shown text.now place (InValue parts.found parts.equal parts.value.from))
                 (slice_index text.now place)
     }
@@ -166,7 +166,7 @@ fn value_begun(text: &[u8], place: usize, found: Found, equal: bool) -> Option<S
     requires found { FoundFits place found }
     ensures shows {
         option_shown text.now (place + 1) result
-            ≡ step (shown text.now place (AfterSign found equal)) (slice_index text.now place)
+            ≡ byte_step (shown text.now place (AfterSign found equal)) (slice_index text.now place)
     }
     ensures fits { OptionFits (place + 1) result }
 {
@@ -182,7 +182,7 @@ fn value_begun(text: &[u8], place: usize, found: Found, equal: bool) -> Option<S
 fn start_step(text: &[u8], place: usize) -> Option<State>
     requires below { place < length text.now }
     ensures shows {
-        option_shown text.now (place + 1) result ≡ step (shown text.now place Start) (slice_index text.now place)
+        option_shown text.now (place + 1) result ≡ byte_step (shown text.now place Start) (slice_index text.now place)
     }
     ensures fits { OptionFits (place + 1) result }
 {
@@ -196,7 +196,8 @@ fn key_step(text: &[u8], place: usize, from: usize) -> Option<State>
     requires below { place < length text.now }
     requires order { from ≤ place }
     ensures shows {
-        option_shown text.now (place + 1) result ≡ step (shown text.now place (InKey from)) (slice_index text.now place)
+        option_shown text.now (place + 1) result
+            ≡ byte_step (shown text.now place (InKey from)) (slice_index text.now place)
     }
     ensures fits { OptionFits (place + 1) result }
 {
@@ -204,11 +205,11 @@ fn key_step(text: &[u8], place: usize, from: usize) -> Option<State>
 }
 
 // What was read with one byte more.
-pub fn step(text: &[u8], place: usize, state: State) -> Option<State>
+pub fn byte_step(text: &[u8], place: usize, state: State) -> Option<State>
     requires below { place < length text.now }
     requires fits { StateFits place state }
     ensures shows {
-        option_shown text.now (place + 1) result ≡ step (shown text.now place state) (slice_index text.now place)
+        option_shown text.now (place + 1) result ≡ byte_step (shown text.now place state) (slice_index text.now place)
     }
     ensures fits { OptionFits (place + 1) result }
 {

@@ -1,6 +1,6 @@
 use Rattle.std.proofs.Common.{◌∙◌, sym}
 use Rattle.swarm_filters.proofs.Steps.{label_goes_on, label_fails, label_ends}
-use Rattle.swarm_filters.proofs.parsing.label_step.Goals as goal
+use Rattle.swarm_filters.proofs.machine.label_step.Goals as goal
 
 pub returns-then-is_name-clause-shows : goal.returns-then-is_name-clause-shows
 returns-then-is_name-clause-shows c = label_goes_on c.args.text.now c.args.from c.args.place c.args.engine c.requires.order c.requires.below (sym c.is_name.ensures ∙ c.if-is_name.true)

@@ -1,7 +1,7 @@
 use Rattle.std.proofs.lemmas.Result.{IfOk-weaker}
 use Rattle.swarm_filters.specs.Grammar.{HoldsExactly, IsKey}
 use Rattle.swarm_filters.proofs.KeyTexts.{exact_fixed, exact_label}
-use Rattle.swarm_filters.proofs.keys.read_key.Goals as goal
+use Rattle.swarm_filters.proofs.key.read_key.Goals as goal
 
 pub returns-in-Some-clause-form : goal.returns-in-Some-clause-form
 returns-in-Some-clause-form c = exact_fixed c.args.word.now c.in-Some.key c.in-Some.ensures

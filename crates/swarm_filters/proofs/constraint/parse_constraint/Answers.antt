@@ -2,7 +2,7 @@ use Rattle.std.proofs.Common.{rules, ap, ◌∙◌, sym}
 use Rattle.swarm_filters.specs.Grammar.{IsConstraint}
 use Rattle.swarm_filters.specs.Machine.{constraint_of}
 use Rattle.swarm_filters.proofs.Constraints.{only, constraint_of-complete, constraint_of-fault}
-use Rattle.swarm_filters.proofs.parsed.parse_constraint.Goals as goal
+use Rattle.swarm_filters.proofs.constraint.parse_constraint.Goals as goal
 
 pub returns-in_ok-made-in-Ok-clause-one : goal.returns-in_ok-made-in-Ok-clause-one
 returns-in_ok-made-in-Ok-clause-one c =

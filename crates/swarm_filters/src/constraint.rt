@@ -2,14 +2,14 @@
 ghost use Rattle.std.specs.Prelude.{◌≡◌, ◌≤◌, length, IfErr, IfOk, IsTrue};
 ghost use Rattle.swarm_filters.specs.Grammar.{HoldsExactly, IsConstraint, IsFault, IsOnly};
 ghost use Rattle.swarm_filters.specs.Machine.{constraint_of, whole_of};
-ghost use Rattle.swarm_filters.specs.Shown.{FoundFits, OptionPartsFit, PartsFit, PartsRead, SpanFits, StateFits};
-ghost use Rattle.swarm_filters.specs.Shown.{key_at, option_whole, shown, span_of, whole_at};
+ghost use Rattle.swarm_filters.specs.Inside.States.{FoundFits, OptionPartsFit, PartsFit, PartsRead, SpanFits, StateFits};
+ghost use Rattle.swarm_filters.specs.Inside.States.{key_at, option_whole, shown, span_of, whole_at};
 ghost use Rattle.swarm_filters.specs.Spellings.{key_has_text};
 ghost use Rattle.swarm_objects.specs.Names.{is_value};
 ghost use Rattle.swarm_filters.specs.Faults.{IsAnswer, IsParseFault};
 
-use crate::parsing::step;
-use crate::states::{Found, Parts, Span, State};
+use crate::machine::byte_step;
+use crate::state::{Found, Parts, Span, State};
 use std::alloc::Global;
 use swarm_objects::names::name_of;
 use swarm_objects::{Constraint, Key, Name, NoMemory};
@@ -26,7 +26,7 @@ pub enum ParseFault {
 }
 
 impl From<NoMemory> for ParseFault {
-    ghost use Rattle.swarm_filters.specs.declared.parsed.ParseFault.TheVariants.{NoMemory as OutOfMemory};
+    ghost use Rattle.swarm_filters.specs.declared.constraint.ParseFault.TheVariants.{NoMemory as OutOfMemory};
 
     ghost from_gives = { λ _ f. f ≡ OutOfMemory };
 
@@ -67,7 +67,7 @@ fn read(text: &[u8]) -> Result<Parts, usize>
 {
     let mut state = State::Start;
     for place in 0..text.len() {
-        match step(text, place, state) {
+        match byte_step(text, place, state) {
             Some(next) => state = next,
             None => return Err(place),
         }
