@@ -1,16 +1,16 @@
 // The agents' duties.
 ghost use Rattle.std.specs.Prelude.{◌≡◌, IfOk};
-ghost use Rattle.swarm_objects.specs.Today.Agents.{agents, wants_session as wants_a_session};
+ghost use Rattle.swarm_objects.specs.Today.Agents.{agents, wants_session};
 ghost use Rattle.swarm_plain.specs.Plain.{world_of};
 
 use swarm_objects::{Duty, List, NoMemory, Node, Rows, add};
 use swarm_plain::Plain;
 
 // A node whose agent is inside, without a live session.
-fn wants_session(plain: &Plain, node: &Node) -> bool
-    ensures { result ≡ wants_a_session (world_of plain.now).tables node.now }
+fn wants_session<R: Rows>(rows: &R, node: &Node) -> bool
+    ensures { result ≡ wants_session (R.tables rows.now) node.now }
 {
-    !node.remote && !plain.session_live(node.id)
+    !node.remote && !rows.session_live(node.id)
 }
 
 /// The agents that have to register.

@@ -1,12 +1,11 @@
 // The allocator's duties.
 ghost use Rattle.std.specs.Prelude.{◌≡◌, ◌==◌, ◌&&◌, IfOk};
-ghost use Rattle.swarm_objects.specs.Today.Allocator.{allocator, has_number as has_a_number, has_numbered_ports as has_all_numbers, wants_address as wants_an_address};
+ghost use Rattle.swarm_objects.specs.Today.Allocator.{allocator, has_number, has_numbered_ports, wants_address};
 ghost use Rattle.std.specs.List.{list_any};
 ghost use Rattle.swarm_objects.specs.Same.{same_bool};
 ghost use Rattle.swarm_plain.specs.Plain.{world_of};
 
-use crate::words::is_wanted;
-use swarm_objects::{Duty, List, NoMemory, Port, PortNumber, Rows, Service, Task, TaskState, add};
+use swarm_objects::{Duty, List, NoMemory, Port, PortNumber, Rows, Service, Task, add};
 use swarm_plain::Plain;
 
 // It is the number of this ingress port.
@@ -18,21 +17,24 @@ fn is_for(given: &PortNumber, port: &Port) -> bool
 
 // A number was given to this ingress port.
 fn was_given(numbers: &[PortNumber], port: &Port) -> bool
-    ensures { result ≡ list_any (λ given. given.target == port.now.target && same_bool given.udp port.now.udp) numbers.now }
+    ensures {
+        let is_port = λ (given : PortNumber). given.target == port.now.target && same_bool given.udp port.now.udp in
+        result ≡ list_any is_port numbers.now
+    }
 {
     numbers.iter().any(|given| is_for(given, port))
 }
 
 // The ingress port has a number: its own, or one that it was given.
 fn has_number(numbers: &[PortNumber], port: &Port) -> bool
-    ensures { result ≡ has_a_number numbers.now port.now }
+    ensures { result ≡ has_number numbers.now port.now }
 {
     port.number.is_some() || was_given(numbers, port)
 }
 
 // Each of the service's ports has a number.
 fn has_numbered_ports(service: &Service) -> bool
-    ensures { result ≡ has_all_numbers service.now }
+    ensures { result ≡ has_numbered_ports service.now }
 {
     service
         .spec
@@ -43,12 +45,12 @@ fn has_numbered_ports(service: &Service) -> bool
 }
 
 // The task can get its addresses.
-fn wants_address(plain: &Plain, task: &Task) -> bool
-    ensures { result ≡ wants_an_address (world_of plain.now).tables task.now }
+fn wants_address<R: Rows>(rows: &R, task: &Task) -> bool
+    ensures { result ≡ wants_address (R.tables rows.now) task.now }
 {
-    task.state == TaskState::New
-        && is_wanted(task)
-        && plain.service(task.service).is_some_and(has_numbered_ports)
+    task.state.is_new()
+        && task.is_wanted()
+        && rows.service(task.service).is_some_and(has_numbered_ports)
         && task.template.networks.as_slice().is_empty()
 }
 

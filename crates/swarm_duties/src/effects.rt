@@ -1,9 +1,8 @@
 // Doing the duties.
-ghost use Rattle.std.specs.Prelude.{◌≡◌, ◌+◌, IfOk, OnOk, OnErr};
+ghost use Rattle.std.specs.Prelude.{◌≡◌, OnOk, OnErr};
 ghost use Rattle.swarm_objects.specs.Changes.{addressed, noted, placed};
-ghost use Rattle.swarm_objects.specs.Tasks.New.{bound_node as bound_node_of, goal_of as goal_of_mode, new_task as new_task_of};
 ghost use Rattle.swarm_objects.specs.Today.Duties.{effect};
-ghost use Rattle.swarm_objects.specs.Nodes.Sessions.{new_session as new_session_of, ready_node};
+ghost use Rattle.swarm_objects.specs.Nodes.Sessions.{new_session, ready_node};
 ghost use Rattle.swarm_model.specs.Today.History.{duty_outcome};
 ghost use Rattle.swarm_objects.specs.Rows.{change_row, node_id, task_id};
 ghost use Rattle.swarm_objects.specs.Bounds.{IsSmall};
@@ -11,61 +10,10 @@ ghost use Rattle.swarm_plain.specs.Plain.{world_of};
 
 use crate::filters::refusal_counts;
 use swarm_objects::{
-    Desired, Duplicate, Duty, Id, List, Mode, Ms, NoMemory, Node, NodeSession, NodeState, Note,
-    Place, Rows, Service, Session, Task, TaskState, Version, add, put_in_order,
+    Desired, Duty, Id, Ms, NoMemory, Node, NodeSession, NodeState, Note, Place, Rows, Session, Task,
+    TaskState, Version, add, put_in_order,
 };
 use swarm_plain::Plain;
-
-// What a task of a service with this mode is to reach.
-fn goal_of(mode: Mode) -> Desired
-    ensures { result ≡ goal_of_mode mode }
-{
-    match mode {
-        Mode::Replicated(_) | Mode::Global => Desired::Running,
-        Mode::Job { .. } => Desired::Complete,
-    }
-}
-
-// The node that a task has from the start, where its place is a node.
-fn bound_node(place: Place) -> Option<Id>
-    ensures { result ≡ bound_node_of place }
-{
-    match place {
-        Place::Slot(_) => None,
-        Place::On(node) => Some(node),
-    }
-}
-
-// A task of the service that the next entry makes.
-fn new_task(
-    plain: &Plain,
-    service: &Service,
-    place: Place,
-    desired: Desired,
-) -> Result<Task, NoMemory>
-    requires { IsSmall (world_of plain.now) }
-    ensures { IfOk result (λ task. task ≡ new_task_of (plain.now.entries + 1) (world_of plain.now).tables service.now place desired) }
-{
-    Ok(Task {
-        id: plain.next_id,
-        version: plain.entries + 1,
-        service: service.id,
-        place,
-        iteration: service.iteration,
-        template: service.spec.template.duplicate(plain.alloc)?,
-        born: service.template_version,
-        goal: goal_of(service.spec.mode),
-        node: bound_node(place),
-        state: TaskState::New,
-        since: plain.clock,
-        desired,
-        created: plain.clock,
-        raise_at: plain.clock,
-        addresses: List::new(plain.alloc),
-        note: Note::Empty,
-        closed: None,
-    })
-}
 
 // The service gets a new task in this slot.
 fn create_task(plain: &mut Plain, service: Id, slot: u64) -> Result<(), NoMemory>
@@ -74,7 +22,9 @@ fn create_task(plain: &mut Plain, service: Id, slot: u64) -> Result<(), NoMemory
     ensures err { OnErr result (world_of plain.new ≡ world_of plain.old) }
 {
     if let Some(service) = plain.service(service) {
-        let task = new_task(plain, service, Place::Slot(slot), Desired::Running)?;
+        let version = plain.entries + 1;
+        let place = Place::Slot(slot);
+        let task = Task::new(plain.alloc, plain, version, service, place, Desired::Running)?;
         add(&mut plain.tasks, task)?;
         plain.next_id += 1;
     }
@@ -138,7 +88,7 @@ fn set_ready(nodes: &mut [Node], version: Version, id: Id)
 // A session of the node, which lasts for three beats.
 fn new_session(plain: &Plain, node: Id) -> NodeSession
     requires { IsSmall (world_of plain.now) }
-    ensures { result ≡ new_session_of (world_of plain.now).tables node }
+    ensures { result ≡ new_session (world_of plain.now).tables node }
 {
     NodeSession {
         node,
@@ -201,8 +151,8 @@ fn explain_task(plain: &mut Plain, task: Id)
     note(plain.tasks.as_mut_slice(), plain.entries, reasons, task);
 }
 
-/// Does a duty, as an entry; whether it is due is the caller's to know. One of a control loop that isn't written yet does nothing. Want of memory changes
-/// nothing.
+/// Performs the duty as the next entry; the caller answers for its being due. One of a control loop that isn't written
+/// yet does nothing. Want of memory changes nothing.
 pub fn do_duty(plain: &mut Plain, duty: &Duty) -> Result<(), NoMemory>
     requires { IsSmall (world_of plain.old) }
     ensures ok { OnOk result (world_of plain.new ≡ (duty_outcome (world_of plain.old) duty.now).after) }

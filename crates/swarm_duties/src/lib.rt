@@ -8,7 +8,6 @@ mod filters;
 mod placing;
 mod replicated;
 mod settling;
-mod words;
 
 pub use effects::do_duty;
 pub use settling::{duties, settle, settle_call};

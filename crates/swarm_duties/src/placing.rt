@@ -2,38 +2,46 @@
 ghost use Rattle.std.specs.Prelude.{◌≡◌, filter, None, IfOk, [], option_to_list};
 ghost use Rattle.std.specs.Option.{option_copied};
 ghost use Rattle.swarm_objects.specs.Rows.{keep_least, least_by};
-ghost use Rattle.swarm_objects.specs.Today.Scheduler.{best_node as best_node_of, here as here_of, load as load_of, node_cmp, placing, says_counts as note_says_counts, schedule as schedule_of, scheduler};
+ghost use Rattle.swarm_objects.specs.Today.Scheduler.{
+  best_node,
+  here,
+  load,
+  node_cmp,
+  placing,
+  says_counts,
+  schedule,
+  scheduler,
+};
 ghost use Rattle.swarm_plain.specs.Plain.{world_of};
 
 use crate::filters::{admits, refusal_counts};
-use crate::words::{is_live, is_on, is_placed, is_wanted};
 use std::cmp::Ordering;
-use swarm_objects::{Duty, Id, List, NoMemory, Node, Note, Task, TaskState, add};
+use swarm_objects::{Duty, Id, List, NoMemory, Node, Note, Task, add};
 use swarm_plain::Plain;
 
 // The service's live tasks from ASSIGNED to RUNNING on the node.
 fn here(plain: &Plain, node: Id, service: Id) -> usize
-    ensures { result ≡ here_of (world_of plain.now).tables node service }
+    ensures { result ≡ here (world_of plain.now).tables node service }
 {
     plain
         .tasks
         .as_slice()
         .iter()
         .filter(|task| {
-            task.service == service && is_live(task) && is_placed(task) && is_on(node, task)
+            task.service == service && task.is_live() && task.is_placed() && task.is_on(node)
         })
         .count()
 }
 
 // Those of all services.
 fn load(plain: &Plain, node: Id) -> usize
-    ensures { result ≡ load_of (world_of plain.now).tables node }
+    ensures { result ≡ load (world_of plain.now).tables node }
 {
     plain
         .tasks
         .as_slice()
         .iter()
-        .filter(|task| is_live(task) && is_placed(task) && is_on(node, task))
+        .filter(|task| task.is_live() && task.is_placed() && task.is_on(node))
         .count()
 }
 
@@ -54,7 +62,10 @@ fn better<'a>(
     best: Option<&'a Node>,
     node: &'a Node,
 ) -> Option<&'a Node>
-    ensures { option_copied result ≡ keep_least (node_cmp (world_of plain.now).tables service) (option_copied best.entry) node.now }
+    ensures {
+        let order = node_cmp (world_of plain.now).tables service in
+        option_copied result ≡ keep_least order (option_copied best.entry) node.now
+    }
 {
     match best {
         None => Some(node),
@@ -70,7 +81,7 @@ fn better<'a>(
 
 // The best of the nodes that admit the task.
 fn best_node<'a>(plain: &'a Plain, task: &Task) -> Option<&'a Node>
-    ensures { option_copied result ≡ best_node_of (world_of plain.now).tables task.now }
+    ensures { option_copied result ≡ best_node (world_of plain.now).tables task.now }
 {
     let mut best = None;
     for node in plain.nodes.as_slice() {
@@ -83,7 +94,7 @@ fn best_node<'a>(plain: &'a Plain, task: &Task) -> Option<&'a Node>
 
 // The note says these counts.
 fn says_counts(counts: &[u64; 6], note: Note) -> bool
-    ensures { result ≡ note_says_counts counts.now note }
+    ensures { result ≡ says_counts counts.now note }
 {
     match note {
         Note::Filters(noted) => noted == *counts,
@@ -105,9 +116,9 @@ fn explanation(plain: &Plain, task: &Task) -> Option<Duty>
 
 // What there is to do about the task: it goes to the best node; where no node admits it, its note says why.
 fn schedule(plain: &Plain, task: &Task) -> Option<Duty>
-    ensures { option_to_list result ≡ schedule_of (world_of plain.now).tables task.now }
+    ensures { option_to_list result ≡ schedule (world_of plain.now).tables task.now }
 {
-    if task.state != TaskState::Pending || !is_wanted(task) {
+    if !task.state.is_pending() || !task.is_wanted() {
         return None;
     }
     match best_node(plain, task) {

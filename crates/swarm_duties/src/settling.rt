@@ -1,7 +1,7 @@
 // The duties of each control loop, and the settle test on them.
 ghost use Rattle.std.specs.Prelude.{◌≡◌, IfOk};
 ghost use Rattle.swarm_model.specs.Today.Calls.{outcome};
-ghost use Rattle.swarm_objects.specs.Today.Duties.{duties as duties_of};
+ghost use Rattle.swarm_objects.specs.Today.Duties.{duties};
 ghost use Rattle.swarm_model.specs.Today.Settle.{settle_answer};
 ghost use Rattle.swarm_plain.specs.Plain.{world_of};
 ghost use Rattle.swarm_model.specs.Outcome.{Meets};
@@ -13,24 +13,9 @@ use crate::replicated::replicated_duties;
 use swarm_objects::{Call, Duty, List, NoMemory, Refusal, Reply, Role, Settle};
 use swarm_plain::{HISTORY, Plain};
 
-// The control loops, in their order.
-const ROLES: [Role; 11] = [
-    Role::Dispatcher,
-    Role::Enforcer,
-    Role::Restart,
-    Role::Update,
-    Role::Replicated,
-    Role::Global,
-    Role::Job,
-    Role::Allocator,
-    Role::Scheduler,
-    Role::Reaper,
-    Role::Agents,
-];
-
 /// What the control loop has to do, in order.
 pub fn duties(plain: &Plain, role: Role) -> Result<List<Duty>, NoMemory>
-    ensures { IfOk result (λ duties. duties ≡ duties_of role (world_of plain.now).tables) }
+    ensures { IfOk result (λ list. list ≡ duties role (world_of plain.now).tables) }
 {
     match role {
         Role::Replicated => replicated_duties(plain),
@@ -51,7 +36,7 @@ pub fn duties(plain: &Plain, role: Role) -> Result<List<Duty>, NoMemory>
 pub fn settle(plain: &Plain) -> Result<Settle, NoMemory>
     ensures { IfOk result (λ answer. answer ≡ settle_answer (world_of plain.now)) }
 {
-    for role in &ROLES {
+    for role in &Role::ALL {
         if let Some(duty) = duties(plain, *role)?.as_slice().first() {
             return Ok(Settle::Busy(*duty));
         }
@@ -61,7 +46,10 @@ pub fn settle(plain: &Plain) -> Result<Settle, NoMemory>
 
 /// Answers the call by which a line with this budget asks whether the world has settled, as an entry.
 pub fn settle_call(plain: &mut Plain, budget: u64) -> Reply
-    ensures { Meets (outcome (world_of plain.old) (Call.Settle budget)) (world_of plain.old) result (world_of plain.new) }
+    ensures {
+        let before = world_of plain.old in
+        Meets (outcome before (Call.Settle budget)) before result (world_of plain.new)
+    }
 {
     if plain.halted {
         return Reply::Refused(Refusal::Halted);

@@ -22,6 +22,21 @@ pub enum Role {
 }
 
 impl Role {
+    /// All of them, in their order.
+    pub const ALL: [Role; 11] = [
+        Role::Dispatcher,
+        Role::Enforcer,
+        Role::Restart,
+        Role::Update,
+        Role::Replicated,
+        Role::Global,
+        Role::Job,
+        Role::Allocator,
+        Role::Scheduler,
+        Role::Reaper,
+        Role::Agents,
+    ];
+
     /// Its name, as journals have it.
     pub fn word(self) -> &'static str
         ensures { result.now ≡ loop_word self }
