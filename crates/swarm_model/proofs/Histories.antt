@@ -4,7 +4,8 @@ use Rattle.std.proofs.lemmas.Bool.Decides.{nat_tests}
 use Rattle.swarm_objects.specs.World.{World, Tables, empty_world}
 use Rattle.swarm_objects.specs.Bounds.{IsSmall}
 use Rattle.swarm_objects.specs.Today.CanDo.{can_do}
-use Rattle.swarm_model.specs.Today.Calls.{outcome, call_outcome, view_outcome, refused, txn_outcome, apply_op, apply_ops, create_node, node_named, with_node, new_node, is_admitted, is_full, refusal_of, unless_refused}
+use Rattle.swarm_model.specs.Outcome.{Outcome}
+use Rattle.swarm_model.specs.Today.Calls.{broken_node, nothing_done, done_outcome, outcome, call_outcome, view_outcome, refused, txn_outcome, apply_op, apply_ops, create_node, node_named, with_node, new_node, is_admitted, is_full, refusal_of, unless_refused}
 use Rattle.swarm_objects.specs.Limits.{most_ops}
 use Rattle.swarm_objects.specs.CallWords.{is_halt}
 use Rattle.swarm_model.proofs.Times.{agents-replay, sent-replay, times-replay}
@@ -33,7 +34,7 @@ use Rattle.swarm_objects.specs.declared.replies.Refusal.TheVariants.{TooManyOps,
 use Rattle.swarm_objects.specs.declared.calls.Entry.{Entry}
 use Rattle.swarm_objects.specs.declared.calls.What.{What}
 use Rattle.swarm_objects.specs.declared.calls.What.TheVariants.{Call as Called, Duty as Done}
-use Rattle.swarm_objects.specs.declared.nodes.NodeDraft.{NodeDraft}
+use Rattle.swarm_objects.specs.declared.nodes.Node.{Node}
 use Rattle.swarm_objects.specs.declared.settings.Settings.{Settings}
 
 -- A further entry.
@@ -73,17 +74,29 @@ view_moves w ListNodes = (refl, (refl, (refl, refl, omega arith)))
 view_moves w (ListTasks None) = (refl, (refl, (refl, refl, omega arith)))
 view_moves w _ = (refl, (refl, (refl, refl, omega arith)))
 
-txn_counts : (b : Bool) (w : World) (refusal : Refusal) (r : Result (World × List ℕ) Refusal) → (cond b (refused w refusal) (txn_outcome w r)).after.entries ≡ w.entries + 1
+txn_counts : (b : Bool) (w : World) (refusal : Refusal) (r : Result (World × List ℕ) Refusal) →
+    (cond b (refused w refusal) (txn_outcome w r)).after.entries ≡ w.entries + 1
 txn_counts true w refusal r = refl
 txn_counts false w refusal (Ok done) = refl
 txn_counts false w refusal (Err other) = refl
 
+entries-done : (w : World) (call : Call) → (done_outcome w call).after.entries ≡ w.entries + 1
+entries-done w (Txn ops) =
+    txn_counts (nat_lt most_ops (length ops)) w (TooManyOps (length ops)) (apply_ops (w.entries + 1) ops w [])
+entries-done w (View query) = (view_moves w query).0
+entries-done w (Settle budget) = refl
+entries-done w Halt = refl
+entries-done w _ = refl
+
+-- what holds of a call that can be done and of one that can't holds of any
+by_can : (P : Outcome → Type 0) (w : World) (can : Bool) (done : Outcome) → P done → P (nothing_done w) →
+    P (cond can done (nothing_done w))
+by_can P w true done able idle = able
+by_can P w false done able idle = idle
+
 pub entries-call : (w : World) (call : Call) → (call_outcome w call).after.entries ≡ w.entries + 1
-entries-call w (Txn ops) = txn_counts (nat_lt most_ops (length ops)) w (TooManyOps (length ops)) (apply_ops (w.entries + 1) ops w [])
-entries-call w (View query) = (view_moves w query).0
-entries-call w (Settle budget) = refl
-entries-call w Halt = refl
-entries-call w _ = refl
+entries-call w call =
+    by_can (λ o. o.after.entries ≡ w.entries + 1) w (can_do call) (done_outcome w call) (entries-done w call) refl
 
 pub entries-step : (w : World) (what : What) → (step w what).after.entries ≡ w.entries + 1
 entries-step w (Called call) = entries-call w call
@@ -102,68 +115,114 @@ created : (b : Bool) (w : World) (done : World × ℕ) (node : World × ℕ) (re
 created true w done node refusal e = cc
 created false w done node refusal e = cc
 
-create_moves : (version : ℕ) (w : World) (name : List ℕ) (draft : NodeDraft) (there : Option ℕ) (done : World × ℕ) → create_node version w name draft there ≡ Ok done → RunsOn w done.0 1
-create_moves version w name draft (Some id) done e = cc
-create_moves version w name draft None done e =
-    let is = created _ w done (with_node w (new_node version w.tables.next_id name draft), w.tables.next_id) _ e in
-    subst (λ (d : World × ℕ). RunsOn w d.0 1) (sym is) (refl, (refl, refl, omega arith))
+-- an operation is no entry
+abbrev OpMoves : World → World → ℕ → Type 0
+OpMoves w v n = (v.entries ≡ w.entries) × RunsOn w v n
 
-service_moves : (version : ℕ) (w : World) (name : List ℕ) (draft : Draft) (broken : Option SpecRule) (there : Option ℕ) (done : World × ℕ) → create_service version w name draft broken there ≡ Ok done → RunsOn w done.0 1
+create_moves : (w : World) (node : Node) (broken : Option SpecRule) (there : Option ℕ) (done : World × ℕ) →
+    create_node w node broken there ≡ Ok done → OpMoves w done.0 1
+create_moves w node (Some rule) there done e = cc
+create_moves w node None (Some id) done e = cc
+create_moves w node None None done e =
+    let is = created _ w done (with_node w node, node.id) _ e in
+    subst (λ (d : World × ℕ). OpMoves w d.0 1) (sym is) (refl, (refl, (refl, refl, omega arith)))
+
+service_moves : (version : ℕ) (w : World) (name : List ℕ) (draft : Draft) (broken : Option SpecRule) (there : Option ℕ)
+    (done : World × ℕ) → create_service version w name draft broken there ≡ Ok done → OpMoves w done.0 1
 service_moves version w name draft (Some rule) there done e = cc
 service_moves version w name draft None (Some id) done e = cc
 service_moves version w name draft None None done e =
     let is = created _ w done (with_service w (new_service version w.tables.next_id name draft), w.tables.next_id) _ e in
-    subst (λ (d : World × ℕ). RunsOn w d.0 1) (sym is) (refl, (refl, refl, omega arith))
+    subst (λ (d : World × ℕ). OpMoves w d.0 1) (sym is) (refl, (refl, (refl, refl, omega arith)))
 
 -- an operation that does nothing
-idle_moves : (w : World) (done : World × ℕ) → ◌≡◌ {A = Result (World × ℕ) Refusal} (Ok (w, 0)) (Ok done) → RunsOn w done.0 1
-idle_moves w done e = let is : (w, 0) ≡ done = cc in subst (λ (d : World × ℕ). RunsOn w d.0 1) is (refl, (refl, refl, omega arith))
+idle_moves : (w : World) (done : World × ℕ) → ◌≡◌ {A = Result (World × ℕ) Refusal} (Ok (w, 0)) (Ok done) →
+    OpMoves w done.0 1
+idle_moves w done e =
+    let is : (w, 0) ≡ done = cc in
+    subst (λ (d : World × ℕ). OpMoves w d.0 1) is (refl, (refl, (refl, refl, omega arith)))
 
-op_moves : (version : ℕ) (w : World) (op : Op) (done : World × ℕ) → apply_op version w op ≡ Ok done → RunsOn w done.0 1
-op_moves version w (CreateNode name draft) done e = create_moves version w name draft (node_named name w.tables.nodes) done e
-op_moves version w (CreateService name draft) done e = service_moves version w name draft (broken_rule draft) (service_named name w.tables.services) done e
+op_moves : (version : ℕ) (w : World) (op : Op) (done : World × ℕ) → apply_op version w op ≡ Ok done → OpMoves w done.0 1
+op_moves version w (CreateNode name draft) done e =
+    let node = new_node version w.tables.next_id name draft in
+    create_moves w node (broken_node node) (node_named name w.tables.nodes) done e
+op_moves version w (CreateService name draft) done e =
+    service_moves version w name draft (broken_rule draft) (service_named name w.tables.services) done e
 op_moves version w _ done e = idle_moves w done e
 
-one_more : (version : ℕ) (op : Op) (ops : List Op) (w : World) (ids : List ℕ) (done : World × List ℕ) (r : Result (World × ℕ) Refusal) →
-    ((one : World × ℕ) → apply_ops version ops one.0 (ids ++ one.1 ∷ []) ≡ Ok done → RunsOn one.0 done.0 (length ops)) → apply_op version w op ≡ r →
-    ◌≡◌ {A = Result (World × List ℕ) Refusal} (elim r [ Ok one ↦ apply_ops version ops one.0 (ids ++ one.1 ∷ []) | Err refusal ↦ Err refusal ]) (Ok done) → RunsOn w done.0 (length (op ∷ ops))
+one_more : (version : ℕ) (op : Op) (ops : List Op) (w : World) (ids : List ℕ) (done : World × List ℕ)
+    (r : Result (World × ℕ) Refusal) →
+    ((one : World × ℕ) → apply_ops version ops one.0 (ids ++ one.1 ∷ []) ≡ Ok done → OpMoves one.0 done.0 (length ops)) →
+    apply_op version w op ≡ r →
+    ◌≡◌ {A = Result (World × List ℕ) Refusal}
+    (elim r [ Ok one ↦ apply_ops version ops one.0 (ids ++ one.1 ∷ []) | Err refusal ↦ Err refusal ]) (Ok done) →
+    OpMoves w done.0 (length (op ∷ ops))
 one_more version op ops w ids done (Ok one) others is e =
     let first = op_moves version w op one is in
-    let rest = others one e in
-    (rest.0 ∙ first.0, (rest.1.0 ∙ first.1.0, rest.1.1 ∙ first.1.1, omega (arith, first.1.2, rest.1.2)))
+    let rest = others one e in (
+      rest.0 ∙ first.0,
+      (rest.1.0 ∙ first.1.0, (rest.1.1.0 ∙ first.1.1.0, rest.1.1.1 ∙ first.1.1.1, omega (arith, first.1.1.2, rest.1.1.2))),
+    )
 one_more version op ops w ids done (Err refusal) others is e = cc
 
-ops_move : (version : ℕ) (ops : List Op) (w : World) (ids : List ℕ) (done : World × List ℕ) → apply_ops version ops w ids ≡ Ok done → RunsOn w done.0 (length ops)
-ops_move version [] w ids done e = let is : (w, ids) ≡ done = cc in subst (λ (d : World × List ℕ). RunsOn w d.0 0) is (refl, (refl, refl, omega arith))
+ops_move : (version : ℕ) (ops : List Op) (w : World) (ids : List ℕ) (done : World × List ℕ) →
+    apply_ops version ops w ids ≡ Ok done → OpMoves w done.0 (length ops)
+ops_move version [] w ids done e =
+    let is : (w, ids) ≡ done = cc in
+    subst (λ (d : World × List ℕ). OpMoves w d.0 0) is (refl, (refl, (refl, refl, omega arith)))
 ops_move version (op ∷ ops) w ids done e =
-    one_more version op ops w ids done (apply_op version w op) (λ one. ops_move version ops one.0 (ids ++ one.1 ∷ []) done) refl e
+    one_more version op ops w ids done (apply_op version w op)
+    (λ one. ops_move version ops one.0 (ids ++ one.1 ∷ []) done) refl e
+
+-- operations are no entries; each takes one id at most
+pub entries-op : (version : ℕ) (w : World) (op : Op) (v : World) (id : ℕ) → apply_op version w op ≡ Ok (v, id) →
+    v.entries ≡ w.entries
+entries-op version w op v id e = (op_moves version w op (v, id) e).0
+
+pub next_id-op : (version : ℕ) (w : World) (op : Op) (v : World) (id : ℕ) → apply_op version w op ≡ Ok (v, id) →
+    v.tables.next_id ≤ w.tables.next_id + 1
+next_id-op version w op v id e = (op_moves version w op (v, id) e).1.1.2
+
+pub entries-ops : (version : ℕ) (ops : List Op) (w v : World) (ids all : List ℕ) → apply_ops version ops w ids ≡ Ok (v, all) →
+    v.entries ≡ w.entries
+entries-ops version ops w v ids all e = (ops_move version ops w ids (v, all) e).0
 
 txn_moves : (b : Bool) (w : World) (refusal : Refusal) (ops : List Op) (r : Result (World × List ℕ) Refusal) → nat_lt most_ops (length ops) ≡ b → apply_ops (w.entries + 1) ops w [] ≡ r →
     RunsOn w (cond b (refused w refusal) (txn_outcome w r)).after most_ops
 txn_moves true w refusal ops r long is = (refl, (refl, refl, omega arith))
 txn_moves false w refusal ops (Err other) long is = (refl, (refl, refl, omega arith))
 txn_moves false w refusal ops (Ok done) long is =
-    let all = ops_move (w.entries + 1) ops w [] done is in
+    let all = (ops_move (w.entries + 1) ops w [] done is).1 in
     let few : length ops ≤ most_ops = grind (arith, nat_tests) in
     (all.0, (all.1.0, all.1.1, omega (arith, all.1.2, few)))
 
-txn_runs : (w : World) (ops : List Op) → RunsOn w (call_outcome w (Txn ops)).after most_ops
-txn_runs w ops = txn_moves (nat_lt most_ops (length ops)) w (TooManyOps (length ops)) ops (apply_ops (w.entries + 1) ops w []) refl refl
+txn_runs : (w : World) (ops : List Op) → RunsOn w (done_outcome w (Txn ops)).after most_ops
+txn_runs w ops =
+    txn_moves (nat_lt most_ops (length ops)) w (TooManyOps (length ops)) ops (apply_ops (w.entries + 1) ops w []) refl refl
+
+halted-done : (w : World) (call : Call) → is_halt call ≡ false → (done_outcome w call).after.halted ≡ w.halted
+halted-done w (Txn ops) e = (txn_runs w ops).0
+halted-done w (View query) e = (view_moves w query).1.0
+halted-done w (Settle budget) e = refl
+halted-done w Halt e = cc
+halted-done w _ e = refl
 
 -- only Halt halts
 pub halted-call : (w : World) (call : Call) → is_halt call ≡ false → (call_outcome w call).after.halted ≡ w.halted
-halted-call w (Txn ops) e = (txn_runs w ops).0
-halted-call w (View query) e = (view_moves w query).1.0
-halted-call w (Settle budget) e = refl
-halted-call w Halt e = cc
-halted-call w _ e = refl
+halted-call w call e =
+    by_can (λ o. o.after.halted ≡ w.halted) w (can_do call) (done_outcome w call) (halted-done w call e) refl
+
+done_moves : (w : World) (call : Call) → MovesOn w (done_outcome w call).after most_ops
+done_moves w (Txn ops) = (txn_runs w ops).1
+done_moves w (View query) = let move = (view_moves w query).1.1 in (move.0, move.1, omega (arith, move.2))
+done_moves w (Settle budget) = (refl, refl, omega arith)
+done_moves w Halt = (refl, refl, omega arith)
+done_moves w _ = (refl, refl, omega arith)
 
 call_moves : (w : World) (call : Call) → MovesOn w (call_outcome w call).after most_ops
-call_moves w (Txn ops) = (txn_runs w ops).1
-call_moves w (View query) = let move = (view_moves w query).1.1 in (move.0, move.1, omega (arith, move.2))
-call_moves w (Settle budget) = (refl, refl, omega arith)
-call_moves w Halt = (refl, refl, omega arith)
-call_moves w _ = (refl, refl, omega arith)
+call_moves w call =
+    by_can (λ o. MovesOn w o.after most_ops) w (can_do call) (done_outcome w call) (done_moves w call)
+    (refl, refl, omega arith)
 
 task_moves : (version : ℕ) (t : Tables) (place : Place) (service : Option Service) → NumbersMove t (with_new_task version t place service) 1
 task_moves version t place None = (refl, refl, omega arith)

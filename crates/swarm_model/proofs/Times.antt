@@ -3,7 +3,9 @@ use Rattle.std.proofs.Common.{◌≡◌, ℕ, ◌+◌, ◌*◌, ◌∷◌, ◌++
 use Rattle.std.specs.Prelude.{◌&&◌, ◌||◌, ◌==◌}
 use Rattle.std.proofs.lemmas.Bool.Decides.{nat_tests}
 use Rattle.std.specs.List.{list_all}
-use Rattle.swarm_model.specs.Today.Calls.{apply_op, apply_ops, call_outcome, create_node, new_node, node_named, refused, txn_outcome, view_outcome, with_node}
+use Rattle.swarm_model.specs.Outcome.{Outcome}
+use Rattle.swarm_objects.specs.Today.CanDo.{can_do}
+use Rattle.swarm_model.specs.Today.Calls.{broken_node, nothing_done, done_outcome, apply_op, apply_ops, call_outcome, create_node, new_node, node_named, refused, txn_outcome, view_outcome, with_node}
 use Rattle.swarm_model.specs.Today.History.{replay, replay_from, step, step_world}
 use Rattle.swarm_model.specs.Today.Services.{create_service, drafted_spec, new_service, service_named, with_service}
 use Rattle.swarm_objects.proofs.RowLemmas.{Has-append_cases, Has-from_row_at, Has-map_cases}
@@ -29,6 +31,7 @@ use Rattle.swarm_objects.specs.declared.calls.What.{What}
 use Rattle.swarm_objects.specs.declared.calls.What.TheVariants.{Call as Called, Duty as Done}
 use Rattle.swarm_objects.specs.declared.duties.Duty.{Duty}
 use Rattle.swarm_objects.specs.declared.duties.Duty.TheVariants as duty
+use Rattle.swarm_objects.specs.declared.nodes.Node.{Node}
 use Rattle.swarm_objects.specs.declared.nodes.NodeDraft.{NodeDraft}
 use Rattle.swarm_objects.specs.declared.replies.Refusal.{Refusal}
 use Rattle.swarm_objects.specs.declared.rules.SpecRule.{SpecRule}
@@ -186,12 +189,11 @@ node-near : (b : Bool) (w v : World) (id : ℕ) (refusal : Refusal) (done : Worl
 node-near true w v id refusal done near e = absurd cc
 node-near false w v id refusal done near e = let is : (v, id) ≡ done = cc in subst (λ (d : World × ℕ). IsNear d.0) is near
 
-create-node-near : (version : ℕ) (w : World) (name : List ℕ) (d : NodeDraft) (there : Option ℕ) (done : World × ℕ) → IsNear w →
-    create_node version w name d there ≡ Ok done → IsNear done.0
-create-node-near version w name d (Some id) done near e = absurd cc
-create-node-near version w name d None done near e =
-    node-near _ w (with_node w (new_node version w.tables.next_id name d)) w.tables.next_id _ done
-    (with-node-near w version w.tables.next_id name d near) e
+create-node-near : (w : World) (node : Node) (broken : Option SpecRule) (there : Option ℕ) (done : World × ℕ) →
+    IsNear (with_node w node) → create_node w node broken there ≡ Ok done → IsNear done.0
+create-node-near w node (Some rule) there done near e = absurd cc
+create-node-near w node None (Some id) done near e = absurd cc
+create-node-near w node None None done near e = node-near _ w (with_node w node) node.id _ done near e
 
 with-service-near : (w : World) (s : Service) → is_near_service s ≡ true → IsNear w → IsNear (with_service w s)
 with-service-near w s one near = record {
@@ -220,7 +222,10 @@ idle-near : (w : World) (done : World × ℕ) → IsNear w → ◌≡◌ {A = Re
 idle-near w done near e = let is : (w, 0) ≡ done = cc in subst (λ (d : World × ℕ). IsNear d.0) is near
 
 op-near : (version : ℕ) (w : World) (op : Op) (done : World × ℕ) → IsNear w → apply_op version w op ≡ Ok done → IsNear done.0
-op-near version w (CreateNode name d) done near e = create-node-near version w name d (node_named name w.tables.nodes) done near e
+op-near version w (CreateNode name d) done near e =
+    let node = new_node version w.tables.next_id name d in
+    create-node-near w node (broken_node node) (node_named name w.tables.nodes) done
+    (with-node-near w version w.tables.next_id name d near) e
 op-near version w (CreateService name d) done near e =
     create-service-near version w name d (broken_rule d) (service_named name w.tables.services) done near refl e
 op-near version w _ done near e = idle-near w done near e
@@ -264,12 +269,20 @@ view-near w ListNodes near = entered-near w (w.entries + 1) near
 view-near w (ListTasks None) near = entered-near w (w.entries + 1) near
 view-near w _ near = entered-near w (w.entries + 1) near
 
+done-near : (w : World) (call : Call) → IsNear w → IsNear (done_outcome w call).after
+done-near w (Txn ops) near = txn-near (nat_lt most_ops (length ops)) w _ ops (apply_ops (w.entries + 1) ops w []) near refl
+done-near w (View query) near = view-near w query near
+done-near w (Settle budget) near = entered-near w (w.entries + 1) near
+done-near w Halt near = halted-near w (w.entries + 1) near
+done-near w _ near = entered-near w (w.entries + 1) near
+
+can-near : (w : World) (can : Bool) (done : Outcome) → IsNear w → IsNear done.after →
+    IsNear (cond can done (nothing_done w)).after
+can-near w true done near after = after
+can-near w false done near after = entered-near w (w.entries + 1) near
+
 call-near : (w : World) (call : Call) → IsNear w → IsNear (call_outcome w call).after
-call-near w (Txn ops) near = txn-near (nat_lt most_ops (length ops)) w _ ops (apply_ops (w.entries + 1) ops w []) near refl
-call-near w (View query) near = view-near w query near
-call-near w (Settle budget) near = entered-near w (w.entries + 1) near
-call-near w Halt near = halted-near w (w.entries + 1) near
-call-near w _ near = entered-near w (w.entries + 1) near
+call-near w call near = can-near w (can_do call) (done_outcome w call) near (done-near w call near)
 
 -- Rows that duties make and change.
 

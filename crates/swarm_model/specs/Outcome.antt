@@ -1,5 +1,5 @@
 -- A reply, and the world after it.
-use Rattle.std.specs.Prelude.{◌≡◌, ◌⊎◌, Result}
+use Rattle.std.specs.Prelude.{◌≡◌, ◌⊎◌, Result, Ok, Err, OnErr}
 use Rattle.swarm_objects.specs.World.{World}
 use Rattle.swarm_objects.specs.declared.replies.Refusal.{Refusal}
 use Rattle.swarm_objects.specs.declared.replies.Refusal.TheVariants.{NoMemory}
@@ -18,6 +18,15 @@ Gives expected reply after = (reply ≡ expected.reply) × (after ≡ expected.a
 -- they are the expected ones, or memory was wanting and nothing changed
 abbrev pub Meets : Outcome → World → Reply → World → Type 0
 Meets expected before reply after = Gives expected reply after ⊎ ((reply ≡ Refused NoMemory) × (after ≡ before))
+
+-- an operation was done and gave this, or it was refused, as is expected; or memory was wanting
+abbrev pub Reaches : {X : Type 0} → Result (World × X) Refusal → Result X Refusal → World → Type 0
+Reaches expected (Ok x) after = expected ≡ Ok (after, x)
+Reaches expected (Err refusal) after = (refusal ≡ NoMemory) ⊎ (expected ≡ Err refusal)
+
+-- and a refusal changes nothing
+abbrev pub Applies : {X : Type 0} → Result (World × X) Refusal → World → Result X Refusal → World → Type 0
+Applies expected before result after = Reaches expected result after × OnErr result (after ≡ before)
 
 -- a reply and the world after it, or the refusal
 abbrev pub Answered : Type 0

@@ -1,23 +1,17 @@
 // Objects that callers create.
-ghost use Rattle.std.specs.Prelude.{◌≡◌, ◌⊎◌, ◌+◌, ◌^◌, ◌<◌, ◌≤◌, IfOk, IfErr, OnErr, Ok, Err};
-ghost use Rattle.swarm_model.specs.Today.Calls.{node_named, new_node, apply_op};
-ghost use Rattle.swarm_model.specs.Today.Services.{drafted_spec as drafted, new_service, service_named};
-ghost use Rattle.swarm_objects.specs.declared.calls.Op.TheVariants.{CreateNode as node_op, CreateService as service_op};
-ghost use Rattle.swarm_plain.specs.Plain.{world_of};
+ghost use Rattle.std.specs.Prelude.{◌≡◌, ◌+◌, ◌^◌, ◌<◌, IfOk};
+ghost use Rattle.swarm_model.specs.Today.Calls.{node_named, new_node};
+ghost use Rattle.swarm_model.specs.Today.Services.{drafted_spec, new_service, service_named};
+ghost use Rattle.swarm_plain.specs.Plain.{AppliesOp};
 
 use crate::Plain;
 use std::alloc::Global;
-use swarm_check::check_service;
+use swarm_check::{check_node, check_service};
+use swarm_objects::limits::{MOST_NODES, MOST_SERVICES};
 use swarm_objects::{
-    Draft, Duplicate, Id, Kind, List, Name, NoMemory, Node, NodeDraft, NodeState, Refusal, Service,
-    ServiceSpec, Version,
+    Draft, Duplicate, Id, Kind, List, Name, NoMemory, Node, NodeDraft, NodeState, Op, Refusal,
+    Service, ServiceSpec, Version,
 };
-
-/// The most nodes.
-const NODES: usize = 1_000;
-
-/// The most services.
-const SERVICES: usize = 1_000;
 
 // The node with this name.
 fn find_node(nodes: &[Node], name: &Name) -> Option<Id>
@@ -75,7 +69,7 @@ fn make_node(
 
 // The draft's specification, without networks.
 fn drafted_spec(alloc: Global, draft: &Draft) -> Result<ServiceSpec, NoMemory>
-    ensures { IfOk result (λ spec. spec ≡ drafted draft.now) }
+    ensures { IfOk result (λ spec. spec ≡ drafted_spec draft.now) }
 {
     let mut spec = draft.spec.duplicate(alloc)?;
     spec.template.networks = List::new(alloc);
@@ -115,23 +109,22 @@ impl Plain {
         draft: &NodeDraft,
     ) -> Result<Id, Refusal>
         requires { self.old.next_id + 1 < 2 ^ 64 }
-        ensures ok { IfOk result (λ id. apply_op version (world_of self.old) (node_op name.now draft.now) ≡ Ok (world_of self.new, id)) }
-        ensures err { IfErr result (λ refusal. (refusal ≡ Refusal.NoMemory) ⊎ (apply_op version (world_of self.old) (node_op name.now draft.now) ≡ Err refusal)) }
-        ensures kept { OnErr result (world_of self.new ≡ world_of self.old) }
-        ensures ids { self.new.next_id ≤ self.old.next_id + 1 }
-        ensures entries { self.new.entries ≡ self.old.entries }
+        ensures { AppliesOp version (Op.CreateNode name.now draft.now) self.old result self.new }
     {
-        if let Some(id) = find_node(self.nodes.as_slice(), name) {
-            return Err(Refusal::NameTaken(id));
-        }
-        let count = self.nodes.as_slice().len();
-        if count >= NODES {
-            return Err(Refusal::TooMany(Kind::Node, count as u64));
-        }
         let id = self.next_id;
         let Ok(node) = make_node(self.alloc, version, id, name, draft) else {
             return Err(Refusal::NoMemory);
         };
+        if let Err(rule) = check_node(&node) {
+            return Err(Refusal::BadSpec(rule));
+        }
+        if let Some(id) = find_node(self.nodes.as_slice(), name) {
+            return Err(Refusal::NameTaken(id));
+        }
+        let count = self.nodes.as_slice().len();
+        if count >= MOST_NODES {
+            return Err(Refusal::TooMany(Kind::Node, count as u64));
+        }
         if self.nodes.push(node).is_err() {
             return Err(Refusal::NoMemory);
         }
@@ -147,11 +140,7 @@ impl Plain {
         draft: &Draft,
     ) -> Result<Id, Refusal>
         requires { self.old.next_id + 1 < 2 ^ 64 }
-        ensures ok { IfOk result (λ id. apply_op version (world_of self.old) (service_op name.now draft.now) ≡ Ok (world_of self.new, id)) }
-        ensures err { IfErr result (λ refusal. (refusal ≡ Refusal.NoMemory) ⊎ (apply_op version (world_of self.old) (service_op name.now draft.now) ≡ Err refusal)) }
-        ensures kept { OnErr result (world_of self.new ≡ world_of self.old) }
-        ensures ids { self.new.next_id ≤ self.old.next_id + 1 }
-        ensures entries { self.new.entries ≡ self.old.entries }
+        ensures { AppliesOp version (Op.CreateService name.now draft.now) self.old result self.new }
     {
         if let Err(rule) = check_service(draft) {
             return Err(Refusal::BadSpec(rule));
@@ -160,7 +149,7 @@ impl Plain {
             return Err(Refusal::NameTaken(id));
         }
         let count = self.services.as_slice().len();
-        if count >= SERVICES {
+        if count >= MOST_SERVICES {
             return Err(Refusal::TooMany(Kind::Service, count as u64));
         }
         let id = self.next_id;

@@ -5,13 +5,13 @@ mod creates;
 mod lists;
 mod reads;
 
-ghost use Rattle.std.specs.Prelude.{◌≡◌, [], ◌∷◌, ◌⊎◌, ◌+◌, ◌^◌, ◌<◌, ◌≤◌, false, length, IfOk, IfErr, OnErr, Ok, Err};
+ghost use Rattle.std.specs.Prelude.{◌≡◌, [], ◌∷◌, ◌+◌, ◌^◌, ◌<◌, false, length, IfOk};
 ghost use Rattle.swarm_objects.specs.World.{empty_world};
 ghost use Rattle.swarm_objects.specs.Bounds.{IsSmall};
-ghost use Rattle.swarm_model.specs.Today.Calls.{apply_op, apply_ops, call_outcome, outcome, refusal_of};
+ghost use Rattle.swarm_model.specs.Today.Calls.{apply_ops, done_outcome, outcome, refusal_of, view_outcome};
 ghost use Rattle.swarm_objects.specs.CallWords.{is_settle};
-ghost use Rattle.swarm_plain.specs.Plain.{world_of};
-ghost use Rattle.swarm_model.specs.Outcome.{Meets, Gives};
+ghost use Rattle.swarm_plain.specs.Plain.{AnswersAs, AppliesOp, AppliesOps, world_of};
+ghost use Rattle.swarm_model.specs.Outcome.{Gives, Meets, Reaches};
 
 use std::alloc::Global;
 pub use swarm_objects::limits::MOST_ENTRIES as HISTORY;
@@ -100,11 +100,7 @@ impl Plain {
     // Does one operation of the entry with this number, and gives the id of its object. A refusal changes nothing.
     fn apply(&mut self, version: Version, op: &Op) -> Result<Id, Refusal>
         requires { self.old.next_id + 1 < 2 ^ 64 }
-        ensures ok { IfOk result (λ id. apply_op version (world_of self.old) op.now ≡ Ok (world_of self.new, id)) }
-        ensures err { IfErr result (λ refusal. (refusal ≡ Refusal.NoMemory) ⊎ (apply_op version (world_of self.old) op.now ≡ Err refusal)) }
-        ensures kept { OnErr result (world_of self.new ≡ world_of self.old) }
-        ensures ids { self.new.next_id ≤ self.old.next_id + 1 }
-        ensures entries { self.new.entries ≡ self.old.entries }
+        ensures { AppliesOp version op.now self.old result self.new }
     {
         match op {
             Op::CreateNode(name, draft) => self.create_node(version, name, draft),
@@ -113,12 +109,11 @@ impl Plain {
         }
     }
 
-    // Does the operations one after the other, and gives the ids of their objects. After a refusal the earlier ones stay done.
+    // Does the operations one after the other, and gives the ids of their objects. After a refusal the earlier ones
+    // stay done.
     fn apply_all(&mut self, version: Version, ops: &[Op]) -> Result<List<Id>, Refusal>
         requires { self.old.next_id + length ops.now < 2 ^ 64 }
-        ensures ok { IfOk result (λ ids. apply_ops version ops.now (world_of self.old) [] ≡ Ok (world_of self.new, ids)) }
-        ensures err { IfErr result (λ refusal. (refusal ≡ Refusal.NoMemory) ⊎ (apply_ops version ops.now (world_of self.old) [] ≡ Err refusal)) }
-        ensures entries { self.new.entries ≡ self.old.entries }
+        ensures { Reaches (apply_ops version ops.now (world_of self.old) []) result (world_of self.new) }
     {
         let mut ids = List::new(self.alloc);
         for op in ops {
@@ -133,10 +128,7 @@ impl Plain {
     // A transaction of several operations works on a copy, so that a refusal leaves nothing of it behind.
     fn apply_in_copy(&mut self, version: Version, ops: &[Op]) -> Result<List<Id>, Refusal>
         requires { self.old.next_id + length ops.now < 2 ^ 64 }
-        ensures ok { IfOk result (λ ids. apply_ops version ops.now (world_of self.old) [] ≡ Ok (world_of self.new, ids)) }
-        ensures err { IfErr result (λ refusal. (refusal ≡ Refusal.NoMemory) ⊎ (apply_ops version ops.now (world_of self.old) [] ≡ Err refusal)) }
-        ensures kept { OnErr result (world_of self.new ≡ world_of self.old) }
-        ensures entries { self.new.entries ≡ self.old.entries }
+        ensures { AppliesOps version ops.now self.old result self.new }
     {
         let Ok(mut copy) = self.duplicate() else {
             return Err(Refusal::NoMemory);
@@ -153,10 +145,7 @@ impl Plain {
     // A single operation needs no copy, since its refusal changes nothing. The room for its id is taken first.
     fn apply_alone(&mut self, version: Version, op: &Op) -> Result<List<Id>, Refusal>
         requires { self.old.next_id + 1 < 2 ^ 64 }
-        ensures ok { IfOk result (λ ids. apply_ops version (op.now ∷ []) (world_of self.old) [] ≡ Ok (world_of self.new, ids)) }
-        ensures err { IfErr result (λ refusal. (refusal ≡ Refusal.NoMemory) ⊎ (apply_ops version (op.now ∷ []) (world_of self.old) [] ≡ Err refusal)) }
-        ensures kept { OnErr result (world_of self.new ≡ world_of self.old) }
-        ensures entries { self.new.entries ≡ self.old.entries }
+        ensures { AppliesOps version (op.now ∷ []) self.old result self.new }
     {
         let Ok(mut ids) = Vec::with_capacity(self.alloc, 1) else {
             return Err(Refusal::NoMemory);
@@ -173,10 +162,7 @@ impl Plain {
     // All of a transaction's operations, or none.
     fn apply_whole(&mut self, version: Version, ops: &[Op]) -> Result<List<Id>, Refusal>
         requires { self.old.next_id + length ops.now < 2 ^ 64 }
-        ensures ok { IfOk result (λ ids. apply_ops version ops.now (world_of self.old) [] ≡ Ok (world_of self.new, ids)) }
-        ensures err { IfErr result (λ refusal. (refusal ≡ Refusal.NoMemory) ⊎ (apply_ops version ops.now (world_of self.old) [] ≡ Err refusal)) }
-        ensures kept { OnErr result (world_of self.new ≡ world_of self.old) }
-        ensures entries { self.new.entries ≡ self.old.entries }
+        ensures { AppliesOps version ops.now self.old result self.new }
     {
         match ops {
             [op] => self.apply_alone(version, op),
@@ -186,7 +172,7 @@ impl Plain {
 
     fn txn(&mut self, ops: &[Op]) -> Reply
         requires { IsSmall (world_of self.old) }
-        ensures { Meets (call_outcome (world_of self.old) (Call.Txn ops.now)) (world_of self.old) result (world_of self.new) }
+        ensures { AnswersAs (done_outcome (world_of self.old) (Call.Txn ops.now)) self.old result self.new }
     {
         let count = ops.len();
         if count > MOST_OPS {
@@ -208,7 +194,7 @@ impl Plain {
 
     fn view(&mut self, query: &Query) -> Reply
         requires { IsSmall (world_of self.old) }
-        ensures { Meets (call_outcome (world_of self.old) (Call.View query.now)) (world_of self.old) result (world_of self.new) }
+        ensures { AnswersAs (view_outcome (world_of self.old) query.now) self.old result self.new }
     {
         match self.answer(query) {
             Ok(reply) => {
@@ -250,9 +236,9 @@ impl Plain {
                 self.halted = true;
                 Reply::HaltDone
             }
-            Call::Txn(ops) => self.txn(ops.as_slice()),
-            Call::View(query) => self.view(query),
             Call::Settle(_) => unreachable!(),
+            Call::Txn(ops) if call.can_do() => self.txn(ops.as_slice()),
+            Call::View(query) if call.can_do() => self.view(query),
             _ => {
                 self.entries += 1;
                 Reply::Did

@@ -1,7 +1,7 @@
 // What lists show.
 ghost use Rattle.std.specs.Prelude.{◌≡◌, map, IfOk};
 ghost use Rattle.swarm_model.specs.Today.Calls.{view_outcome};
-ghost use Rattle.swarm_model.specs.Calls.Views.{network_shown as shown_network, node_shown as shown_node, note_of, place_of, service_shown as shown_service, shown, task_shown};
+ghost use Rattle.swarm_model.specs.Calls.Views.{network_shown, node_shown, note_of, place_of, service_shown, shown, task_shown};
 ghost use Rattle.swarm_plain.specs.Plain.{tables_of, world_of};
 
 use crate::Plain;
@@ -70,7 +70,7 @@ impl Plain {
     }
 
     fn node_shown(&self, id: Id) -> Result<Shown, NoMemory>
-        ensures { IfOk result (λ node. node ≡ shown_node (tables_of self.now) id) }
+        ensures { IfOk result (λ node. node ≡ node_shown (tables_of self.now) id) }
     {
         match self.node(id) {
             Some(node) => Ok(Shown::Name(node.name.duplicate(self.alloc)?)),
@@ -79,7 +79,7 @@ impl Plain {
     }
 
     fn service_shown(&self, id: Id) -> Result<Shown, NoMemory>
-        ensures { IfOk result (λ service. service ≡ shown_service (tables_of self.now) id) }
+        ensures { IfOk result (λ service. service ≡ service_shown (tables_of self.now) id) }
     {
         match self.service(id) {
             Some(service) => Ok(Shown::Name(service.name.duplicate(self.alloc)?)),
@@ -88,7 +88,7 @@ impl Plain {
     }
 
     fn network_shown(&self, id: Id) -> Result<Shown, NoMemory>
-        ensures { IfOk result (λ network. network ≡ shown_network (tables_of self.now) id) }
+        ensures { IfOk result (λ network. network ≡ network_shown (tables_of self.now) id) }
     {
         match self.network(id) {
             Some(network) => Ok(Shown::Name(network.name.duplicate(self.alloc)?)),

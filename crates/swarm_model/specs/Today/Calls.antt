@@ -9,7 +9,9 @@ use Rattle.swarm_model.specs.Today.Settle.{settle_answer}
 use Rattle.swarm_objects.specs.CallWords.{is_halt}
 use Rattle.swarm_objects.specs.Limits.{most_nodes, most_ops, most_entries}
 use Rattle.swarm_objects.specs.Rows.{node_id}
+use Rattle.swarm_objects.specs.Rules.Nodes.{node_breaks, node_rules}
 use Rattle.swarm_objects.specs.Rules.Services.{broken_rule}
+use Rattle.swarm_objects.specs.Today.CanDo.{can_do}
 use Rattle.swarm_objects.specs.World.{World}
 use Rattle.swarm_objects.specs.declared.calls.Call.{Call}
 use Rattle.swarm_objects.specs.declared.calls.Call.TheVariants.{Txn, View, Settle, Halt}
@@ -22,10 +24,11 @@ use Rattle.swarm_objects.specs.declared.nodes.Node.{Node}
 use Rattle.swarm_objects.specs.declared.nodes.NodeDraft.{NodeDraft}
 use Rattle.swarm_objects.specs.declared.nodes.NodeState.TheVariants.{Unknown}
 use Rattle.swarm_objects.specs.declared.replies.Refusal.{Refusal}
-use Rattle.swarm_objects.specs.declared.replies.Refusal.TheVariants.{NameTaken, TooMany, TooManyOps, Halted, Full}
+use Rattle.swarm_objects.specs.declared.replies.Refusal.TheVariants.{BadSpec, NameTaken, TooMany, TooManyOps, Halted, Full}
 use Rattle.swarm_objects.specs.declared.replies.Reply.TheVariants.{Refused, Txn as Done, View as Viewed, Did, Settle as Tested, HaltDone}
 use Rattle.swarm_objects.specs.declared.replies.ViewReply.{ViewReply}
 use Rattle.swarm_objects.specs.declared.replies.ViewReply.TheVariants.{Nodes, Tasks}
+use Rattle.swarm_objects.specs.declared.rules.SpecRule.{SpecRule}
 
 -- Operations. Each gives the world after it and the id of its object, or its refusal.
 
@@ -57,16 +60,25 @@ abbrev pub with_node : World → Node → World
 with_node w node =
     record w { tables = record w.tables { next_id = w.tables.next_id + 1; nodes = w.tables.nodes ++ node ∷ [] } }
 
--- a node joins, where no other has its name and there is room for one more
-abbrev pub create_node : ℕ → World → List ℕ → NodeDraft → Option ℕ → Result (World × ℕ) Refusal
-create_node version w name draft (Some id) = Err (NameTaken id)
-create_node version w name draft None =
-    if nat_le most_nodes (length w.tables.nodes) then Err (TooMany NodeKind (length w.tables.nodes))
-    else Ok (with_node w (new_node version w.tables.next_id name draft), w.tables.next_id)
+-- the first rule that the node breaks
+abbrev pub broken_node : Node → Option SpecRule
+broken_node n = find (node_breaks n) node_rules
 
--- an operation of the entry with this number; one that can't be done yet does nothing, and no legal history has it
+-- a node joins, where it breaks no rule, no other has its name and there is room for one more
+abbrev pub create_node : World → Node → Option SpecRule → Option ℕ → Result (World × ℕ) Refusal
+create_node w node (Some rule) there = Err (BadSpec rule)
+create_node w node None (Some id) = Err (NameTaken id)
+create_node w node None None =
+    if nat_le most_nodes (length w.tables.nodes) then Err (TooMany NodeKind (length w.tables.nodes))
+    else Ok (with_node w node, node.id)
+
+-- the node joins
+abbrev pub node_joins : World → Node → Result (World × ℕ) Refusal
+node_joins w node = create_node w node (broken_node node) (node_named node.name w.tables.nodes)
+
+-- an operation of the entry with this number; no transaction that is done has one that can't be done yet
 abbrev pub apply_op : ℕ → World → Op → Result (World × ℕ) Refusal
-apply_op version w (CreateNode name draft) = create_node version w name draft (node_named name w.tables.nodes)
+apply_op version w (CreateNode name draft) = node_joins w (new_node version w.tables.next_id name draft)
 apply_op version w (CreateService name draft) =
     create_service version w name draft (broken_rule draft) (service_named name w.tables.services)
 apply_op version w _ = Ok (w, 0)
@@ -97,7 +109,7 @@ txn_outcome w (Err refusal) = refused w refusal
 abbrev pub shows : World → ViewReply → Outcome
 shows w view = record { reply = Viewed view; after = counted w w }
 
--- what can't be done yet is answered nothing and does nothing, and no legal history has it
+-- what can't be done yet is answered `Did` and does nothing, and no legal history has it
 abbrev pub nothing_done : World → Outcome
 nothing_done w = record { reply = Did; after = counted w w }
 
@@ -106,15 +118,19 @@ view_outcome w ListNodes = shows w (Nodes (map shown w.tables.nodes))
 view_outcome w (ListTasks None) = shows w (Tasks (map (task_shown w.tables) w.tables.tasks))
 view_outcome w _ = nothing_done w
 
--- what a call that becomes an entry is answered, and the world after it
-abbrev pub call_outcome : World → Call → Outcome
-call_outcome w (Txn ops) =
+-- what a call that can be done is answered, and the world after it
+abbrev pub done_outcome : World → Call → Outcome
+done_outcome w (Txn ops) =
     if nat_lt most_ops (length ops) then refused w (TooManyOps (length ops))
     else txn_outcome w (apply_ops (w.entries + 1) ops w [])
-call_outcome w (View query) = view_outcome w query
-call_outcome w (Settle budget) = record { reply = Tested budget (settle_answer w); after = counted w w }
-call_outcome w Halt = record { reply = HaltDone; after = record w { entries = w.entries + 1; halted = true } }
-call_outcome w _ = nothing_done w
+done_outcome w (View query) = view_outcome w query
+done_outcome w (Settle budget) = record { reply = Tested budget (settle_answer w); after = counted w w }
+done_outcome w Halt = record { reply = HaltDone; after = record w { entries = w.entries + 1; halted = true } }
+done_outcome w _ = nothing_done w
+
+-- what a call that becomes an entry is answered, and the world after it
+abbrev pub call_outcome : World → Call → Outcome
+call_outcome w call = if can_do call then done_outcome w call else nothing_done w
 
 -- the history has no room for the call; there is always room for Halt
 abbrev pub is_full : World → Call → Bool
