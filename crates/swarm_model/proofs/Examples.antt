@@ -1,5 +1,10 @@
 pub mod Audit
+pub mod Calls
+pub mod Illegal
 pub mod Journals
 pub mod LawTests
+pub mod NoMatch
 pub mod OutOfOrder
+pub mod Refusals
 pub mod Today
+pub mod Words
