@@ -1,5 +1,7 @@
+pub mod Along
 pub mod Audit
 pub mod Calls
+pub mod Due
 pub mod Illegal
 pub mod Journals
 pub mod LawTests

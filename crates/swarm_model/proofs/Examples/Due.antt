@@ -1,0 +1,10 @@
+pub mod ClosedPlace
+pub mod DoneJob
+pub mod EveryNode
+pub mod FailAndDown
+pub mod FinishAndTrim
+pub mod LostLabel
+pub mod LostNode
+pub mod OrphanAndNote
+pub mod SwapAndDown
+pub mod TwoReplicas
