@@ -2,7 +2,9 @@ pub mod ClosedPlace
 pub mod DoneJob
 pub mod EveryNode
 pub mod FailAndDown
+pub mod FinishAndLeave
 pub mod FinishAndTrim
+pub mod GoneAndOld
 pub mod LostLabel
 pub mod LostNode
 pub mod OrphanAndNote
