@@ -1,5 +1,12 @@
+pub mod Along
 pub mod Audit
+pub mod Calls
+pub mod Due
+pub mod Illegal
 pub mod Journals
 pub mod LawTests
+pub mod NoMatch
 pub mod OutOfOrder
+pub mod Refusals
 pub mod Today
+pub mod Words

@@ -1,0 +1,380 @@
+-- What each call does, on small worlds.
+use Rattle.std.specs.Prelude.{List, None, Option, Some, [], codes, false, refl, true, ℕ, ◌++◌, ◌∷◌, ◌≡◌}
+use Rattle.swarm_model.proofs.Examples.Words.{add_network, all_events, create, draft_of, join, join_remote, leaves, on_networks, one, plain_draft, plain_node, plain_spec, plain_template, remote_draft, says, update, with_template, world_after}
+use Rattle.swarm_model.specs.Calls.{call_outcome}
+use Rattle.swarm_model.specs.Calls.Nodes.{new_node}
+use Rattle.swarm_model.specs.Outcome.{Outcome}
+use Rattle.swarm_objects.proofs.Examples.Rows.{task}
+use Rattle.swarm_objects.specs.Changes.{with_tables}
+use Rattle.swarm_objects.specs.Rows.{first_of}
+use Rattle.swarm_objects.specs.World.{World, empty_tables, empty_world}
+use Rattle.swarm_objects.specs.declared.agents.AgentMode.{AgentMode}
+use Rattle.swarm_objects.specs.declared.agents.AgentMode.TheVariants as agent_mode
+use Rattle.swarm_objects.specs.declared.agents.Executor.{Executor}
+use Rattle.swarm_objects.specs.declared.agents.NodeAgent.{NodeAgent}
+use Rattle.swarm_objects.specs.declared.calls.Call.{Call}
+use Rattle.swarm_objects.specs.declared.calls.Call.TheVariants as call
+use Rattle.swarm_objects.specs.declared.calls.Op.TheVariants as op
+use Rattle.swarm_objects.specs.declared.calls.Query.TheVariants as query
+use Rattle.swarm_objects.specs.declared.duties.Settle.TheVariants as settle
+use Rattle.swarm_objects.specs.declared.ids.Kind.TheVariants as kind
+use Rattle.swarm_objects.specs.declared.messages.Assigned.{Assigned}
+use Rattle.swarm_objects.specs.declared.nodes.Availability.TheVariants as availability
+use Rattle.swarm_objects.specs.declared.nodes.Node.{Node}
+use Rattle.swarm_objects.specs.declared.nodes.NodeRole.TheVariants as node_role
+use Rattle.swarm_objects.specs.declared.nodes.NodeState.TheVariants as node_state
+use Rattle.swarm_objects.specs.declared.replies.Reply.TheVariants as reply
+use Rattle.swarm_objects.specs.declared.replies.ViewReply.TheVariants as view
+use Rattle.swarm_objects.specs.declared.services.Draft.{Draft}
+use Rattle.swarm_objects.specs.declared.services.Mode.TheVariants as mode
+use Rattle.swarm_objects.specs.declared.services.Service.{Service}
+use Rattle.swarm_objects.specs.declared.tasks.Desired.TheVariants as desired
+use Rattle.swarm_objects.specs.declared.tasks.Note.TheVariants as note
+use Rattle.swarm_objects.specs.declared.tasks.Place.TheVariants.{Slot}
+use Rattle.swarm_objects.specs.declared.tasks.Task.{Task}
+use Rattle.swarm_objects.specs.declared.tasks.TaskState.{TaskState}
+use Rattle.swarm_objects.specs.declared.tasks.TaskState.TheVariants as state
+use Rattle.swarm_objects.specs.declared.views.NoteShown.TheVariants as note_shown
+use Rattle.swarm_objects.specs.declared.views.PlaceShown.TheVariants as place_shown
+use Rattle.swarm_objects.specs.declared.views.Shown.TheVariants as by
+use Rattle.swarm_objects.specs.declared.watches.Event.{Event}
+use Rattle.swarm_objects.specs.declared.watches.Verb.{Verb}
+use Rattle.swarm_objects.specs.declared.watches.Verb.TheVariants as verb
+
+-- Transactions.
+
+-- each operation finds what the earlier ones did
+one_after_the_other : says [] (call.Txn (op.CreateNetwork (codes "lan") 167772416 29 ∷ op.CreateService (codes "web") (on_networks (codes "lan" ∷ [])) ∷ []))
+    ≡ reply.Txn (1 ∷ 2 ∷ [])
+one_after_the_other = refl
+
+-- all of them, or none
+none_of_them : leaves [] (call.Txn (op.CreateService (codes "web") plain_draft ∷ op.RemoveService (codes "api") ∷ [])) ≡ record empty_world { entries = 1 }
+none_of_them = refl
+
+no_operations : says [] (call.Txn []) ≡ reply.Txn []
+no_operations = refl
+
+joined : leaves [] (join (codes "n")) ≡ record empty_world {
+  entries = 1;
+  tables = record empty_tables {
+    next_id = 2;
+    nodes = record {
+      id = 1;
+      version = 1;
+      name = codes "n";
+      labels = [];
+      role = node_role.Worker;
+      availability = availability.Active;
+      state = node_state.Unknown;
+      down_since = 0;
+      cpu = 1000;
+      mem = 0;
+      os = codes "linux";
+      arch = codes "amd64";
+      engine = [];
+      remote = false;
+    } ∷ [];
+  };
+  agents = record { node = 1; mode = agent_mode.On; inbox = None; applied = 0; executors = [] } ∷ [];
+}
+joined = refl
+
+no_agent_of_remote : (leaves [] (join_remote (codes "r"))).agents ≡ []
+no_agent_of_remote = refl
+
+abbrev first_node : World → Option Node
+first_node w = first_of w.tables.nodes
+
+-- labels, role and availability are given; the rest stays
+node_written : first_node (leaves (join (codes "n") ∷ []) (one (op.UpdateNode (codes "n") (Some 1) ((codes "k", codes "v") ∷ []) node_role.Manager availability.Drain)))
+    ≡ Some (record (new_node 2 1 (codes "n") plain_node) { labels = (codes "k", codes "v") ∷ []; role = node_role.Manager; availability = availability.Drain })
+node_written = refl
+
+-- A node that is removed: its tasks up to RUNNING are orphans, placed or not.
+
+abbrev task_on : ℕ → Option ℕ → TaskState → Task
+task_on id on s = record {
+  id = id;
+  version = 1;
+  service = 5;
+  place = Slot 1;
+  iteration = 0;
+  template = plain_template;
+  born = 1;
+  goal = desired.Running;
+  node = on;
+  state = s;
+  since = 0;
+  desired = desired.Running;
+  created = 0;
+  raise_at = 0;
+  addresses = [];
+  note = note.Empty;
+  closed = None;
+}
+
+abbrev with_tasks : World → List Task → World
+with_tasks w tasks = with_tables w (record w.tables { tasks = tasks })
+
+removed : (call_outcome (with_tasks (world_after (join (codes "n") ∷ [])) (
+  task_on 6 (Some 1) state.Running
+  ∷ task_on 7 (Some 1) state.Pending
+  ∷ task_on 8 (Some 1) state.Failed
+  ∷ task_on 9 (Some 2) state.Running
+  ∷ task_on 10 None state.Pending
+  ∷ [])) (one (op.RemoveNode (codes "n") true))).after
+    ≡ record empty_world {
+        entries = 2;
+        tables = record empty_tables {
+          next_id = 2;
+          tasks =
+            record (task_on 6 (Some 1) state.Orphaned) { version = 2 }
+            ∷ record (task_on 7 (Some 1) state.Orphaned) { version = 2 }
+            ∷ task_on 8 (Some 1) state.Failed
+            ∷ task_on 9 (Some 2) state.Running
+            ∷ task_on 10 None state.Pending
+            ∷ [];
+        };
+      }
+removed = refl
+
+-- Services.
+
+abbrev first_service : World → Option Service
+first_service w = first_of w.tables.services
+
+abbrev web : Service
+web = record {
+  id = 1;
+  version = 1;
+  name = codes "web";
+  spec = plain_spec (mode.Replicated 1);
+  previous = None;
+  template_version = 1;
+  rolling_back = false;
+  iteration = 0;
+  numbers = [];
+  run = None;
+}
+
+created : leaves [] (create (codes "web") plain_draft) ≡ record empty_world {
+  entries = 1;
+  tables = record empty_tables { next_id = 2; services = web ∷ [] };
+}
+created = refl
+
+-- ids of networks in a draft's template are overwritten
+networks_are_named : first_service (leaves [] (create (codes "web") (with_template (record plain_template { networks = 7 ∷ 7 ∷ [] })))) ≡ Some web
+networks_are_named = refl
+
+-- the template stays the same, and so does its version
+scaled : first_service (leaves (create (codes "web") plain_draft ∷ []) (update (codes "web") None (draft_of (mode.Replicated 3))))
+    ≡ Some (record web { version = 2; spec = plain_spec (mode.Replicated 3); previous = Some (plain_spec (mode.Replicated 1)) })
+scaled = refl
+
+abbrev larger : Draft
+larger = with_template (record plain_template { cpu = 200 })
+
+templated : first_service (leaves (create (codes "web") plain_draft ∷ []) (update (codes "web") None larger))
+    ≡ Some (record web { version = 2; spec = larger.spec; previous = Some (plain_spec (mode.Replicated 1)); template_version = 2 })
+templated = refl
+
+-- back to the specification before, which then is the one to come back to
+rolled_back : first_service (leaves (create (codes "web") plain_draft ∷ update (codes "web") None larger ∷ []) (one (op.RollbackService (codes "web") None)))
+    ≡ Some (record web { version = 3; previous = Some larger.spec; template_version = 3; rolling_back = true })
+rolled_back = refl
+
+-- each update of a job is one more iteration
+next_job : first_service (leaves (create (codes "web") (draft_of (mode.Job 1 1)) ∷ []) (update (codes "web") None (draft_of (mode.Job 1 1))))
+    ≡ Some (record web { version = 2; spec = plain_spec (mode.Job 1 1); previous = Some (plain_spec (mode.Job 1 1)); iteration = 1 })
+next_job = refl
+
+-- its attempts go with it
+service_removed : leaves (create (codes "web") plain_draft ∷ []) (one (op.RemoveService (codes "web"))) ≡ record empty_world {
+  entries = 2;
+  tables = record empty_tables { next_id = 2 };
+}
+service_removed = refl
+
+-- Networks and settings.
+
+network_added : (leaves [] (add_network (codes "lan"))).tables.networks
+    ≡ record { id = 1; version = 1; name = codes "lan"; base = 167772416; length = 29 } ∷ []
+network_added = refl
+
+network_removed : (leaves (add_network (codes "lan") ∷ []) (one (op.RemoveNetwork (codes "lan")))).tables.networks ≡ []
+network_removed = refl
+
+set : leaves [] (one (op.SetCluster (record { heartbeat = 1000; orphan = 1; history = 0 }))) ≡ record empty_world {
+  entries = 1;
+  tables = record empty_tables { settings = record { heartbeat = 1000; orphan = 1; history = 0 } };
+}
+set = refl
+
+-- Queries change nothing, and name what is gone by its id.
+
+viewed : leaves [] (call.View query.Clock) ≡ record empty_world { entries = 1 }
+viewed = refl
+
+shows_id_of_gone : (call_outcome (with_tasks empty_world (task_on 6 (Some 1) state.Running ∷ [])) (call.View (query.ListTasks None))).reply
+    ≡ reply.View (view.Tasks (record {
+        id = 6;
+        service = by.Id 5;
+        place = place_shown.Slot 1;
+        node = Some (by.Id 1);
+        state = state.Running;
+        desired = desired.Running;
+        note = note_shown.Empty;
+      } ∷ []))
+shows_id_of_gone = refl
+
+-- Watches.
+
+abbrev watched : List Call
+watched =
+    call.WatchBegin (record { kind = Some kind.Service; id = None })
+    ∷ create (codes "web") plain_draft
+    ∷ join (codes "n")
+    ∷ update (codes "web") None (draft_of (mode.Replicated 3))
+    ∷ one (op.RemoveService (codes "web"))
+    ∷ []
+
+abbrev service_event : ℕ → Verb → Event
+service_event entry v = record { entry = entry; verb = v; kind = kind.Service; id = 2 }
+
+-- a watcher is told of what its filter admits
+polled_events : says watched (call.WatchPoll 1)
+    ≡ reply.Events (service_event 2 verb.Created ∷ service_event 4 verb.Updated ∷ service_event 5 verb.Deleted ∷ [])
+polled_events = refl
+
+-- once
+polled_again : says (watched ++ call.WatchPoll 1 ∷ []) (call.WatchPoll 1) ≡ reply.Events []
+polled_again = refl
+
+nothing_waits : (leaves watched (call.WatchPoll 1)).events ≡ []
+nothing_waits = refl
+
+-- with its end its events go
+watch_ended : leaves watched (call.WatchFinish 1) ≡ record (world_after watched) { entries = 6; watchers = []; events = [] }
+watch_ended = refl
+
+-- a refused transaction makes no event
+no_event_of_refused : (leaves (call.WatchBegin all_events ∷ []) (call.Txn (op.CreateService (codes "web") plain_draft ∷ op.RemoveService (codes "api") ∷ []))).events ≡ []
+no_event_of_refused = refl
+
+-- Time.
+
+ticked_on : leaves [] (call.Tick 1000) ≡ record empty_world { entries = 1; tables = record empty_tables { clock = 1000 } }
+ticked_on = refl
+
+-- Faults.
+
+abbrev executor : ℕ → TaskState → Executor
+executor task s = record {
+  task = task;
+  desired = desired.Running;
+  workload = plain_template.workload;
+  state = s;
+  since = 0;
+  stopping = None;
+  reported = None;
+  gone = false;
+}
+
+abbrev with_executors : List Executor → World
+with_executors executors = record (world_after (join (codes "n") ∷ [])) {
+  agents = record { node = 1; mode = agent_mode.On; inbox = None; applied = 0; executors = executors } ∷ [];
+}
+
+abbrev agents_after : World → Call → List NodeAgent
+agents_after w c = (call_outcome w c).after.agents
+
+abbrev in_mode : AgentMode → List Executor → List NodeAgent
+in_mode m executors = record { node = 1; mode = m; inbox = None; applied = 0; executors = executors } ∷ []
+
+-- what starts or runs fails, and what only waits stays
+node_failed : agents_after (with_executors (executor 6 state.Ready ∷ executor 7 state.Starting ∷ executor 8 state.Running ∷ executor 9 state.Complete ∷ [])) (call.NodeFail (codes "n"))
+    ≡ in_mode agent_mode.PowerOff (executor 6 state.Ready ∷ executor 7 state.Failed ∷ executor 8 state.Failed ∷ executor 9 state.Complete ∷ [])
+node_failed = refl
+
+node_started : agents_after (leaves (join (codes "n") ∷ []) (call.NodeFail (codes "n"))) (call.NodeStart (codes "n")) ≡ in_mode agent_mode.On []
+node_started = refl
+
+agent_stopped : agents_after (with_executors (executor 8 state.Running ∷ [])) (call.AgentStop (codes "n"))
+    ≡ in_mode agent_mode.AgentOff (executor 8 state.Running ∷ [])
+agent_stopped = refl
+
+agent_started : agents_after (leaves (join (codes "n") ∷ []) (call.AgentStop (codes "n"))) (call.AgentStart (codes "n")) ≡ in_mode agent_mode.On []
+agent_started = refl
+
+-- without power nothing starts or stops
+no_start_without_power : agents_after (leaves (join (codes "n") ∷ []) (call.NodeFail (codes "n"))) (call.AgentStart (codes "n")) ≡ in_mode agent_mode.PowerOff []
+no_start_without_power = refl
+
+no_stop_without_power : agents_after (leaves (join (codes "n") ∷ []) (call.NodeFail (codes "n"))) (call.AgentStop (codes "n")) ≡ in_mode agent_mode.PowerOff []
+no_stop_without_power = refl
+
+-- Remote nodes.
+
+abbrev remote : World
+remote = world_after (join_remote (codes "r") ∷ [])
+
+-- by rising id, what no longer fits is rejected; what comes after it may fit
+remote_begun : (call_outcome (with_tasks remote (
+  record (task_on 6 (Some 1) state.Running) { template = record plain_template { cpu = 300 } }
+  ∷ record (task_on 7 (Some 1) state.Running) { template = record plain_template { cpu = 300 } }
+  ∷ task_on 8 (Some 1) state.Running
+  ∷ [])) (call.RemoteBegin (codes "r") (Some 400) None)).after
+    ≡ record remote {
+        entries = 2;
+        tables = record remote.tables {
+          next_id = 3;
+          nodes = record (new_node 2 1 (codes "r") remote_draft) { state = node_state.Ready; cpu = 400 } ∷ [];
+          tasks =
+            record (task_on 6 (Some 1) state.Running) { template = record plain_template { cpu = 300 } }
+            ∷ record (task_on 7 (Some 1) state.Rejected) { template = record plain_template { cpu = 300 }; version = 2 }
+            ∷ task_on 8 (Some 1) state.Running
+            ∷ [];
+          sessions = record { node = 1; session = record { id = 2; deadline = 15000; beat = 0 } } ∷ [];
+        };
+      }
+remote_begun = refl
+
+abbrev opened : World
+opened = world_after (join_remote (codes "r") ∷ call.RemoteBegin (codes "r") None None ∷ call.Tick 1000 ∷ [])
+
+remote_beaten : (call_outcome opened (call.RemoteBeat (codes "r") 2)).after.tables.sessions
+    ≡ record { node = 1; session = record { id = 2; deadline = 16000; beat = 1000 } } ∷ []
+remote_beaten = refl
+
+abbrev assigned_six : Assigned
+assigned_six = record { task = 6; desired = desired.Running; workload = plain_template.workload }
+
+remote_pulled : (call_outcome (with_tasks opened (task_on 6 (Some 1) state.Assigned ∷ [])) (call.RemotePull (codes "r") 2)).after.sent
+    ≡ record { node = 1; count = 1; tasks = assigned_six ∷ [] } ∷ []
+remote_pulled = refl
+
+abbrev reports : TaskState → TaskState → Outcome
+reports old s = call_outcome (with_tasks opened (task_on 6 (Some 1) old ∷ [])) (call.RemoteStatus (codes "r") 2 6 s)
+
+status_raised : reports state.Assigned state.Running ≡ record {
+  reply = reply.Status true state.Running;
+  after = record (with_tasks opened (record (task_on 6 (Some 1) state.Running) { version = 4; since = 1000 } ∷ [])) { entries = 4 };
+}
+status_raised = refl
+
+-- a state that isn't above the task's changes nothing
+status_passed : reports state.Running state.Ready ≡ record {
+  reply = reply.Status false state.Running;
+  after = record (with_tasks opened (task_on 6 (Some 1) state.Running ∷ [])) { entries = 4 };
+}
+status_passed = refl
+
+-- Settle and Halt.
+
+asked_settle : call_outcome empty_world (call.Settle 9) ≡ record { reply = reply.Settle 9 settle.Settled; after = record empty_world { entries = 1 } }
+asked_settle = refl
+
+halted : leaves [] call.Halt ≡ record empty_world { entries = 1; halted = true }
+halted = refl

@@ -1,0 +1,12 @@
+pub mod ClosedPlace
+pub mod DoneJob
+pub mod EveryNode
+pub mod FailAndDown
+pub mod FinishAndLeave
+pub mod FinishAndTrim
+pub mod GoneAndOld
+pub mod LostLabel
+pub mod LostNode
+pub mod OrphanAndNote
+pub mod SwapAndDown
+pub mod TwoReplicas
