@@ -1,5 +1,5 @@
 -- The definitions, computed on small worlds.
-use Rattle.std.proofs.Common.{◌≡◌, ℕ, false, List, [], ◌∷◌, Option, Some, None, refl}
+use Rattle.std.proofs.Common.{◌≡◌, false, [], ◌∷◌, Some, None, refl}
 use Rattle.swarm_objects.specs.Today.Agents.{agents}
 use Rattle.swarm_objects.specs.Today.Allocator.{allocator}
 use Rattle.swarm_model.specs.Today.Settle.{settle_answer}
@@ -7,135 +7,15 @@ use Rattle.swarm_objects.specs.Today.Duties.{is_due}
 use Rattle.swarm_objects.specs.Today.Duties.{after_duty}
 use Rattle.swarm_objects.specs.Today.Replicated.{replicated}
 use Rattle.swarm_objects.specs.Today.Scheduler.{scheduler}
-use Rattle.swarm_objects.specs.Defaults.{usual_settings}
 use Rattle.swarm_objects.specs.World.{Tables, empty_world}
-use Rattle.swarm_objects.specs.declared.sessions.NodeSession.{NodeSession}
 use Rattle.swarm_objects.specs.declared.duties.Duty.TheVariants as duty
 use Rattle.swarm_objects.specs.declared.duties.Settle.TheVariants.{Busy, Settled}
-use Rattle.swarm_objects.specs.declared.nodes.Availability.TheVariants as availability
-use Rattle.swarm_objects.specs.declared.nodes.Node.{Node}
-use Rattle.swarm_objects.specs.declared.nodes.NodeRole.TheVariants as role
-use Rattle.swarm_objects.specs.declared.nodes.NodeState.{NodeState}
 use Rattle.swarm_objects.specs.declared.nodes.NodeState.TheVariants as node_state
-use Rattle.swarm_objects.specs.declared.services.FailureAction.TheVariants as action
-use Rattle.swarm_objects.specs.declared.services.Mode.TheVariants as mode
-use Rattle.swarm_objects.specs.declared.services.Service.{Service}
-use Rattle.swarm_objects.specs.declared.services.ServiceSpec.{ServiceSpec}
-use Rattle.swarm_objects.specs.declared.services.UpdateOrder.TheVariants.{StopFirst}
 use Rattle.swarm_objects.specs.declared.tasks.Closed.TheVariants as closed
 use Rattle.swarm_objects.specs.declared.tasks.Desired.TheVariants as desired
-use Rattle.swarm_objects.specs.declared.tasks.Note.{Note}
 use Rattle.swarm_objects.specs.declared.tasks.Note.TheVariants as note
-use Rattle.swarm_objects.specs.declared.tasks.Place.TheVariants.{Slot}
-use Rattle.swarm_objects.specs.declared.tasks.Task.{Task}
-use Rattle.swarm_objects.specs.declared.tasks.TaskState.{TaskState}
 use Rattle.swarm_objects.specs.declared.tasks.TaskState.TheVariants as state
-use Rattle.swarm_objects.specs.declared.templates.End.TheVariants.{Never}
-use Rattle.swarm_objects.specs.declared.templates.RestartCondition.TheVariants as condition
-use Rattle.swarm_objects.specs.declared.templates.Template.{Template}
-
--- The rows of the examples.
-
-abbrev template : Template
-template = record {
-  workload = record { prepare = 1; start = 1; stop = 1; end = Never };
-  cpu = 0;
-  mem = 0;
-  constraints = [];
-  spread = [];
-  platforms = [];
-  max_replicas = 0;
-  networks = [];
-  host_ports = [];
-  restart = record { condition = condition.Any; delay = 5000; max_attempts = 0; window = 0 };
-}
-
-abbrev spec_of : ℕ → ServiceSpec
-spec_of replicas = record {
-  mode = mode.Replicated replicas;
-  template = template;
-  ports = [];
-  update = record { parallelism = 1; delay = 0; monitor = 5000; action = action.Pause; ratio = 0; order = StopFirst };
-}
-
--- a service with so many replicas, which the second entry made
-abbrev service : ℕ → Service
-service replicas = record {
-  id = 2;
-  version = 2;
-  name = 119 ∷ [];
-  spec = spec_of replicas;
-  previous = None;
-  template_version = 2;
-  rolling_back = false;
-  iteration = 0;
-  numbers = [];
-  run = None;
-}
-
-abbrev node : ℕ → NodeState → ℕ → Node
-node id state version = record {
-  id = id;
-  version = version;
-  name = 110 ∷ id ∷ [];
-  labels = [];
-  role = role.Worker;
-  availability = availability.Active;
-  state = state;
-  down_since = 0;
-  cpu = 4000;
-  mem = 8589934592;
-  os = [];
-  arch = [];
-  engine = [];
-  remote = false;
-}
-
--- a task as the entry with this number makes it
-abbrev new : ℕ → ℕ → ℕ → Task
-new id slot version = record {
-  id = id;
-  version = version;
-  service = 2;
-  place = Slot slot;
-  iteration = 0;
-  template = template;
-  born = 2;
-  goal = desired.Running;
-  node = None;
-  state = state.New;
-  since = 0;
-  desired = desired.Running;
-  created = 0;
-  raise_at = 0;
-  addresses = [];
-  note = note.Empty;
-  closed = None;
-}
-
--- the same task as a later entry leaves it
-abbrev later : ℕ → Option ℕ → TaskState → Note → Task → Task
-later version on state note t = record t { version = version; node = on; state = state; note = note }
-
-abbrev tables : ℕ → List Node → List Service → List Task → List NodeSession → Tables
-tables next nodes services tasks sessions = record {
-  clock = 0;
-  next_id = next;
-  nodes = nodes;
-  services = services;
-  tasks = tasks;
-  networks = [];
-  attempts = [];
-  sessions = sessions;
-  settings = usual_settings;
-}
-
-abbrev session : ℕ → ℕ → NodeSession
-session node id = record { node = node; session = record { id = id; deadline = 15000; beat = 0 } }
-
--- the node was tested, and isn't ready
-abbrev not_ready : Note
-not_ready = note.Filters (1 ∷ 0 ∷ 0 ∷ 0 ∷ 0 ∷ 0 ∷ [])
+use Rattle.swarm_objects.proofs.Examples.{service, node, new, later, tables, session, not_ready}
 
 -- A node joins, and a service with two replicas comes.
 
