@@ -9,5 +9,8 @@ mod placing;
 mod replicated;
 mod settling;
 
+#[cfg(test)]
+mod tests;
+
 pub use effects::do_duty;
 pub use settling::{duties, settle, settle_call};
