@@ -1,19 +1,13 @@
 -- From what was read to a constraint or a fault.
-use Rattle.std.proofs.Common.{◌≡◌, ℕ, suc, ◌+◌, ◌<◌, List, [], ◌∷◌, ◌++◌, length, take, true, ◌&&◌, Some, None, sym, ap, ◌∙◌, arith}
-use Rattle.std.specs.Prelude.{slice_index, IsTrue, nat_lt, nat_le}
-use Rattle.std.specs.List.{list_all}
-use Rattle.std.specs.Str.{IsAscii, IsUtf8}
+use Rattle.std.proofs.Common.{◌≡◌, ℕ, suc, ◌+◌, ◌<◌, List, [], ◌∷◌, ◌++◌, length, take, Some, None, sym, ap, ◌∙◌, arith}
+use Rattle.std.specs.Prelude.{slice_index}
 use Rattle.std.proofs.Math.Seq.{take-suc, take-length}
-use Rattle.std.proofs.lemmas.Str.{IsUtf8-from_ascii}
-use Rattle.std.proofs.lemmas.Str.Ascii.{IsAscii-nil, IsAscii-cons}
-use Rattle.std.proofs.lemmas.Bool.Decides.{nat_tests}
 use Rattle.swarm_filters.specs.Grammar.{IsConstraint, IsFault}
-use Rattle.swarm_objects.specs.Names.{is_name_byte, is_name, begins_name, is_value}
 use Rattle.swarm_filters.specs.Machine.{Progress, start, byte_step, goes_on, run_bytes, whole_of}
 use Rattle.swarm_filters.specs.Inside.States.{PartsRead, PartsFit, key_at, whole_at}
 use Rattle.swarm_filters.specs.declared.state.Parts.{Parts}
 use Rattle.swarm_filters.proofs.Runs.{IsConstraint-read}
-use Rattle.swarm_filters.proofs.Wholes.{first_true, second_true, run_bytes-append}
+use Rattle.swarm_filters.proofs.Wholes.{run_bytes-append}
 use Rattle.swarm_filters.proofs.Written.{key_has_text-IsKey}
 use Rattle.swarm_filters.proofs.FaultLemmas.{IsFault-there, IsFault-cut}
 

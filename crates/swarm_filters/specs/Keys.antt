@@ -28,8 +28,8 @@ name_behind prefix text =
 abbrev pub label_of : List ℕ → Option Key
 label_of text =
     option_or
-      (option_map key.Label (name_behind (codes "node.labels.") text))
-      (option_map key.Engine (name_behind (codes "engine.labels.") text))
+    (option_map key.Label (name_behind (codes "node.labels.") text))
+    (option_map key.Engine (name_behind (codes "engine.labels.") text))
 
 -- the key that a text is, where it is one
 abbrev pub key_of : List ℕ → Option Key

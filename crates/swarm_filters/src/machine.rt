@@ -36,9 +36,7 @@ fn is_same_text(one: &[u8], two: &[u8]) -> bool
 fn key_begun(text: &[u8], from: usize, end: usize) -> Option<State>
     requires order { from ≤ end }
     requires within { end ≤ length text.now }
-    ensures shows {
-        option_shown text.now end result ≡ word_begun (str_to_ascii_lowercase (part text.now from end)) key_words
-    }
+    ensures shows { option_shown text.now end result ≡ word_begun (str_to_ascii_lowercase (part text.now from end)) key_words }
     ensures fits { OptionFits end result }
 {
     let bytes = &text[from..end];
@@ -62,9 +60,7 @@ fn key_begun(text: &[u8], from: usize, end: usize) -> Option<State>
 fn platform_begun(text: &[u8], from: usize, end: usize) -> Option<State>
     requires order { from ≤ end }
     requires within { end ≤ length text.now }
-    ensures shows {
-        option_shown text.now end result ≡ word_begun (str_to_ascii_lowercase (part text.now from end)) platform_words
-    }
+    ensures shows { option_shown text.now end result ≡ word_begun (str_to_ascii_lowercase (part text.now from end)) platform_words }
     ensures fits { OptionFits end result }
 {
     let bytes = &text[from..end];
@@ -84,9 +80,7 @@ fn platform_begun(text: &[u8], from: usize, end: usize) -> Option<State>
 fn label_begun(text: &[u8], from: usize, end: usize) -> Option<State>
     requires order { from ≤ end }
     requires within { end ≤ length text.now }
-    ensures shows {
-        option_shown text.now end result ≡ word_begun (str_to_ascii_lowercase (part text.now from end)) label_words
-    }
+    ensures shows { option_shown text.now end result ≡ word_begun (str_to_ascii_lowercase (part text.now from end)) label_words }
     ensures fits { OptionFits end result }
 {
     let bytes = &text[from..end];
@@ -121,10 +115,8 @@ fn behind_key(text: &[u8], place: usize, found: Found, byte: u8) -> Option<State
 fn label_step(text: &[u8], place: usize, engine: bool, from: usize) -> Option<State>
     requires below { place < length text.now }
     requires order { from ≤ place }
-    ensures shows {
-        option_shown text.now (place + 1) result
-            ≡ byte_step (shown text.now place (InLabel engine from)) (slice_index text.now place)
-    }
+    ensures shows { option_shown text.now (place + 1) result
+        ≡ byte_step (shown text.now place (InLabel engine from)) (slice_index text.now place) }
     ensures fits { OptionFits (place + 1) result }
 {
     if is_name(&text[from..place + 1]) {
@@ -143,12 +135,10 @@ fn value_step(text: &[u8], place: usize, parts: Parts) -> Option<State>
     requires found { FoundFits place parts.found }
     requires order { parts.value.from ≤ place }
     requires end { parts.value.end ≡ place }
-    ensures shows {
-        option_shown text.now (place + 1) result
-            ≡ byte_step
-                (shown text.now place (InValue parts.found parts.equal parts.value.from))
-                (slice_index text.now place)
-    }
+    ensures shows { option_shown text.now (place + 1) result
+        ≡ byte_step
+        (shown text.now place (InValue parts.found parts.equal parts.value.from))
+        (slice_index text.now place) }
     ensures fits { OptionFits (place + 1) result }
 {
     if text[place] == b' ' {
@@ -164,10 +154,8 @@ fn value_step(text: &[u8], place: usize, parts: Parts) -> Option<State>
 fn value_begun(text: &[u8], place: usize, found: Found, equal: bool) -> Option<State>
     requires below { place < length text.now }
     requires found { FoundFits place found }
-    ensures shows {
-        option_shown text.now (place + 1) result
-            ≡ byte_step (shown text.now place (AfterSign found equal)) (slice_index text.now place)
-    }
+    ensures shows { option_shown text.now (place + 1) result
+        ≡ byte_step (shown text.now place (AfterSign found equal)) (slice_index text.now place) }
     ensures fits { OptionFits (place + 1) result }
 {
     if text[place] == b' ' {
@@ -181,9 +169,7 @@ fn value_begun(text: &[u8], place: usize, found: Found, equal: bool) -> Option<S
 
 fn start_step(text: &[u8], place: usize) -> Option<State>
     requires below { place < length text.now }
-    ensures shows {
-        option_shown text.now (place + 1) result ≡ byte_step (shown text.now place Start) (slice_index text.now place)
-    }
+    ensures shows { option_shown text.now (place + 1) result ≡ byte_step (shown text.now place Start) (slice_index text.now place) }
     ensures fits { OptionFits (place + 1) result }
 {
     if text[place] == b' ' {
@@ -195,10 +181,8 @@ fn start_step(text: &[u8], place: usize) -> Option<State>
 fn key_step(text: &[u8], place: usize, from: usize) -> Option<State>
     requires below { place < length text.now }
     requires order { from ≤ place }
-    ensures shows {
-        option_shown text.now (place + 1) result
-            ≡ byte_step (shown text.now place (InKey from)) (slice_index text.now place)
-    }
+    ensures shows { option_shown text.now (place + 1) result
+        ≡ byte_step (shown text.now place (InKey from)) (slice_index text.now place) }
     ensures fits { OptionFits (place + 1) result }
 {
     key_begun(text, from, place + 1)
@@ -208,9 +192,7 @@ fn key_step(text: &[u8], place: usize, from: usize) -> Option<State>
 pub fn byte_step(text: &[u8], place: usize, state: State) -> Option<State>
     requires below { place < length text.now }
     requires fits { StateFits place state }
-    ensures shows {
-        option_shown text.now (place + 1) result ≡ byte_step (shown text.now place state) (slice_index text.now place)
-    }
+    ensures shows { option_shown text.now (place + 1) result ≡ byte_step (shown text.now place state) (slice_index text.now place) }
     ensures fits { OptionFits (place + 1) result }
 {
     match state {
