@@ -15,7 +15,7 @@ use Rattle.swarm_objects.specs.declared.tasks.Closed.TheVariants as closed
 use Rattle.swarm_objects.specs.declared.tasks.Desired.TheVariants as desired
 use Rattle.swarm_objects.specs.declared.tasks.Note.TheVariants as note
 use Rattle.swarm_objects.specs.declared.tasks.TaskState.TheVariants as state
-use Rattle.swarm_objects.proofs.Examples.{service, node, new, later, tables, session, not_ready}
+use Rattle.swarm_objects.proofs.Examples.Today.{service, node, new, later, tables, session, not_ready}
 
 -- A node joins, and a service with two replicas comes.
 
