@@ -17,10 +17,8 @@ fn is_for(given: &PortNumber, port: &Port) -> bool
 
 // A number was given to this ingress port.
 fn was_given(numbers: &[PortNumber], port: &Port) -> bool
-    ensures {
-        let is_port = λ (given : PortNumber). given.target == port.now.target && same_bool given.udp port.now.udp in
-        result ≡ list_any is_port numbers.now
-    }
+    ensures { let is_port = λ (given : PortNumber). given.target == port.now.target && same_bool given.udp port.now.udp in
+        result ≡ list_any is_port numbers.now }
 {
     numbers.iter().any(|given| is_for(given, port))
 }

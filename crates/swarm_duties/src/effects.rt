@@ -10,8 +10,8 @@ ghost use Rattle.swarm_plain.specs.Plain.{world_of};
 
 use crate::filters::refusal_counts;
 use swarm_objects::{
-    Desired, Duty, Id, Ms, NoMemory, Node, NodeSession, NodeState, Note, Place, Rows, Session, Task,
-    TaskState, Version, add, put_in_order,
+    Desired, Duty, Id, Ms, NoMemory, Node, NodeSession, NodeState, Note, Place, Rows, Session,
+    Task, TaskState, Version, add, put_in_order,
 };
 use swarm_plain::Plain;
 
@@ -24,7 +24,14 @@ fn create_task(plain: &mut Plain, service: Id, slot: u64) -> Result<(), NoMemory
     if let Some(service) = plain.service(service) {
         let version = plain.entries + 1;
         let place = Place::Slot(slot);
-        let task = Task::new(plain.alloc, plain, version, service, place, Desired::Running)?;
+        let task = Task::new(
+            plain.alloc,
+            plain,
+            version,
+            service,
+            place,
+            Desired::Running,
+        )?;
         add(&mut plain.tasks, task)?;
         plain.next_id += 1;
     }

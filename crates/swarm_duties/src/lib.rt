@@ -8,7 +8,6 @@ mod filters;
 mod placing;
 mod replicated;
 mod settling;
-
 #[cfg(test)]
 mod tests;
 

@@ -62,10 +62,8 @@ fn better<'a>(
     best: Option<&'a Node>,
     node: &'a Node,
 ) -> Option<&'a Node>
-    ensures {
-        let order = node_cmp (world_of plain.now).tables service in
-        option_copied result ≡ keep_least order (option_copied best.entry) node.now
-    }
+    ensures { let order = node_cmp (world_of plain.now).tables service in
+        option_copied result ≡ keep_least order (option_copied best.entry) node.now }
 {
     match best {
         None => Some(node),

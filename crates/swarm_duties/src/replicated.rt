@@ -70,10 +70,8 @@ fn first_gap(numbers: &[u64]) -> u64
 
 // A new task for the service, where fewer slots are held than it is to have replicas.
 fn create_slot(alloc: Global, service: &Service, tasks: &[Task]) -> Result<Option<Duty>, NoMemory>
-    ensures {
-        let due = create_slot service.now.id (held_slots service.now tasks.now) service.now.spec.mode in
-        IfOk result (λ duty. option_to_list duty ≡ due)
-    }
+    ensures { let due = create_slot service.now.id (held_slots service.now tasks.now) service.now.spec.mode in
+        IfOk result (λ duty. option_to_list duty ≡ due) }
 {
     let Mode::Replicated(replicas) = service.spec.mode else {
         return Ok(None);

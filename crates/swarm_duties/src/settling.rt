@@ -46,10 +46,8 @@ pub fn settle(plain: &Plain) -> Result<Settle, NoMemory>
 
 /// Answers the call by which a line with this budget asks whether the world has settled, as an entry.
 pub fn settle_call(plain: &mut Plain, budget: u64) -> Reply
-    ensures {
-        let before = world_of plain.old in
-        Meets (outcome before (Call.Settle budget)) before result (world_of plain.new)
-    }
+    ensures { let before = world_of plain.old in
+        Meets (outcome before (Call.Settle budget)) before result (world_of plain.new) }
 {
     if plain.halted {
         return Reply::Refused(Refusal::Halted);

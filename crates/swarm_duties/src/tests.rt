@@ -139,8 +139,14 @@ fn beside(alloc: Global, state: TaskState) -> Result<Settle, NoMemory> {
 
 #[test]
 fn tasks_that_have_ended_are_no_load(rt: HostRuntime) -> Result<(), Fail> {
-    assert_eq!(rt; beside(rt.alloc(), TaskState::Failed)?, Settle::Busy(Duty::Place(9, 1)));
-    assert_eq!(rt; beside(rt.alloc(), TaskState::Running)?, Settle::Busy(Duty::Place(9, 6)));
+    assert_eq!(rt;
+        beside(rt.alloc(), TaskState::Failed)?,
+        Settle::Busy(Duty::Place(9, 1))
+    );
+    assert_eq!(rt;
+        beside(rt.alloc(), TaskState::Running)?,
+        Settle::Busy(Duty::Place(9, 6))
+    );
     Ok(())
 }
 

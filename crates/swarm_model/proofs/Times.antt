@@ -340,7 +340,7 @@ with-task-near version t s place wanted one near =
       nodes = near.nodes;
       services = near.services;
       tasks = each-more is_near_task t.tasks (new_task version t s place wanted) near.tasks
-        (all-four (is_near_template s.spec.template) (is_near t.clock) (is_near t.clock) (is_near t.clock) (near-template s one) clock clock clock);
+          (all-four (is_near_template s.spec.template) (is_near t.clock) (is_near t.clock) (is_near t.clock) (near-template s one) clock clock clock);
       attempts = near.attempts;
       sessions = near.sessions;
     }

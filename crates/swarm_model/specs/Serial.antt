@@ -29,7 +29,7 @@ wait_entries zero w time = settle_entries full_stretch w
 wait_entries (suc n) w time =
     elim (nat_lt w.tables.clock time) [
       | true ↦ next_stride w (time - w.tables.clock)
-    ++ wait_entries n (replay_from w (next_stride w (time - w.tables.clock))) time
+          ++ wait_entries n (replay_from w (next_stride w (time - w.tables.clock))) time
       | false ↦ settle_entries full_stretch w
     ]
 

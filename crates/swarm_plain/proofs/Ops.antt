@@ -14,8 +14,8 @@ after_first : (version : ℕ) (ops rest : List Op) (op : Op) (w v : World) (ids 
 after_first version ops rest op w v ids all id is done more =
     ap (λ xs. apply_ops version xs w ids) is
     ∙ ap (λ (r : Result (World × ℕ) Refusal). elim r [
-      Ok one ↦ apply_ops version rest one.0 (ids ++ one.1 ∷ [])
-    | Err refusal ↦ Err refusal
+      | Ok one ↦ apply_ops version rest one.0 (ids ++ one.1 ∷ [])
+      | Err refusal ↦ Err refusal
     ]) done
     ∙ ap (λ xs. apply_ops version rest v xs) (sym more)
 

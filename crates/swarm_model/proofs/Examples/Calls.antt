@@ -118,25 +118,25 @@ abbrev with_tasks : World → List Task → World
 with_tasks w tasks = with_tables w (record w.tables { tasks = tasks })
 
 removed : (call_outcome (with_tasks (world_after (join (codes "n") ∷ [])) (
-  task_on 6 (Some 1) state.Running
-  ∷ task_on 7 (Some 1) state.Pending
-  ∷ task_on 8 (Some 1) state.Failed
-  ∷ task_on 9 (Some 2) state.Running
-  ∷ task_on 10 None state.Pending
-  ∷ [])) (one (op.RemoveNode (codes "n") true))).after
+    task_on 6 (Some 1) state.Running
+    ∷ task_on 7 (Some 1) state.Pending
+    ∷ task_on 8 (Some 1) state.Failed
+    ∷ task_on 9 (Some 2) state.Running
+    ∷ task_on 10 None state.Pending
+    ∷ [])) (one (op.RemoveNode (codes "n") true))).after
     ≡ record empty_world {
-        entries = 2;
-        tables = record empty_tables {
-          next_id = 2;
-          tasks =
+      entries = 2;
+      tables = record empty_tables {
+        next_id = 2;
+        tasks =
             record (task_on 6 (Some 1) state.Orphaned) { version = 2 }
             ∷ record (task_on 7 (Some 1) state.Orphaned) { version = 2 }
             ∷ task_on 8 (Some 1) state.Failed
             ∷ task_on 9 (Some 2) state.Running
             ∷ task_on 10 None state.Pending
             ∷ [];
-        };
-      }
+      };
+    }
 removed = refl
 
 -- Services.
@@ -219,14 +219,14 @@ viewed = refl
 
 shows_id_of_gone : (call_outcome (with_tasks empty_world (task_on 6 (Some 1) state.Running ∷ [])) (call.View (query.ListTasks None))).reply
     ≡ reply.View (view.Tasks (record {
-        id = 6;
-        service = by.Id 5;
-        place = place_shown.Slot 1;
-        node = Some (by.Id 1);
-        state = state.Running;
-        desired = desired.Running;
-        note = note_shown.Empty;
-      } ∷ []))
+      id = 6;
+      service = by.Id 5;
+      place = place_shown.Slot 1;
+      node = Some (by.Id 1);
+      state = state.Running;
+      desired = desired.Running;
+      note = note_shown.Empty;
+    } ∷ []))
 shows_id_of_gone = refl
 
 -- Watches.
@@ -322,23 +322,23 @@ remote = world_after (join_remote (codes "r") ∷ [])
 
 -- by rising id, what no longer fits is rejected; what comes after it may fit
 remote_begun : (call_outcome (with_tasks remote (
-  record (task_on 6 (Some 1) state.Running) { template = record plain_template { cpu = 300 } }
-  ∷ record (task_on 7 (Some 1) state.Running) { template = record plain_template { cpu = 300 } }
-  ∷ task_on 8 (Some 1) state.Running
-  ∷ [])) (call.RemoteBegin (codes "r") (Some 400) None)).after
+    record (task_on 6 (Some 1) state.Running) { template = record plain_template { cpu = 300 } }
+    ∷ record (task_on 7 (Some 1) state.Running) { template = record plain_template { cpu = 300 } }
+    ∷ task_on 8 (Some 1) state.Running
+    ∷ [])) (call.RemoteBegin (codes "r") (Some 400) None)).after
     ≡ record remote {
-        entries = 2;
-        tables = record remote.tables {
-          next_id = 3;
-          nodes = record (new_node 2 1 (codes "r") remote_draft) { state = node_state.Ready; cpu = 400 } ∷ [];
-          tasks =
+      entries = 2;
+      tables = record remote.tables {
+        next_id = 3;
+        nodes = record (new_node 2 1 (codes "r") remote_draft) { state = node_state.Ready; cpu = 400 } ∷ [];
+        tasks =
             record (task_on 6 (Some 1) state.Running) { template = record plain_template { cpu = 300 } }
             ∷ record (task_on 7 (Some 1) state.Rejected) { template = record plain_template { cpu = 300 }; version = 2 }
             ∷ task_on 8 (Some 1) state.Running
             ∷ [];
-          sessions = record { node = 1; session = record { id = 2; deadline = 15000; beat = 0 } } ∷ [];
-        };
-      }
+        sessions = record { node = 1; session = record { id = 2; deadline = 15000; beat = 0 } } ∷ [];
+      };
+    }
 remote_begun = refl
 
 abbrev opened : World

@@ -80,14 +80,14 @@ a_message = record { complete = false; applies_to = 3; results_in = 4; changes =
 -- a new session: nothing was sent in it, and the inbox is emptied
 registered_anew : after_register 7 (record registers { agents = agent (Some a_message) (executor state.Running ∷ []) ∷ [] }) 1
     ≡ record registers {
-        tables = record registers.tables {
-          next_id = 51;
-          nodes = record (node 1) { version = 7 } ∷ [];
-          sessions = record { node = 1; session = record { id = 50; deadline = 21000; beat = 6000 } } ∷ [];
-        };
-        sent = [];
-        agents = record (agent None (executor state.Running ∷ [])) { applied = 0 } ∷ [];
-      }
+      tables = record registers.tables {
+        next_id = 51;
+        nodes = record (node 1) { version = 7 } ∷ [];
+        sessions = record { node = 1; session = record { id = 50; deadline = 21000; beat = 6000 } } ∷ [];
+      };
+      sent = [];
+      agents = record (agent None (executor state.Running ∷ [])) { applied = 0 } ∷ [];
+    }
 registered_anew = refl
 
 -- Beat.
@@ -136,16 +136,16 @@ apply_inbox = refl
 
 applied_update : after_apply (received_one a_message) 1
     ≡ record (calm (executor state.Running)) {
-        agents = record (agent None (record (executor state.Running) { desired = desired.Shutdown } ∷ [])) { applied = 4 } ∷ [];
-      }
+      agents = record (agent None (record (executor state.Running) { desired = desired.Shutdown } ∷ [])) { applied = 4 } ∷ [];
+    }
 applied_update = refl
 
 -- a complete message without the task takes its executor, and brings others
 applied_complete : (after_apply (received_one (record { complete = true; applies_to = 0; results_in = 1; changes = assign.Update (record (assigned_three desired.Ready) { task = 4 }) ∷ [] })) 1).agents
     ≡ record (agent None (
-        record (executor state.Running) { gone = true }
-        ∷ record { task = 4; desired = desired.Ready; workload = workload; state = state.Accepted; since = 1000; stopping = None; reported = None; gone = false }
-        ∷ [])) { applied = 1 } ∷ []
+    record (executor state.Running) { gone = true }
+    ∷ record { task = 4; desired = desired.Ready; workload = workload; state = state.Accepted; since = 1000; stopping = None; reported = None; gone = false }
+    ∷ [])) { applied = 1 } ∷ []
 applied_complete = refl
 
 -- Executors.
@@ -243,9 +243,9 @@ other task e = record e { task = task }
 in_order : agents (record (at_time 5000 (calm (executor state.Running))) {
   sent = sent_so desired.Ready ∷ [];
   agents = agent None (
-    record (executor state.Running) { reported = None }
-    ∷ other 4 (executor state.Accepted)
-    ∷ record (other 5 (executor state.Failed)) { gone = true }
-    ∷ []) ∷ [];
+      record (executor state.Running) { reported = None }
+      ∷ other 4 (executor state.Accepted)
+      ∷ record (other 5 (executor state.Failed)) { gone = true }
+      ∷ []) ∷ [];
 }) ≡ duty.Beat 1 ∷ duty.Pull 1 ∷ duty.Exec 1 4 ∷ duty.Report 1 3 ∷ duty.Forget 1 5 ∷ []
 in_order = refl

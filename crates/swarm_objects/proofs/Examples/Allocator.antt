@@ -114,8 +114,8 @@ note_where_network_is_gone = refl
 -- Ports come before addresses, and these before notes.
 
 ports_first : allocator (record (world_of (with_ports (port 80 None ∷ [])) (
-  record (on_lan fresh) { template = record template { networks = 9 ∷ [] } }
-  ∷ record fresh { id = 4; service = 5 }
-  ∷ [])) { services = with_ports (port 80 None ∷ []) ∷ record (replicas 1) { id = 5 } ∷ [] })
+    record (on_lan fresh) { template = record template { networks = 9 ∷ [] } }
+    ∷ record fresh { id = 4; service = 5 }
+    ∷ [])) { services = with_ports (port 80 None ∷ []) ∷ record (replicas 1) { id = 5 } ∷ [] })
     ≡ duty.Port 2 80 false ∷ duty.Address 4 ∷ duty.Note 3 ∷ []
 ports_first = refl

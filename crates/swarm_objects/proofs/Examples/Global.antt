@@ -75,14 +75,14 @@ no_come_where_unmet = refl
 -- bound to the node from the start
 came : after_global_create 7 (without_task (node 1)) 2 1
     ≡ record (tables (node 1 ∷ []) (in_zone_a ∷ []) (
-        record (task 50 (On 1) state.New) {
-          version = 7;
-          template = record template { constraints = in_zone (codes "a") ∷ [] };
-          node = Some 1;
-          since = 1000;
-          created = 1000;
-          raise_at = 1000;
-        } ∷ [])) { next_id = 51 }
+    record (task 50 (On 1) state.New) {
+      version = 7;
+      template = record template { constraints = in_zone (codes "a") ∷ [] };
+      node = Some 1;
+      since = 1000;
+      created = 1000;
+      raise_at = 1000;
+    } ∷ [])) { next_id = 51 }
 came = refl
 
 -- Leaving comes first.

@@ -55,13 +55,13 @@ no_create_beyond_total = refl
 
 created : after_job_create 7 (with_job 1 []) 2 0
     ≡ record (with_job 1 (
-        record (task 50 (Slot 0) state.New) {
-          version = 7;
-          iteration = 1;
-          goal = desired.Complete;
-          since = 1000;
-          desired = desired.Complete;
-          created = 1000;
-          raise_at = 1000;
-        } ∷ [])) { next_id = 51 }
+    record (task 50 (Slot 0) state.New) {
+      version = 7;
+      iteration = 1;
+      goal = desired.Complete;
+      since = 1000;
+      desired = desired.Complete;
+      created = 1000;
+      raise_at = 1000;
+    } ∷ [])) { next_id = 51 }
 created = refl

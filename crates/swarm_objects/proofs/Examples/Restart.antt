@@ -154,9 +154,9 @@ raise_beside_astray = refl
 
 -- a job's task of an earlier iteration holds it up as well
 no_raise_beside_earlier : restart (tables (node 1 ∷ []) (record (job 1 1) { iteration = 1 } ∷ []) (
-  record (unwanted state.Running) { goal = desired.Complete }
-  ∷ record waiting { goal = desired.Complete; iteration = 1 }
-  ∷ [])) ≡ []
+    record (unwanted state.Running) { goal = desired.Complete }
+    ∷ record waiting { goal = desired.Complete; iteration = 1 }
+    ∷ [])) ≡ []
 no_raise_beside_earlier = refl
 
 raised_to_goal : after_raise 7 (with_tasks (waiting ∷ [])) 4 ≡ with_tasks (record waiting { version = 7; desired = desired.Running } ∷ [])

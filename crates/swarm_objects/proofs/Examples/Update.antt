@@ -115,13 +115,13 @@ rolling st = record (with_update (record update_config { action = action.Rollbac
 -- back to the previous specification, and no specification is left to go back to
 rolled_back_by_fail : (after_fail 7 (with_tasks (rolling status.Updating) (at_two 3 state.Running ∷ [])) 2).services
     ≡ record (replicas 1) {
-        version = 7;
-        spec = record (spec (mode.Replicated 1)) { template = old_template };
-        previous = None;
-        template_version = 7;
-        rolling_back = true;
-        run = Some (record { status = status.RollbackStarted; version = 7; total = 1; replaced = [] });
-      } ∷ []
+      version = 7;
+      spec = record (spec (mode.Replicated 1)) { template = old_template };
+      previous = None;
+      template_version = 7;
+      rolling_back = true;
+      run = Some (record { status = status.RollbackStarted; version = 7; total = 1; replaced = [] });
+    } ∷ []
 rolled_back_by_fail = refl
 
 paused_while_rolling_back : (after_fail 7 (with_tasks (rolling status.RollbackStarted) []) 2).services

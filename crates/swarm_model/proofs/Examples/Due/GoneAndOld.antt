@@ -31,14 +31,14 @@ due =
     ∷ (duty.Pull 1 ∷ duty.Register 2 ∷ [])
     ∷ (duty.Apply 1 ∷ duty.Register 2 ∷ [])
     ∷ (
-        duty.Exec 1 9
-        ∷ duty.Exec 1 10
-        ∷ duty.Exec 1 12
-        ∷ duty.Report 1 9
-        ∷ duty.Report 1 10
-        ∷ duty.Report 1 12
-        ∷ duty.Register 2
-        ∷ [])
+    duty.Exec 1 9
+    ∷ duty.Exec 1 10
+    ∷ duty.Exec 1 12
+    ∷ duty.Report 1 9
+    ∷ duty.Report 1 10
+    ∷ duty.Report 1 12
+    ∷ duty.Register 2
+    ∷ [])
     ∷ (duty.Exec 1 10 ∷ duty.Exec 1 12 ∷ duty.Report 1 9 ∷ duty.Report 1 10 ∷ duty.Report 1 12 ∷ duty.Register 2 ∷ [])
     ∷ (duty.Exec 1 12 ∷ duty.Report 1 9 ∷ duty.Report 1 10 ∷ duty.Report 1 12 ∷ duty.Register 2 ∷ [])
     ∷ (duty.Report 1 9 ∷ duty.Report 1 10 ∷ duty.Report 1 12 ∷ duty.Register 2 ∷ [])

@@ -14,40 +14,40 @@ due =
     ∷ (duty.Register 1 ∷ [])
     ∷ (duty.Register 1 ∷ [])
     ∷ (
-        duty.ReplicatedCreate 4 1
-        ∷ duty.Port 4 80 false
-        ∷ duty.Port 4 81 false
-        ∷ duty.Port 4 82 false
-        ∷ duty.Register 1
-        ∷ [])
+    duty.ReplicatedCreate 4 1
+    ∷ duty.Port 4 80 false
+    ∷ duty.Port 4 81 false
+    ∷ duty.Port 4 82 false
+    ∷ duty.Register 1
+    ∷ [])
     ∷ (
-        duty.ReplicatedCreate 4 1
-        ∷ duty.Port 4 80 false
-        ∷ duty.Port 4 81 false
-        ∷ duty.Port 4 82 false
-        ∷ duty.Pull 1
-        ∷ [])
+    duty.ReplicatedCreate 4 1
+    ∷ duty.Port 4 80 false
+    ∷ duty.Port 4 81 false
+    ∷ duty.Port 4 82 false
+    ∷ duty.Pull 1
+    ∷ [])
     ∷ (
-        duty.ReplicatedCreate 4 2
-        ∷ duty.Port 4 80 false
-        ∷ duty.Port 4 81 false
-        ∷ duty.Port 4 82 false
-        ∷ duty.Pull 1
-        ∷ [])
+    duty.ReplicatedCreate 4 2
+    ∷ duty.Port 4 80 false
+    ∷ duty.Port 4 81 false
+    ∷ duty.Port 4 82 false
+    ∷ duty.Pull 1
+    ∷ [])
     ∷ (
-        duty.ReplicatedCreate 4 3
-        ∷ duty.Port 4 80 false
-        ∷ duty.Port 4 81 false
-        ∷ duty.Port 4 82 false
-        ∷ duty.Pull 1
-        ∷ [])
+    duty.ReplicatedCreate 4 3
+    ∷ duty.Port 4 80 false
+    ∷ duty.Port 4 81 false
+    ∷ duty.Port 4 82 false
+    ∷ duty.Pull 1
+    ∷ [])
     ∷ (
-        duty.ReplicatedCreate 4 3
-        ∷ duty.Port 4 80 false
-        ∷ duty.Port 4 81 false
-        ∷ duty.Port 4 82 false
-        ∷ duty.Apply 1
-        ∷ [])
+    duty.ReplicatedCreate 4 3
+    ∷ duty.Port 4 80 false
+    ∷ duty.Port 4 81 false
+    ∷ duty.Port 4 82 false
+    ∷ duty.Apply 1
+    ∷ [])
     ∷ (duty.Port 4 80 false ∷ duty.Port 4 81 false ∷ duty.Port 4 82 false ∷ duty.Apply 1 ∷ [])
     ∷ (duty.Port 4 80 false ∷ duty.Port 4 81 false ∷ duty.Port 4 82 false ∷ [])
     ∷ (duty.Port 4 81 false ∷ duty.Port 4 82 false ∷ [])

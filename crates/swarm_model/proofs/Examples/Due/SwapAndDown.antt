@@ -39,94 +39,94 @@ due =
     ∷ []
     ∷ (duty.Start 6 ∷ duty.Down 6 1 ∷ duty.Port 6 80 false ∷ duty.Port 6 80 true ∷ duty.Port 6 81 false ∷ [])
     ∷ (
-        duty.Replace 6 1
-        ∷ duty.Replace 6 2
-        ∷ duty.Replace 6 3
-        ∷ duty.Replace 6 4
-        ∷ duty.Down 6 1
-        ∷ duty.Port 6 80 false
-        ∷ duty.Port 6 80 true
-        ∷ duty.Port 6 81 false
-        ∷ [])
+    duty.Replace 6 1
+    ∷ duty.Replace 6 2
+    ∷ duty.Replace 6 3
+    ∷ duty.Replace 6 4
+    ∷ duty.Down 6 1
+    ∷ duty.Port 6 80 false
+    ∷ duty.Port 6 80 true
+    ∷ duty.Port 6 81 false
+    ∷ [])
     ∷ (duty.Down 6 1 ∷ duty.Port 6 80 false ∷ duty.Port 6 80 true ∷ duty.Port 6 81 false ∷ [])
     ∷ (duty.Down 6 1 ∷ duty.Port 6 80 false ∷ duty.Port 6 80 true ∷ duty.Port 6 81 false ∷ [])
     ∷ (
-        duty.Replace 6 2
-        ∷ duty.Replace 6 3
-        ∷ duty.Replace 6 4
-        ∷ duty.Down 6 4
-        ∷ duty.Port 6 80 false
-        ∷ duty.Port 6 80 true
-        ∷ duty.Port 6 81 false
-        ∷ duty.Drop 12
-        ∷ duty.Delete 12
-        ∷ [])
+    duty.Replace 6 2
+    ∷ duty.Replace 6 3
+    ∷ duty.Replace 6 4
+    ∷ duty.Down 6 4
+    ∷ duty.Port 6 80 false
+    ∷ duty.Port 6 80 true
+    ∷ duty.Port 6 81 false
+    ∷ duty.Drop 12
+    ∷ duty.Delete 12
+    ∷ [])
     ∷ (
-        duty.Down 6 4
-        ∷ duty.Port 6 80 false
-        ∷ duty.Port 6 80 true
-        ∷ duty.Port 6 81 false
-        ∷ duty.Drop 12
-        ∷ duty.Delete 12
-        ∷ [])
+    duty.Down 6 4
+    ∷ duty.Port 6 80 false
+    ∷ duty.Port 6 80 true
+    ∷ duty.Port 6 81 false
+    ∷ duty.Drop 12
+    ∷ duty.Delete 12
+    ∷ [])
     ∷ (
-        duty.Down 6 3
-        ∷ duty.Port 6 80 false
-        ∷ duty.Port 6 80 true
-        ∷ duty.Port 6 81 false
-        ∷ duty.Drop 10
-        ∷ duty.Drop 12
-        ∷ duty.Delete 10
-        ∷ duty.Delete 12
-        ∷ [])
+    duty.Down 6 3
+    ∷ duty.Port 6 80 false
+    ∷ duty.Port 6 80 true
+    ∷ duty.Port 6 81 false
+    ∷ duty.Drop 10
+    ∷ duty.Drop 12
+    ∷ duty.Delete 10
+    ∷ duty.Delete 12
+    ∷ [])
     ∷ (
-        duty.Port 6 80 false
-        ∷ duty.Port 6 80 true
-        ∷ duty.Port 6 81 false
-        ∷ duty.Drop 9
-        ∷ duty.Drop 10
-        ∷ duty.Drop 12
-        ∷ duty.Delete 9
-        ∷ duty.Delete 10
-        ∷ duty.Delete 12
-        ∷ [])
+    duty.Port 6 80 false
+    ∷ duty.Port 6 80 true
+    ∷ duty.Port 6 81 false
+    ∷ duty.Drop 9
+    ∷ duty.Drop 10
+    ∷ duty.Drop 12
+    ∷ duty.Delete 9
+    ∷ duty.Delete 10
+    ∷ duty.Delete 12
+    ∷ [])
     ∷ (
-        duty.Port 6 80 true
-        ∷ duty.Port 6 81 false
-        ∷ duty.Drop 9
-        ∷ duty.Drop 10
-        ∷ duty.Drop 12
-        ∷ duty.Delete 9
-        ∷ duty.Delete 10
-        ∷ duty.Delete 12
-        ∷ [])
+    duty.Port 6 80 true
+    ∷ duty.Port 6 81 false
+    ∷ duty.Drop 9
+    ∷ duty.Drop 10
+    ∷ duty.Drop 12
+    ∷ duty.Delete 9
+    ∷ duty.Delete 10
+    ∷ duty.Delete 12
+    ∷ [])
     ∷ (
-        duty.Port 6 81 false
-        ∷ duty.Drop 9
-        ∷ duty.Drop 10
-        ∷ duty.Drop 12
-        ∷ duty.Delete 9
-        ∷ duty.Delete 10
-        ∷ duty.Delete 12
-        ∷ [])
+    duty.Port 6 81 false
+    ∷ duty.Drop 9
+    ∷ duty.Drop 10
+    ∷ duty.Drop 12
+    ∷ duty.Delete 9
+    ∷ duty.Delete 10
+    ∷ duty.Delete 12
+    ∷ [])
     ∷ (
-        duty.Address 13
-        ∷ duty.Drop 9
-        ∷ duty.Drop 10
-        ∷ duty.Drop 12
-        ∷ duty.Delete 9
-        ∷ duty.Delete 10
-        ∷ duty.Delete 12
-        ∷ [])
+    duty.Address 13
+    ∷ duty.Drop 9
+    ∷ duty.Drop 10
+    ∷ duty.Drop 12
+    ∷ duty.Delete 9
+    ∷ duty.Delete 10
+    ∷ duty.Delete 12
+    ∷ [])
     ∷ (
-        duty.Drop 9
-        ∷ duty.Drop 10
-        ∷ duty.Drop 12
-        ∷ duty.Place 13 2
-        ∷ duty.Delete 9
-        ∷ duty.Delete 10
-        ∷ duty.Delete 12
-        ∷ [])
+    duty.Drop 9
+    ∷ duty.Drop 10
+    ∷ duty.Drop 12
+    ∷ duty.Place 13 2
+    ∷ duty.Delete 9
+    ∷ duty.Delete 10
+    ∷ duty.Delete 12
+    ∷ [])
     ∷ (duty.Drop 10 ∷ duty.Drop 12 ∷ duty.Place 13 2 ∷ duty.Delete 9 ∷ duty.Delete 10 ∷ duty.Delete 12 ∷ [])
     ∷ (duty.Drop 12 ∷ duty.Place 13 2 ∷ duty.Delete 9 ∷ duty.Delete 10 ∷ duty.Delete 12 ∷ [])
     ∷ (duty.Place 13 2 ∷ duty.Delete 9 ∷ duty.Delete 10 ∷ duty.Delete 12 ∷ [])

@@ -39,8 +39,15 @@ use Rattle.swarm_objects.specs.declared.views.Shown.TheVariants as by
 
 abbrev draft_1 : NodeDraft
 draft_1 = record {
-  labels = []; role = node_role.Worker; availability = availability.Active; cpu = 4000; mem = 8589934592;
-  os = codes "linux"; arch = codes "amd64"; engine = []; remote = false;
+  labels = [];
+  role = node_role.Worker;
+  availability = availability.Active;
+  cpu = 4000;
+  mem = 8589934592;
+  os = codes "linux";
+  arch = codes "amd64";
+  engine = [];
+  remote = false;
 }
 
 abbrev workload_1 : Workload
@@ -48,31 +55,59 @@ workload_1 = record { prepare = 1; start = 1; stop = 1; end = end.Never }
 
 abbrev template_1 : Template
 template_1 = record {
-  workload = workload_1; cpu = 0; mem = 0; constraints = []; spread = []; platforms = []; max_replicas = 0;
-  networks = []; host_ports = [];
+  workload = workload_1;
+  cpu = 0;
+  mem = 0;
+  constraints = [];
+  spread = [];
+  platforms = [];
+  max_replicas = 0;
+  networks = [];
+  host_ports = [];
   restart = record { condition = condition.Any; delay = 5000; max_attempts = 0; window = 0 };
 }
 
 abbrev spec_1 : ServiceSpec
 spec_1 = record {
-  mode = mode.Replicated 6; template = template_1; ports = [];
+  mode = mode.Replicated 6;
+  template = template_1;
+  ports = [];
   update = record {
-    parallelism = 1; delay = 0; monitor = 5000; action = action.Pause; ratio = 0; order = order.StopFirst;
+    parallelism = 1;
+    delay = 0;
+    monitor = 5000;
+    action = action.Pause;
+    ratio = 0;
+    order = order.StopFirst;
   };
 }
 
 abbrev template_2 : Template
 template_2 = record {
-  workload = workload_1; cpu = 0; mem = 0; constraints = []; spread = []; platforms = []; max_replicas = 0;
-  networks = 2 ∷ []; host_ports = [];
+  workload = workload_1;
+  cpu = 0;
+  mem = 0;
+  constraints = [];
+  spread = [];
+  platforms = [];
+  max_replicas = 0;
+  networks = 2 ∷ [];
+  host_ports = [];
   restart = record { condition = condition.Any; delay = 5000; max_attempts = 0; window = 0 };
 }
 
 abbrev spec_2 : ServiceSpec
 spec_2 = record {
-  mode = mode.Replicated 6; template = template_2; ports = [];
+  mode = mode.Replicated 6;
+  template = template_2;
+  ports = [];
   update = record {
-    parallelism = 1; delay = 0; monitor = 5000; action = action.Pause; ratio = 0; order = order.StopFirst;
+    parallelism = 1;
+    delay = 0;
+    monitor = 5000;
+    action = action.Pause;
+    ratio = 0;
+    order = order.StopFirst;
   };
 }
 
@@ -93,7 +128,7 @@ journal =
     asked 0 (call.Txn (op.CreateNode (codes "n1") draft_1 ∷ [])) (reply.Txn (1 ∷ []))
     ∷ asked 0 (call.Txn (op.CreateNetwork (codes "lan") 167772416 29 ∷ [])) (reply.Txn (2 ∷ []))
     ∷ asked 0 (call.Txn (op.CreateService (codes "web") (record { spec = spec_1; networks = codes "lan" ∷ [] }) ∷ []))
-          (reply.Txn (3 ∷ []))
+    (reply.Txn (3 ∷ []))
     ∷ did 0 (duty.ReplicatedCreate 3 1)
     ∷ did 0 (duty.ReplicatedCreate 3 2)
     ∷ did 0 (duty.ReplicatedCreate 3 3)
@@ -160,31 +195,61 @@ journal =
     ∷ asked 0 (call.Settle 100000) (reply.Settle 100000 settle.Settled)
     ∷ asked 0 (call.Txn (op.RemoveNetwork (codes "lan") ∷ [])) (reply.Refused (refusal.InUse 3))
     ∷ asked 0 (call.View (query.ListTasks None)) (reply.View (view.Tasks (
-        record {
-          id = 4; service = by.Name (codes "web"); place = place_shown.Slot 1; node = Some (by.Name (codes "n1"));
-          state = state.Running; desired = desired.Running; note = note_shown.Empty;
-        }
-        ∷ record {
-            id = 5; service = by.Name (codes "web"); place = place_shown.Slot 2; node = Some (by.Name (codes "n1"));
-            state = state.Running; desired = desired.Running; note = note_shown.Empty;
-          }
-        ∷ record {
-            id = 6; service = by.Name (codes "web"); place = place_shown.Slot 3; node = Some (by.Name (codes "n1"));
-            state = state.Running; desired = desired.Running; note = note_shown.Empty;
-          }
-        ∷ record {
-            id = 7; service = by.Name (codes "web"); place = place_shown.Slot 4; node = Some (by.Name (codes "n1"));
-            state = state.Running; desired = desired.Running; note = note_shown.Empty;
-          }
-        ∷ record {
-            id = 8; service = by.Name (codes "web"); place = place_shown.Slot 5; node = Some (by.Name (codes "n1"));
-            state = state.Running; desired = desired.Running; note = note_shown.Empty;
-          }
-        ∷ record {
-            id = 9; service = by.Name (codes "web"); place = place_shown.Slot 6; node = None; state = state.New;
-            desired = desired.Running; note = note_shown.NoAddress (by.Name (codes "lan"));
-          }
-        ∷ [])))
+    record {
+      id = 4;
+      service = by.Name (codes "web");
+      place = place_shown.Slot 1;
+      node = Some (by.Name (codes "n1"));
+      state = state.Running;
+      desired = desired.Running;
+      note = note_shown.Empty;
+    }
+    ∷ record {
+      id = 5;
+      service = by.Name (codes "web");
+      place = place_shown.Slot 2;
+      node = Some (by.Name (codes "n1"));
+      state = state.Running;
+      desired = desired.Running;
+      note = note_shown.Empty;
+    }
+    ∷ record {
+      id = 6;
+      service = by.Name (codes "web");
+      place = place_shown.Slot 3;
+      node = Some (by.Name (codes "n1"));
+      state = state.Running;
+      desired = desired.Running;
+      note = note_shown.Empty;
+    }
+    ∷ record {
+      id = 7;
+      service = by.Name (codes "web");
+      place = place_shown.Slot 4;
+      node = Some (by.Name (codes "n1"));
+      state = state.Running;
+      desired = desired.Running;
+      note = note_shown.Empty;
+    }
+    ∷ record {
+      id = 8;
+      service = by.Name (codes "web");
+      place = place_shown.Slot 5;
+      node = Some (by.Name (codes "n1"));
+      state = state.Running;
+      desired = desired.Running;
+      note = note_shown.Empty;
+    }
+    ∷ record {
+      id = 9;
+      service = by.Name (codes "web");
+      place = place_shown.Slot 6;
+      node = None;
+      state = state.New;
+      desired = desired.Running;
+      note = note_shown.NoAddress (by.Name (codes "lan"));
+    }
+    ∷ [])))
     ∷ asked 0 call.Halt reply.HaltDone
     ∷ []
 
@@ -192,100 +257,237 @@ abbrev pub world : World
 world = record {
   entries = 70;
   tables = record {
-    clock = 10; next_id = 11;
+    clock = 10;
+    next_id = 11;
     nodes =
-      record {
-        id = 1; version = 21; name = codes "n1"; labels = []; role = node_role.Worker;
-        availability = availability.Active; state = node_state.Ready; down_since = 0; cpu = 4000; mem = 8589934592;
-        os = codes "linux"; arch = codes "amd64"; engine = []; remote = false;
-      }
-      ∷ [];
+        record {
+          id = 1;
+          version = 21;
+          name = codes "n1";
+          labels = [];
+          role = node_role.Worker;
+          availability = availability.Active;
+          state = node_state.Ready;
+          down_since = 0;
+          cpu = 4000;
+          mem = 8589934592;
+          os = codes "linux";
+          arch = codes "amd64";
+          engine = [];
+          remote = false;
+        }
+        ∷ [];
     services =
-      record {
-        id = 3; version = 3; name = codes "web"; spec = spec_2; previous = None; template_version = 3;
-        rolling_back = false; iteration = 0; numbers = []; run = None;
-      }
-      ∷ [];
+        record {
+          id = 3;
+          version = 3;
+          name = codes "web";
+          spec = spec_2;
+          previous = None;
+          template_version = 3;
+          rolling_back = false;
+          iteration = 0;
+          numbers = [];
+          run = None;
+        }
+        ∷ [];
     tasks =
-      record {
-        id = 4; version = 61; service = 3; place = Slot 1; iteration = 0; template = template_2; born = 3;
-        goal = desired.Running; node = Some 1; state = state.Running; since = 2; desired = desired.Running; created = 0;
-        raise_at = 0; addresses = record { network = 2; number = 167772418 } ∷ []; note = note.Empty; closed = None;
-      }
-      ∷ record {
-          id = 5; version = 62; service = 3; place = Slot 2; iteration = 0; template = template_2; born = 3;
-          goal = desired.Running; node = Some 1; state = state.Running; since = 2; desired = desired.Running;
-          created = 0; raise_at = 0; addresses = record { network = 2; number = 167772419 } ∷ []; note = note.Empty;
+        record {
+          id = 4;
+          version = 61;
+          service = 3;
+          place = Slot 1;
+          iteration = 0;
+          template = template_2;
+          born = 3;
+          goal = desired.Running;
+          node = Some 1;
+          state = state.Running;
+          since = 2;
+          desired = desired.Running;
+          created = 0;
+          raise_at = 0;
+          addresses = record { network = 2; number = 167772418 } ∷ [];
+          note = note.Empty;
           closed = None;
         }
-      ∷ record {
-          id = 6; version = 63; service = 3; place = Slot 3; iteration = 0; template = template_2; born = 3;
-          goal = desired.Running; node = Some 1; state = state.Running; since = 2; desired = desired.Running;
-          created = 0; raise_at = 0; addresses = record { network = 2; number = 167772420 } ∷ []; note = note.Empty;
+        ∷ record {
+          id = 5;
+          version = 62;
+          service = 3;
+          place = Slot 2;
+          iteration = 0;
+          template = template_2;
+          born = 3;
+          goal = desired.Running;
+          node = Some 1;
+          state = state.Running;
+          since = 2;
+          desired = desired.Running;
+          created = 0;
+          raise_at = 0;
+          addresses = record { network = 2; number = 167772419 } ∷ [];
+          note = note.Empty;
           closed = None;
         }
-      ∷ record {
-          id = 7; version = 64; service = 3; place = Slot 4; iteration = 0; template = template_2; born = 3;
-          goal = desired.Running; node = Some 1; state = state.Running; since = 2; desired = desired.Running;
-          created = 0; raise_at = 0; addresses = record { network = 2; number = 167772421 } ∷ []; note = note.Empty;
+        ∷ record {
+          id = 6;
+          version = 63;
+          service = 3;
+          place = Slot 3;
+          iteration = 0;
+          template = template_2;
+          born = 3;
+          goal = desired.Running;
+          node = Some 1;
+          state = state.Running;
+          since = 2;
+          desired = desired.Running;
+          created = 0;
+          raise_at = 0;
+          addresses = record { network = 2; number = 167772420 } ∷ [];
+          note = note.Empty;
           closed = None;
         }
-      ∷ record {
-          id = 8; version = 65; service = 3; place = Slot 5; iteration = 0; template = template_2; born = 3;
-          goal = desired.Running; node = Some 1; state = state.Running; since = 2; desired = desired.Running;
-          created = 0; raise_at = 0; addresses = record { network = 2; number = 167772422 } ∷ []; note = note.Empty;
+        ∷ record {
+          id = 7;
+          version = 64;
+          service = 3;
+          place = Slot 4;
+          iteration = 0;
+          template = template_2;
+          born = 3;
+          goal = desired.Running;
+          node = Some 1;
+          state = state.Running;
+          since = 2;
+          desired = desired.Running;
+          created = 0;
+          raise_at = 0;
+          addresses = record { network = 2; number = 167772421 } ∷ [];
+          note = note.Empty;
           closed = None;
         }
-      ∷ record {
-          id = 9; version = 15; service = 3; place = Slot 6; iteration = 0; template = template_2; born = 3;
-          goal = desired.Running; node = None; state = state.New; since = 0; desired = desired.Running; created = 0;
-          raise_at = 0; addresses = []; note = note.NoAddress 2; closed = None;
+        ∷ record {
+          id = 8;
+          version = 65;
+          service = 3;
+          place = Slot 5;
+          iteration = 0;
+          template = template_2;
+          born = 3;
+          goal = desired.Running;
+          node = Some 1;
+          state = state.Running;
+          since = 2;
+          desired = desired.Running;
+          created = 0;
+          raise_at = 0;
+          addresses = record { network = 2; number = 167772422 } ∷ [];
+          note = note.Empty;
+          closed = None;
         }
-      ∷ [];
-    networks = record { id = 2; version = 2; name = codes "lan"; base = 167772416; length = 29 } ∷ []; attempts = [];
+        ∷ record {
+          id = 9;
+          version = 15;
+          service = 3;
+          place = Slot 6;
+          iteration = 0;
+          template = template_2;
+          born = 3;
+          goal = desired.Running;
+          node = None;
+          state = state.New;
+          since = 0;
+          desired = desired.Running;
+          created = 0;
+          raise_at = 0;
+          addresses = [];
+          note = note.NoAddress 2;
+          closed = None;
+        }
+        ∷ [];
+    networks = record { id = 2; version = 2; name = codes "lan"; base = 167772416; length = 29 } ∷ [];
+    attempts = [];
     sessions = record { node = 1; session = record { id = 10; deadline = 15000; beat = 0 } } ∷ [];
     settings = record { heartbeat = 5000; orphan = 86400000; history = 5 };
   };
   sent =
-    record {
-      node = 1; count = 1;
-      tasks =
-        record { task = 4; desired = desired.Running; workload = workload_1 }
-        ∷ record { task = 5; desired = desired.Running; workload = workload_1 }
-        ∷ record { task = 6; desired = desired.Running; workload = workload_1 }
-        ∷ record { task = 7; desired = desired.Running; workload = workload_1 }
-        ∷ record { task = 8; desired = desired.Running; workload = workload_1 }
-        ∷ [];
-    }
-    ∷ [];
+      record {
+        node = 1;
+        count = 1;
+        tasks =
+            record { task = 4; desired = desired.Running; workload = workload_1 }
+            ∷ record { task = 5; desired = desired.Running; workload = workload_1 }
+            ∷ record { task = 6; desired = desired.Running; workload = workload_1 }
+            ∷ record { task = 7; desired = desired.Running; workload = workload_1 }
+            ∷ record { task = 8; desired = desired.Running; workload = workload_1 }
+            ∷ [];
+      }
+      ∷ [];
   agents =
-    record {
-      node = 1; mode = agent_mode.On; inbox = None; applied = 1;
-      executors =
-        record {
-          task = 4; desired = desired.Running; workload = workload_1; state = state.Running; since = 2; stopping = None;
-          reported = Some state.Running; gone = false;
-        }
-        ∷ record {
-            task = 5; desired = desired.Running; workload = workload_1; state = state.Running; since = 2;
-            stopping = None; reported = Some state.Running; gone = false;
-          }
-        ∷ record {
-            task = 6; desired = desired.Running; workload = workload_1; state = state.Running; since = 2;
-            stopping = None; reported = Some state.Running; gone = false;
-          }
-        ∷ record {
-            task = 7; desired = desired.Running; workload = workload_1; state = state.Running; since = 2;
-            stopping = None; reported = Some state.Running; gone = false;
-          }
-        ∷ record {
-            task = 8; desired = desired.Running; workload = workload_1; state = state.Running; since = 2;
-            stopping = None; reported = Some state.Running; gone = false;
-          }
-        ∷ [];
-    }
-    ∷ [];
-  watchers = []; events = []; halted = true;
+      record {
+        node = 1;
+        mode = agent_mode.On;
+        inbox = None;
+        applied = 1;
+        executors =
+            record {
+              task = 4;
+              desired = desired.Running;
+              workload = workload_1;
+              state = state.Running;
+              since = 2;
+              stopping = None;
+              reported = Some state.Running;
+              gone = false;
+            }
+            ∷ record {
+              task = 5;
+              desired = desired.Running;
+              workload = workload_1;
+              state = state.Running;
+              since = 2;
+              stopping = None;
+              reported = Some state.Running;
+              gone = false;
+            }
+            ∷ record {
+              task = 6;
+              desired = desired.Running;
+              workload = workload_1;
+              state = state.Running;
+              since = 2;
+              stopping = None;
+              reported = Some state.Running;
+              gone = false;
+            }
+            ∷ record {
+              task = 7;
+              desired = desired.Running;
+              workload = workload_1;
+              state = state.Running;
+              since = 2;
+              stopping = None;
+              reported = Some state.Running;
+              gone = false;
+            }
+            ∷ record {
+              task = 8;
+              desired = desired.Running;
+              workload = workload_1;
+              state = state.Running;
+              since = 2;
+              stopping = None;
+              reported = Some state.Running;
+              gone = false;
+            }
+            ∷ [];
+      }
+      ∷ [];
+  watchers = [];
+  events = [];
+  halted = true;
 }
 
 abbrev pub history : List Entry

@@ -38,8 +38,15 @@ use Rattle.swarm_objects.specs.declared.views.Shown.TheVariants as by
 
 abbrev draft_1 : NodeDraft
 draft_1 = record {
-  labels = []; role = node_role.Worker; availability = availability.Active; cpu = 2000; mem = 8589934592;
-  os = codes "linux"; arch = codes "amd64"; engine = []; remote = false;
+  labels = [];
+  role = node_role.Worker;
+  availability = availability.Active;
+  cpu = 2000;
+  mem = 8589934592;
+  os = codes "linux";
+  arch = codes "amd64";
+  engine = [];
+  remote = false;
 }
 
 abbrev workload_1 : Workload
@@ -47,16 +54,30 @@ workload_1 = record { prepare = 1; start = 1; stop = 1; end = end.Never }
 
 abbrev template_1 : Template
 template_1 = record {
-  workload = workload_1; cpu = 1000; mem = 0; constraints = []; spread = []; platforms = []; max_replicas = 0;
-  networks = []; host_ports = [];
+  workload = workload_1;
+  cpu = 1000;
+  mem = 0;
+  constraints = [];
+  spread = [];
+  platforms = [];
+  max_replicas = 0;
+  networks = [];
+  host_ports = [];
   restart = record { condition = condition.Any; delay = 5000; max_attempts = 0; window = 0 };
 }
 
 abbrev spec_1 : ServiceSpec
 spec_1 = record {
-  mode = mode.Replicated 5; template = template_1; ports = [];
+  mode = mode.Replicated 5;
+  template = template_1;
+  ports = [];
   update = record {
-    parallelism = 1; delay = 0; monitor = 5000; action = action.Pause; ratio = 0; order = order.StopFirst;
+    parallelism = 1;
+    delay = 0;
+    monitor = 5000;
+    action = action.Pause;
+    ratio = 0;
+    order = order.StopFirst;
   };
 }
 
@@ -76,7 +97,7 @@ journal =
     asked 0 (call.Txn (op.CreateNode (codes "n1") draft_1 ∷ [])) (reply.Txn (1 ∷ []))
     ∷ asked 0 (call.Txn (op.CreateNode (codes "n2") draft_1 ∷ [])) (reply.Txn (2 ∷ []))
     ∷ asked 0 (call.Txn (op.CreateService (codes "web") (record { spec = spec_1; networks = [] }) ∷ []))
-          (reply.Txn (3 ∷ []))
+    (reply.Txn (3 ∷ []))
     ∷ did 0 (duty.ReplicatedCreate 3 1)
     ∷ did 0 (duty.ReplicatedCreate 3 2)
     ∷ did 0 (duty.ReplicatedCreate 3 3)
@@ -139,27 +160,52 @@ journal =
     ∷ asked 0 (call.Tick 8) reply.Ticked
     ∷ asked 0 (call.Settle 100000) (reply.Settle 100000 settle.Settled)
     ∷ asked 0 (call.View (query.ListTasks None)) (reply.View (view.Tasks (
-        record {
-          id = 4; service = by.Name (codes "web"); place = place_shown.Slot 1; node = Some (by.Name (codes "n1"));
-          state = state.Running; desired = desired.Running; note = note_shown.Empty;
-        }
-        ∷ record {
-            id = 5; service = by.Name (codes "web"); place = place_shown.Slot 2; node = Some (by.Name (codes "n1"));
-            state = state.Running; desired = desired.Running; note = note_shown.Empty;
-          }
-        ∷ record {
-            id = 6; service = by.Name (codes "web"); place = place_shown.Slot 3; node = Some (by.Name (codes "n2"));
-            state = state.Running; desired = desired.Running; note = note_shown.Empty;
-          }
-        ∷ record {
-            id = 7; service = by.Name (codes "web"); place = place_shown.Slot 4; node = Some (by.Name (codes "n2"));
-            state = state.Running; desired = desired.Running; note = note_shown.Empty;
-          }
-        ∷ record {
-            id = 8; service = by.Name (codes "web"); place = place_shown.Slot 5; node = None; state = state.Pending;
-            desired = desired.Running; note = note_shown.Filters (0 ∷ 2 ∷ 0 ∷ 0 ∷ 0 ∷ 0 ∷ []);
-          }
-        ∷ [])))
+    record {
+      id = 4;
+      service = by.Name (codes "web");
+      place = place_shown.Slot 1;
+      node = Some (by.Name (codes "n1"));
+      state = state.Running;
+      desired = desired.Running;
+      note = note_shown.Empty;
+    }
+    ∷ record {
+      id = 5;
+      service = by.Name (codes "web");
+      place = place_shown.Slot 2;
+      node = Some (by.Name (codes "n1"));
+      state = state.Running;
+      desired = desired.Running;
+      note = note_shown.Empty;
+    }
+    ∷ record {
+      id = 6;
+      service = by.Name (codes "web");
+      place = place_shown.Slot 3;
+      node = Some (by.Name (codes "n2"));
+      state = state.Running;
+      desired = desired.Running;
+      note = note_shown.Empty;
+    }
+    ∷ record {
+      id = 7;
+      service = by.Name (codes "web");
+      place = place_shown.Slot 4;
+      node = Some (by.Name (codes "n2"));
+      state = state.Running;
+      desired = desired.Running;
+      note = note_shown.Empty;
+    }
+    ∷ record {
+      id = 8;
+      service = by.Name (codes "web");
+      place = place_shown.Slot 5;
+      node = None;
+      state = state.Pending;
+      desired = desired.Running;
+      note = note_shown.Filters (0 ∷ 2 ∷ 0 ∷ 0 ∷ 0 ∷ 0 ∷ []);
+    }
+    ∷ [])))
     ∷ asked 0 call.Halt reply.HaltDone
     ∷ []
 
@@ -167,104 +213,240 @@ abbrev pub world : World
 world = record {
   entries = 66;
   tables = record {
-    clock = 10; next_id = 11;
+    clock = 10;
+    next_id = 11;
     nodes =
-      record {
-        id = 1; version = 19; name = codes "n1"; labels = []; role = node_role.Worker;
-        availability = availability.Active; state = node_state.Ready; down_since = 0; cpu = 2000; mem = 8589934592;
-        os = codes "linux"; arch = codes "amd64"; engine = []; remote = false;
-      }
-      ∷ record {
-          id = 2; version = 31; name = codes "n2"; labels = []; role = node_role.Worker;
-          availability = availability.Active; state = node_state.Ready; down_since = 0; cpu = 2000; mem = 8589934592;
-          os = codes "linux"; arch = codes "amd64"; engine = []; remote = false;
+        record {
+          id = 1;
+          version = 19;
+          name = codes "n1";
+          labels = [];
+          role = node_role.Worker;
+          availability = availability.Active;
+          state = node_state.Ready;
+          down_since = 0;
+          cpu = 2000;
+          mem = 8589934592;
+          os = codes "linux";
+          arch = codes "amd64";
+          engine = [];
+          remote = false;
         }
-      ∷ [];
+        ∷ record {
+          id = 2;
+          version = 31;
+          name = codes "n2";
+          labels = [];
+          role = node_role.Worker;
+          availability = availability.Active;
+          state = node_state.Ready;
+          down_since = 0;
+          cpu = 2000;
+          mem = 8589934592;
+          os = codes "linux";
+          arch = codes "amd64";
+          engine = [];
+          remote = false;
+        }
+        ∷ [];
     services =
-      record {
-        id = 3; version = 3; name = codes "web"; spec = spec_1; previous = None; template_version = 3;
-        rolling_back = false; iteration = 0; numbers = []; run = None;
-      }
-      ∷ [];
+        record {
+          id = 3;
+          version = 3;
+          name = codes "web";
+          spec = spec_1;
+          previous = None;
+          template_version = 3;
+          rolling_back = false;
+          iteration = 0;
+          numbers = [];
+          run = None;
+        }
+        ∷ [];
     tasks =
-      record {
-        id = 4; version = 57; service = 3; place = Slot 1; iteration = 0; template = template_1; born = 3;
-        goal = desired.Running; node = Some 1; state = state.Running; since = 2; desired = desired.Running; created = 0;
-        raise_at = 0; addresses = []; note = note.Empty; closed = None;
-      }
-      ∷ record {
-          id = 5; version = 58; service = 3; place = Slot 2; iteration = 0; template = template_1; born = 3;
-          goal = desired.Running; node = Some 1; state = state.Running; since = 2; desired = desired.Running;
-          created = 0; raise_at = 0; addresses = []; note = note.Empty; closed = None;
+        record {
+          id = 4;
+          version = 57;
+          service = 3;
+          place = Slot 1;
+          iteration = 0;
+          template = template_1;
+          born = 3;
+          goal = desired.Running;
+          node = Some 1;
+          state = state.Running;
+          since = 2;
+          desired = desired.Running;
+          created = 0;
+          raise_at = 0;
+          addresses = [];
+          note = note.Empty;
+          closed = None;
         }
-      ∷ record {
-          id = 6; version = 61; service = 3; place = Slot 3; iteration = 0; template = template_1; born = 3;
-          goal = desired.Running; node = Some 2; state = state.Running; since = 2; desired = desired.Running;
-          created = 0; raise_at = 0; addresses = []; note = note.Empty; closed = None;
+        ∷ record {
+          id = 5;
+          version = 58;
+          service = 3;
+          place = Slot 2;
+          iteration = 0;
+          template = template_1;
+          born = 3;
+          goal = desired.Running;
+          node = Some 1;
+          state = state.Running;
+          since = 2;
+          desired = desired.Running;
+          created = 0;
+          raise_at = 0;
+          addresses = [];
+          note = note.Empty;
+          closed = None;
         }
-      ∷ record {
-          id = 7; version = 62; service = 3; place = Slot 4; iteration = 0; template = template_1; born = 3;
-          goal = desired.Running; node = Some 2; state = state.Running; since = 2; desired = desired.Running;
-          created = 0; raise_at = 0; addresses = []; note = note.Empty; closed = None;
+        ∷ record {
+          id = 6;
+          version = 61;
+          service = 3;
+          place = Slot 3;
+          iteration = 0;
+          template = template_1;
+          born = 3;
+          goal = desired.Running;
+          node = Some 2;
+          state = state.Running;
+          since = 2;
+          desired = desired.Running;
+          created = 0;
+          raise_at = 0;
+          addresses = [];
+          note = note.Empty;
+          closed = None;
         }
-      ∷ record {
-          id = 8; version = 34; service = 3; place = Slot 5; iteration = 0; template = template_1; born = 3;
-          goal = desired.Running; node = None; state = state.Pending; since = 0; desired = desired.Running; created = 0;
-          raise_at = 0; addresses = []; note = note.Filters (0 ∷ 2 ∷ 0 ∷ 0 ∷ 0 ∷ 0 ∷ []); closed = None;
+        ∷ record {
+          id = 7;
+          version = 62;
+          service = 3;
+          place = Slot 4;
+          iteration = 0;
+          template = template_1;
+          born = 3;
+          goal = desired.Running;
+          node = Some 2;
+          state = state.Running;
+          since = 2;
+          desired = desired.Running;
+          created = 0;
+          raise_at = 0;
+          addresses = [];
+          note = note.Empty;
+          closed = None;
         }
-      ∷ [];
-    networks = []; attempts = [];
+        ∷ record {
+          id = 8;
+          version = 34;
+          service = 3;
+          place = Slot 5;
+          iteration = 0;
+          template = template_1;
+          born = 3;
+          goal = desired.Running;
+          node = None;
+          state = state.Pending;
+          since = 0;
+          desired = desired.Running;
+          created = 0;
+          raise_at = 0;
+          addresses = [];
+          note = note.Filters (0 ∷ 2 ∷ 0 ∷ 0 ∷ 0 ∷ 0 ∷ []);
+          closed = None;
+        }
+        ∷ [];
+    networks = [];
+    attempts = [];
     sessions =
-      record { node = 1; session = record { id = 9; deadline = 15000; beat = 0 } }
-      ∷ record { node = 2; session = record { id = 10; deadline = 15000; beat = 0 } }
-      ∷ [];
+        record { node = 1; session = record { id = 9; deadline = 15000; beat = 0 } }
+        ∷ record { node = 2; session = record { id = 10; deadline = 15000; beat = 0 } }
+        ∷ [];
     settings = record { heartbeat = 5000; orphan = 86400000; history = 5 };
   };
   sent =
-    record {
-      node = 1; count = 1;
-      tasks =
-        record { task = 4; desired = desired.Running; workload = workload_1 }
-        ∷ record { task = 5; desired = desired.Running; workload = workload_1 }
-        ∷ [];
-    }
-    ∷ record {
-        node = 2; count = 1;
+      record {
+        node = 1;
+        count = 1;
         tasks =
-          record { task = 6; desired = desired.Running; workload = workload_1 }
-          ∷ record { task = 7; desired = desired.Running; workload = workload_1 }
-          ∷ [];
+            record { task = 4; desired = desired.Running; workload = workload_1 }
+            ∷ record { task = 5; desired = desired.Running; workload = workload_1 }
+            ∷ [];
       }
-    ∷ [];
+      ∷ record {
+        node = 2;
+        count = 1;
+        tasks =
+            record { task = 6; desired = desired.Running; workload = workload_1 }
+            ∷ record { task = 7; desired = desired.Running; workload = workload_1 }
+            ∷ [];
+      }
+      ∷ [];
   agents =
-    record {
-      node = 1; mode = agent_mode.On; inbox = None; applied = 1;
-      executors =
-        record {
-          task = 4; desired = desired.Running; workload = workload_1; state = state.Running; since = 2; stopping = None;
-          reported = Some state.Running; gone = false;
-        }
-        ∷ record {
-            task = 5; desired = desired.Running; workload = workload_1; state = state.Running; since = 2;
-            stopping = None; reported = Some state.Running; gone = false;
-          }
-        ∷ [];
-    }
-    ∷ record {
-        node = 2; mode = agent_mode.On; inbox = None; applied = 1;
+      record {
+        node = 1;
+        mode = agent_mode.On;
+        inbox = None;
+        applied = 1;
         executors =
-          record {
-            task = 6; desired = desired.Running; workload = workload_1; state = state.Running; since = 2;
-            stopping = None; reported = Some state.Running; gone = false;
-          }
-          ∷ record {
-              task = 7; desired = desired.Running; workload = workload_1; state = state.Running; since = 2;
-              stopping = None; reported = Some state.Running; gone = false;
+            record {
+              task = 4;
+              desired = desired.Running;
+              workload = workload_1;
+              state = state.Running;
+              since = 2;
+              stopping = None;
+              reported = Some state.Running;
+              gone = false;
             }
-          ∷ [];
+            ∷ record {
+              task = 5;
+              desired = desired.Running;
+              workload = workload_1;
+              state = state.Running;
+              since = 2;
+              stopping = None;
+              reported = Some state.Running;
+              gone = false;
+            }
+            ∷ [];
       }
-    ∷ [];
-  watchers = []; events = []; halted = true;
+      ∷ record {
+        node = 2;
+        mode = agent_mode.On;
+        inbox = None;
+        applied = 1;
+        executors =
+            record {
+              task = 6;
+              desired = desired.Running;
+              workload = workload_1;
+              state = state.Running;
+              since = 2;
+              stopping = None;
+              reported = Some state.Running;
+              gone = false;
+            }
+            ∷ record {
+              task = 7;
+              desired = desired.Running;
+              workload = workload_1;
+              state = state.Running;
+              since = 2;
+              stopping = None;
+              reported = Some state.Running;
+              gone = false;
+            }
+            ∷ [];
+      }
+      ∷ [];
+  watchers = [];
+  events = [];
+  halted = true;
 }
 
 abbrev pub history : List Entry

@@ -29,25 +29,45 @@ workload_1 = record { prepare = 1; start = 1; stop = 1; end = end.Never }
 
 abbrev template_1 : Template
 template_1 = record {
-  workload = workload_1; cpu = 0; mem = 0; constraints = []; spread = []; platforms = []; max_replicas = 0;
-  networks = []; host_ports = [];
+  workload = workload_1;
+  cpu = 0;
+  mem = 0;
+  constraints = [];
+  spread = [];
+  platforms = [];
+  max_replicas = 0;
+  networks = [];
+  host_ports = [];
   restart = record { condition = condition.Any; delay = 5000; max_attempts = 0; window = 0 };
 }
 
 abbrev spec_1 : ServiceSpec
 spec_1 = record {
-  mode = mode.Replicated 0; template = template_1; ports = record { target = 80; number = None; udp = false } ∷ [];
+  mode = mode.Replicated 0;
+  template = template_1;
+  ports = record { target = 80; number = None; udp = false } ∷ [];
   update = record {
-    parallelism = 1; delay = 0; monitor = 5000; action = action.Pause; ratio = 0; order = order.StopFirst;
+    parallelism = 1;
+    delay = 0;
+    monitor = 5000;
+    action = action.Pause;
+    ratio = 0;
+    order = order.StopFirst;
   };
 }
 
 abbrev spec_2 : ServiceSpec
 spec_2 = record {
-  mode = mode.Replicated 0; template = template_1;
+  mode = mode.Replicated 0;
+  template = template_1;
   ports = record { target = 81; number = Some 30000; udp = false } ∷ [];
   update = record {
-    parallelism = 1; delay = 0; monitor = 5000; action = action.Pause; ratio = 0; order = order.StopFirst;
+    parallelism = 1;
+    delay = 0;
+    monitor = 5000;
+    action = action.Pause;
+    ratio = 0;
+    order = order.StopFirst;
   };
 }
 
@@ -63,15 +83,21 @@ lines =
 abbrev pub journal : List Told
 journal =
     asked 0 (call.Txn (op.CreateService (codes "a") (record { spec = spec_1; networks = [] }) ∷ []))
-        (reply.Txn (1 ∷ []))
+    (reply.Txn (1 ∷ []))
     ∷ did 0 (duty.Port 1 80 false)
     ∷ asked 0 (call.Settle 100000) (reply.Settle 100000 settle.Settled)
     ∷ asked 0 (call.Txn (op.CreateService (codes "b") (record { spec = spec_2; networks = [] }) ∷ []))
-          (reply.Refused (refusal.PortTaken 1))
+    (reply.Refused (refusal.PortTaken 1))
     ∷ asked 0 (call.View (query.InspectService (codes "a"))) (reply.View (view.Service (record {
-        id = 1; version = 2; name = codes "a"; mode = mode.Replicated 0; running = 0; wanted = 0; update = None;
-        ports = record { target = 80; number = Some 30000; udp = false } ∷ [];
-      })))
+      id = 1;
+      version = 2;
+      name = codes "a";
+      mode = mode.Replicated 0;
+      running = 0;
+      wanted = 0;
+      update = None;
+      ports = record { target = 80; number = Some 30000; udp = false } ∷ [];
+    })))
     ∷ asked 0 call.Halt reply.HaltDone
     ∷ []
 
@@ -79,18 +105,34 @@ abbrev pub world : World
 world = record {
   entries = 6;
   tables = record {
-    clock = 0; next_id = 2; nodes = [];
+    clock = 0;
+    next_id = 2;
+    nodes = [];
     services =
-      record {
-        id = 1; version = 2; name = codes "a"; spec = spec_1; previous = None; template_version = 1;
-        rolling_back = false; iteration = 0; numbers = record { target = 80; udp = false; number = 30000 } ∷ [];
-        run = None;
-      }
-      ∷ [];
-    tasks = []; networks = []; attempts = []; sessions = [];
+        record {
+          id = 1;
+          version = 2;
+          name = codes "a";
+          spec = spec_1;
+          previous = None;
+          template_version = 1;
+          rolling_back = false;
+          iteration = 0;
+          numbers = record { target = 80; udp = false; number = 30000 } ∷ [];
+          run = None;
+        }
+        ∷ [];
+    tasks = [];
+    networks = [];
+    attempts = [];
+    sessions = [];
     settings = record { heartbeat = 5000; orphan = 86400000; history = 5 };
   };
-  sent = []; agents = []; watchers = []; events = []; halted = true;
+  sent = [];
+  agents = [];
+  watchers = [];
+  events = [];
+  halted = true;
 }
 
 abbrev pub history : List Entry

@@ -39,8 +39,15 @@ use Rattle.swarm_objects.specs.declared.views.Shown.TheVariants as by
 
 abbrev draft_1 : NodeDraft
 draft_1 = record {
-  labels = (codes "zone", codes "a") ∷ []; role = node_role.Worker; availability = availability.Active; cpu = 4000;
-  mem = 8589934592; os = codes "linux"; arch = codes "amd64"; engine = []; remote = false;
+  labels = (codes "zone", codes "a") ∷ [];
+  role = node_role.Worker;
+  availability = availability.Active;
+  cpu = 4000;
+  mem = 8589934592;
+  os = codes "linux";
+  arch = codes "amd64";
+  engine = [];
+  remote = false;
 }
 
 abbrev workload_1 : Workload
@@ -48,17 +55,30 @@ workload_1 = record { prepare = 1; start = 1; stop = 1; end = end.Never }
 
 abbrev template_1 : Template
 template_1 = record {
-  workload = workload_1; cpu = 0; mem = 0;
-  constraints = record { key = key.Label (codes "zone"); equal = true; value = codes "a" } ∷ []; spread = [];
-  platforms = []; max_replicas = 0; networks = []; host_ports = [];
+  workload = workload_1;
+  cpu = 0;
+  mem = 0;
+  constraints = record { key = key.Label (codes "zone"); equal = true; value = codes "a" } ∷ [];
+  spread = [];
+  platforms = [];
+  max_replicas = 0;
+  networks = [];
+  host_ports = [];
   restart = record { condition = condition.Any; delay = 5000; max_attempts = 0; window = 0 };
 }
 
 abbrev spec_1 : ServiceSpec
 spec_1 = record {
-  mode = mode.Replicated 1; template = template_1; ports = [];
+  mode = mode.Replicated 1;
+  template = template_1;
+  ports = [];
   update = record {
-    parallelism = 1; delay = 0; monitor = 5000; action = action.Pause; ratio = 0; order = order.StopFirst;
+    parallelism = 1;
+    delay = 0;
+    monitor = 5000;
+    action = action.Pause;
+    ratio = 0;
+    order = order.StopFirst;
   };
 }
 
@@ -78,7 +98,7 @@ abbrev pub journal : List Told
 journal =
     asked 0 (call.Txn (op.CreateNode (codes "n1") draft_1 ∷ [])) (reply.Txn (1 ∷ []))
     ∷ asked 0 (call.Txn (op.CreateService (codes "web") (record { spec = spec_1; networks = [] }) ∷ []))
-          (reply.Txn (2 ∷ []))
+    (reply.Txn (2 ∷ []))
     ∷ did 0 (duty.ReplicatedCreate 2 1)
     ∷ did 0 (duty.Address 3)
     ∷ did 0 (duty.Explain 3)
@@ -97,7 +117,7 @@ journal =
     ∷ did 0 (duty.Report 1 3)
     ∷ asked 0 (call.Tick 8) reply.Ticked
     ∷ asked 0 (call.Txn (op.UpdateNode (codes "n1") None [] node_role.Worker availability.Active ∷ []))
-          (reply.Txn (1 ∷ []))
+    (reply.Txn (1 ∷ []))
     ∷ did 0 (duty.Reject 3)
     ∷ did 0 (duty.Restart 3)
     ∷ did 0 (duty.Address 5)
@@ -118,15 +138,25 @@ journal =
     ∷ asked 0 (call.Tick 1000) reply.Ticked
     ∷ asked 0 (call.Settle 100000) (reply.Settle 100000 settle.Settled)
     ∷ asked 0 (call.View (query.ListTasks None)) (reply.View (view.Tasks (
-        record {
-          id = 3; service = by.Name (codes "web"); place = place_shown.Slot 1; node = Some (by.Name (codes "n1"));
-          state = state.Rejected; desired = desired.Shutdown; note = note_shown.Empty;
-        }
-        ∷ record {
-            id = 5; service = by.Name (codes "web"); place = place_shown.Slot 1; node = None; state = state.Pending;
-            desired = desired.Running; note = note_shown.Filters (0 ∷ 0 ∷ 1 ∷ 0 ∷ 0 ∷ 0 ∷ []);
-          }
-        ∷ [])))
+    record {
+      id = 3;
+      service = by.Name (codes "web");
+      place = place_shown.Slot 1;
+      node = Some (by.Name (codes "n1"));
+      state = state.Rejected;
+      desired = desired.Shutdown;
+      note = note_shown.Empty;
+    }
+    ∷ record {
+      id = 5;
+      service = by.Name (codes "web");
+      place = place_shown.Slot 1;
+      node = None;
+      state = state.Pending;
+      desired = desired.Running;
+      note = note_shown.Filters (0 ∷ 0 ∷ 1 ∷ 0 ∷ 0 ∷ 0 ∷ []);
+    }
+    ∷ [])))
     ∷ asked 0 call.Halt reply.HaltDone
     ∷ []
 
@@ -134,52 +164,111 @@ abbrev pub world : World
 world = record {
   entries = 41;
   tables = record {
-    clock = 6010; next_id = 6;
+    clock = 6010;
+    next_id = 6;
     nodes =
-      record {
-        id = 1; version = 20; name = codes "n1"; labels = []; role = node_role.Worker;
-        availability = availability.Active; state = node_state.Ready; down_since = 0; cpu = 4000; mem = 8589934592;
-        os = codes "linux"; arch = codes "amd64"; engine = []; remote = false;
-      }
-      ∷ [];
+        record {
+          id = 1;
+          version = 20;
+          name = codes "n1";
+          labels = [];
+          role = node_role.Worker;
+          availability = availability.Active;
+          state = node_state.Ready;
+          down_since = 0;
+          cpu = 4000;
+          mem = 8589934592;
+          os = codes "linux";
+          arch = codes "amd64";
+          engine = [];
+          remote = false;
+        }
+        ∷ [];
     services =
-      record {
-        id = 2; version = 2; name = codes "web"; spec = spec_1; previous = None; template_version = 2;
-        rolling_back = false; iteration = 0; numbers = []; run = None;
-      }
-      ∷ [];
+        record {
+          id = 2;
+          version = 2;
+          name = codes "web";
+          spec = spec_1;
+          previous = None;
+          template_version = 2;
+          rolling_back = false;
+          iteration = 0;
+          numbers = [];
+          run = None;
+        }
+        ∷ [];
     tasks =
-      record {
-        id = 3; version = 22; service = 2; place = Slot 1; iteration = 0; template = template_1; born = 2;
-        goal = desired.Running; node = Some 1; state = state.Rejected; since = 10; desired = desired.Shutdown;
-        created = 0; raise_at = 0; addresses = []; note = note.Empty; closed = None;
-      }
-      ∷ record {
-          id = 5; version = 36; service = 2; place = Slot 1; iteration = 0; template = template_1; born = 2;
-          goal = desired.Running; node = None; state = state.Pending; since = 10; desired = desired.Running;
-          created = 10; raise_at = 5010; addresses = []; note = note.Filters (0 ∷ 0 ∷ 1 ∷ 0 ∷ 0 ∷ 0 ∷ []);
+        record {
+          id = 3;
+          version = 22;
+          service = 2;
+          place = Slot 1;
+          iteration = 0;
+          template = template_1;
+          born = 2;
+          goal = desired.Running;
+          node = Some 1;
+          state = state.Rejected;
+          since = 10;
+          desired = desired.Shutdown;
+          created = 0;
+          raise_at = 0;
+          addresses = [];
+          note = note.Empty;
           closed = None;
         }
-      ∷ [];
-    networks = []; attempts = record { service = 2; place = Slot 1; version = 2; at = 10 } ∷ [];
+        ∷ record {
+          id = 5;
+          version = 36;
+          service = 2;
+          place = Slot 1;
+          iteration = 0;
+          template = template_1;
+          born = 2;
+          goal = desired.Running;
+          node = None;
+          state = state.Pending;
+          since = 10;
+          desired = desired.Running;
+          created = 10;
+          raise_at = 5010;
+          addresses = [];
+          note = note.Filters (0 ∷ 0 ∷ 1 ∷ 0 ∷ 0 ∷ 0 ∷ []);
+          closed = None;
+        }
+        ∷ [];
+    networks = [];
+    attempts = record { service = 2; place = Slot 1; version = 2; at = 10 } ∷ [];
     sessions = record { node = 1; session = record { id = 4; deadline = 20010; beat = 5010 } } ∷ [];
     settings = record { heartbeat = 5000; orphan = 86400000; history = 5 };
   };
   sent =
-    record { node = 1; count = 2; tasks = record { task = 3; desired = desired.Shutdown; workload = workload_1 } ∷ [] }
-    ∷ [];
+      record { node = 1; count = 2; tasks = record { task = 3; desired = desired.Shutdown; workload = workload_1 } ∷ [] }
+      ∷ [];
   agents =
-    record {
-      node = 1; mode = agent_mode.On; inbox = None; applied = 2;
-      executors =
-        record {
-          task = 3; desired = desired.Shutdown; workload = workload_1; state = state.Shutdown; since = 11;
-          stopping = Some 11; reported = Some state.Shutdown; gone = false;
-        }
-        ∷ [];
-    }
-    ∷ [];
-  watchers = []; events = []; halted = true;
+      record {
+        node = 1;
+        mode = agent_mode.On;
+        inbox = None;
+        applied = 2;
+        executors =
+            record {
+              task = 3;
+              desired = desired.Shutdown;
+              workload = workload_1;
+              state = state.Shutdown;
+              since = 11;
+              stopping = Some 11;
+              reported = Some state.Shutdown;
+              gone = false;
+            }
+            ∷ [];
+      }
+      ∷ [];
+  watchers = [];
+  events = [];
+  halted = true;
 }
 
 abbrev pub history : List Entry

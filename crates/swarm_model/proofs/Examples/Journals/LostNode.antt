@@ -39,8 +39,15 @@ use Rattle.swarm_objects.specs.declared.views.Shown.TheVariants as by
 
 abbrev draft_1 : NodeDraft
 draft_1 = record {
-  labels = []; role = node_role.Worker; availability = availability.Active; cpu = 4000; mem = 8589934592;
-  os = codes "linux"; arch = codes "amd64"; engine = []; remote = false;
+  labels = [];
+  role = node_role.Worker;
+  availability = availability.Active;
+  cpu = 4000;
+  mem = 8589934592;
+  os = codes "linux";
+  arch = codes "amd64";
+  engine = [];
+  remote = false;
 }
 
 abbrev workload_1 : Workload
@@ -48,16 +55,30 @@ workload_1 = record { prepare = 1; start = 1; stop = 1; end = end.Never }
 
 abbrev template_1 : Template
 template_1 = record {
-  workload = workload_1; cpu = 0; mem = 0; constraints = []; spread = []; platforms = []; max_replicas = 0;
-  networks = []; host_ports = [];
+  workload = workload_1;
+  cpu = 0;
+  mem = 0;
+  constraints = [];
+  spread = [];
+  platforms = [];
+  max_replicas = 0;
+  networks = [];
+  host_ports = [];
   restart = record { condition = condition.Any; delay = 5000; max_attempts = 0; window = 0 };
 }
 
 abbrev spec_1 : ServiceSpec
 spec_1 = record {
-  mode = mode.Replicated 1; template = template_1; ports = [];
+  mode = mode.Replicated 1;
+  template = template_1;
+  ports = [];
   update = record {
-    parallelism = 1; delay = 0; monitor = 5000; action = action.Pause; ratio = 0; order = order.StopFirst;
+    parallelism = 1;
+    delay = 0;
+    monitor = 5000;
+    action = action.Pause;
+    ratio = 0;
+    order = order.StopFirst;
   };
 }
 
@@ -80,7 +101,7 @@ journal =
     asked 0 (call.Txn (op.CreateNode (codes "n1") draft_1 ∷ [])) (reply.Txn (1 ∷ []))
     ∷ asked 0 (call.Txn (op.CreateNode (codes "n2") draft_1 ∷ [])) (reply.Txn (2 ∷ []))
     ∷ asked 0 (call.Txn (op.CreateService (codes "web") (record { spec = spec_1; networks = [] }) ∷ []))
-          (reply.Txn (3 ∷ []))
+    (reply.Txn (3 ∷ []))
     ∷ did 0 (duty.ReplicatedCreate 3 1)
     ∷ did 0 (duty.Address 4)
     ∷ did 0 (duty.Explain 4)
@@ -136,15 +157,25 @@ journal =
     ∷ asked 0 (call.Tick 9) reply.Ticked
     ∷ asked 0 (call.Settle 100000) (reply.Settle 100000 (settle.Waiting 20000 cause.Start 7))
     ∷ asked 0 (call.View (query.ListTasks None)) (reply.View (view.Tasks (
-        record {
-          id = 4; service = by.Name (codes "web"); place = place_shown.Slot 1; node = Some (by.Name (codes "n1"));
-          state = state.Running; desired = desired.Shutdown; note = note_shown.Empty;
-        }
-        ∷ record {
-            id = 7; service = by.Name (codes "web"); place = place_shown.Slot 1; node = Some (by.Name (codes "n2"));
-            state = state.Ready; desired = desired.Ready; note = note_shown.Empty;
-          }
-        ∷ [])))
+    record {
+      id = 4;
+      service = by.Name (codes "web");
+      place = place_shown.Slot 1;
+      node = Some (by.Name (codes "n1"));
+      state = state.Running;
+      desired = desired.Shutdown;
+      note = note_shown.Empty;
+    }
+    ∷ record {
+      id = 7;
+      service = by.Name (codes "web");
+      place = place_shown.Slot 1;
+      node = Some (by.Name (codes "n2"));
+      state = state.Ready;
+      desired = desired.Ready;
+      note = note_shown.Empty;
+    }
+    ∷ [])))
     ∷ asked 0 call.Halt reply.HaltDone
     ∷ []
 
@@ -152,69 +183,149 @@ abbrev pub world : World
 world = record {
   entries = 59;
   tables = record {
-    clock = 16010; next_id = 8;
+    clock = 16010;
+    next_id = 8;
     nodes =
-      record {
-        id = 1; version = 43; name = codes "n1"; labels = []; role = node_role.Worker;
-        availability = availability.Active; state = node_state.Down; down_since = 15000; cpu = 4000; mem = 8589934592;
-        os = codes "linux"; arch = codes "amd64"; engine = []; remote = false;
-      }
-      ∷ record {
-          id = 2; version = 13; name = codes "n2"; labels = []; role = node_role.Worker;
-          availability = availability.Active; state = node_state.Ready; down_since = 0; cpu = 4000; mem = 8589934592;
-          os = codes "linux"; arch = codes "amd64"; engine = []; remote = false;
+        record {
+          id = 1;
+          version = 43;
+          name = codes "n1";
+          labels = [];
+          role = node_role.Worker;
+          availability = availability.Active;
+          state = node_state.Down;
+          down_since = 15000;
+          cpu = 4000;
+          mem = 8589934592;
+          os = codes "linux";
+          arch = codes "amd64";
+          engine = [];
+          remote = false;
         }
-      ∷ [];
+        ∷ record {
+          id = 2;
+          version = 13;
+          name = codes "n2";
+          labels = [];
+          role = node_role.Worker;
+          availability = availability.Active;
+          state = node_state.Ready;
+          down_since = 0;
+          cpu = 4000;
+          mem = 8589934592;
+          os = codes "linux";
+          arch = codes "amd64";
+          engine = [];
+          remote = false;
+        }
+        ∷ [];
     services =
-      record {
-        id = 3; version = 3; name = codes "web"; spec = spec_1; previous = None; template_version = 3;
-        rolling_back = false; iteration = 0; numbers = []; run = None;
-      }
-      ∷ [];
-    tasks =
-      record {
-        id = 4; version = 44; service = 3; place = Slot 1; iteration = 0; template = template_1; born = 3;
-        goal = desired.Running; node = Some 1; state = state.Running; since = 2; desired = desired.Shutdown;
-        created = 0; raise_at = 0; addresses = []; note = note.Empty; closed = None;
-      }
-      ∷ record {
-          id = 7; version = 53; service = 3; place = Slot 1; iteration = 0; template = template_1; born = 3;
-          goal = desired.Running; node = Some 2; state = state.Ready; since = 15001; desired = desired.Ready;
-          created = 15000; raise_at = 20000; addresses = []; note = note.Empty; closed = None;
+        record {
+          id = 3;
+          version = 3;
+          name = codes "web";
+          spec = spec_1;
+          previous = None;
+          template_version = 3;
+          rolling_back = false;
+          iteration = 0;
+          numbers = [];
+          run = None;
         }
-      ∷ [];
-    networks = []; attempts = record { service = 3; place = Slot 1; version = 3; at = 15000 } ∷ [];
+        ∷ [];
+    tasks =
+        record {
+          id = 4;
+          version = 44;
+          service = 3;
+          place = Slot 1;
+          iteration = 0;
+          template = template_1;
+          born = 3;
+          goal = desired.Running;
+          node = Some 1;
+          state = state.Running;
+          since = 2;
+          desired = desired.Shutdown;
+          created = 0;
+          raise_at = 0;
+          addresses = [];
+          note = note.Empty;
+          closed = None;
+        }
+        ∷ record {
+          id = 7;
+          version = 53;
+          service = 3;
+          place = Slot 1;
+          iteration = 0;
+          template = template_1;
+          born = 3;
+          goal = desired.Running;
+          node = Some 2;
+          state = state.Ready;
+          since = 15001;
+          desired = desired.Ready;
+          created = 15000;
+          raise_at = 20000;
+          addresses = [];
+          note = note.Empty;
+          closed = None;
+        }
+        ∷ [];
+    networks = [];
+    attempts = record { service = 3; place = Slot 1; version = 3; at = 15000 } ∷ [];
     sessions =
-      record { node = 1; session = record { id = 5; deadline = 15000; beat = 0 } }
-      ∷ record { node = 2; session = record { id = 6; deadline = 31001; beat = 16001 } }
-      ∷ [];
+        record { node = 1; session = record { id = 5; deadline = 15000; beat = 0 } }
+        ∷ record { node = 2; session = record { id = 6; deadline = 31001; beat = 16001 } }
+        ∷ [];
     settings = record { heartbeat = 5000; orphan = 86400000; history = 5 };
   };
   sent =
-    record { node = 1; count = 1; tasks = record { task = 4; desired = desired.Running; workload = workload_1 } ∷ [] }
-    ∷ record { node = 2; count = 2; tasks = record { task = 7; desired = desired.Ready; workload = workload_1 } ∷ [] }
-    ∷ [];
+      record { node = 1; count = 1; tasks = record { task = 4; desired = desired.Running; workload = workload_1 } ∷ [] }
+      ∷ record { node = 2; count = 2; tasks = record { task = 7; desired = desired.Ready; workload = workload_1 } ∷ [] }
+      ∷ [];
   agents =
-    record {
-      node = 1; mode = agent_mode.PowerOff; inbox = None; applied = 1;
-      executors =
-        record {
-          task = 4; desired = desired.Running; workload = workload_1; state = state.Failed; since = 10; stopping = None;
-          reported = Some state.Running; gone = false;
-        }
-        ∷ [];
-    }
-    ∷ record {
-        node = 2; mode = agent_mode.On; inbox = None; applied = 2;
+      record {
+        node = 1;
+        mode = agent_mode.PowerOff;
+        inbox = None;
+        applied = 1;
         executors =
-          record {
-            task = 7; desired = desired.Ready; workload = workload_1; state = state.Ready; since = 15001;
-            stopping = None; reported = Some state.Ready; gone = false;
-          }
-          ∷ [];
+            record {
+              task = 4;
+              desired = desired.Running;
+              workload = workload_1;
+              state = state.Failed;
+              since = 10;
+              stopping = None;
+              reported = Some state.Running;
+              gone = false;
+            }
+            ∷ [];
       }
-    ∷ [];
-  watchers = []; events = []; halted = true;
+      ∷ record {
+        node = 2;
+        mode = agent_mode.On;
+        inbox = None;
+        applied = 2;
+        executors =
+            record {
+              task = 7;
+              desired = desired.Ready;
+              workload = workload_1;
+              state = state.Ready;
+              since = 15001;
+              stopping = None;
+              reported = Some state.Ready;
+              gone = false;
+            }
+            ∷ [];
+      }
+      ∷ [];
+  watchers = [];
+  events = [];
+  halted = true;
 }
 
 abbrev pub history : List Entry

@@ -40,8 +40,15 @@ use Rattle.swarm_objects.specs.declared.views.Shown.TheVariants as by
 
 abbrev draft_1 : NodeDraft
 draft_1 = record {
-  labels = []; role = node_role.Worker; availability = availability.Active; cpu = 4000; mem = 8589934592;
-  os = codes "linux"; arch = codes "amd64"; engine = []; remote = false;
+  labels = [];
+  role = node_role.Worker;
+  availability = availability.Active;
+  cpu = 4000;
+  mem = 8589934592;
+  os = codes "linux";
+  arch = codes "amd64";
+  engine = [];
+  remote = false;
 }
 
 abbrev workload_1 : Workload
@@ -49,16 +56,30 @@ workload_1 = record { prepare = 1; start = 1; stop = 1; end = end.Never }
 
 abbrev template_1 : Template
 template_1 = record {
-  workload = workload_1; cpu = 0; mem = 0; constraints = []; spread = []; platforms = []; max_replicas = 0;
-  networks = []; host_ports = [];
+  workload = workload_1;
+  cpu = 0;
+  mem = 0;
+  constraints = [];
+  spread = [];
+  platforms = [];
+  max_replicas = 0;
+  networks = [];
+  host_ports = [];
   restart = record { condition = condition.Never; delay = 5000; max_attempts = 0; window = 0 };
 }
 
 abbrev spec_1 : ServiceSpec
 spec_1 = record {
-  mode = mode.Replicated 4; template = template_1; ports = [];
+  mode = mode.Replicated 4;
+  template = template_1;
+  ports = [];
   update = record {
-    parallelism = 2; delay = 0; monitor = 5000; action = action.Pause; ratio = 0; order = order.StopFirst;
+    parallelism = 2;
+    delay = 0;
+    monitor = 5000;
+    action = action.Pause;
+    ratio = 0;
+    order = order.StopFirst;
   };
 }
 
@@ -67,16 +88,30 @@ workload_2 = record { prepare = 1; start = 1; stop = 1; end = end.Reject }
 
 abbrev template_2 : Template
 template_2 = record {
-  workload = workload_2; cpu = 0; mem = 0; constraints = []; spread = []; platforms = []; max_replicas = 0;
-  networks = []; host_ports = [];
+  workload = workload_2;
+  cpu = 0;
+  mem = 0;
+  constraints = [];
+  spread = [];
+  platforms = [];
+  max_replicas = 0;
+  networks = [];
+  host_ports = [];
   restart = record { condition = condition.Never; delay = 5000; max_attempts = 0; window = 0 };
 }
 
 abbrev spec_2 : ServiceSpec
 spec_2 = record {
-  mode = mode.Replicated 4; template = template_2; ports = [];
+  mode = mode.Replicated 4;
+  template = template_2;
+  ports = [];
   update = record {
-    parallelism = 2; delay = 0; monitor = 5000; action = action.Pause; ratio = 0; order = order.StopFirst;
+    parallelism = 2;
+    delay = 0;
+    monitor = 5000;
+    action = action.Pause;
+    ratio = 0;
+    order = order.StopFirst;
   };
 }
 
@@ -97,7 +132,7 @@ abbrev pub journal : List Told
 journal =
     asked 0 (call.Txn (op.CreateNode (codes "n1") draft_1 ∷ [])) (reply.Txn (1 ∷ []))
     ∷ asked 0 (call.Txn (op.CreateService (codes "web") (record { spec = spec_1; networks = [] }) ∷ []))
-          (reply.Txn (2 ∷ []))
+    (reply.Txn (2 ∷ []))
     ∷ did 0 (duty.ReplicatedCreate 2 1)
     ∷ did 0 (duty.ReplicatedCreate 2 2)
     ∷ did 0 (duty.ReplicatedCreate 2 3)
@@ -149,7 +184,7 @@ journal =
     ∷ did 0 (duty.Report 1 6)
     ∷ asked 0 (call.Tick 8) reply.Ticked
     ∷ asked 0 (call.Txn (op.UpdateService (codes "web") None (record { spec = spec_2; networks = [] }) ∷ []))
-          (reply.Txn (2 ∷ []))
+    (reply.Txn (2 ∷ []))
     ∷ did 0 (duty.Start 2)
     ∷ did 0 (duty.Replace 2 1)
     ∷ did 0 (duty.Replace 2 2)
@@ -190,36 +225,71 @@ journal =
     ∷ asked 0 (call.Tick 9) reply.Ticked
     ∷ asked 0 (call.Settle 100000) (reply.Settle 100000 (settle.Paused 2))
     ∷ asked 0 (call.View query.ListServices) (reply.View (view.Services (
-        record {
-          id = 2; name = codes "web"; mode = mode.Replicated 4; running = 2; wanted = 4; update = Some status.Paused;
-        }
-        ∷ [])))
+    record {
+      id = 2;
+      name = codes "web";
+      mode = mode.Replicated 4;
+      running = 2;
+      wanted = 4;
+      update = Some status.Paused;
+    }
+    ∷ [])))
     ∷ asked 0 (call.View (query.ListTasks None)) (reply.View (view.Tasks (
-        record {
-          id = 3; service = by.Name (codes "web"); place = place_shown.Slot 1; node = Some (by.Name (codes "n1"));
-          state = state.Shutdown; desired = desired.Shutdown; note = note_shown.Empty;
-        }
-        ∷ record {
-            id = 4; service = by.Name (codes "web"); place = place_shown.Slot 2; node = Some (by.Name (codes "n1"));
-            state = state.Shutdown; desired = desired.Shutdown; note = note_shown.Empty;
-          }
-        ∷ record {
-            id = 5; service = by.Name (codes "web"); place = place_shown.Slot 3; node = Some (by.Name (codes "n1"));
-            state = state.Running; desired = desired.Running; note = note_shown.Empty;
-          }
-        ∷ record {
-            id = 6; service = by.Name (codes "web"); place = place_shown.Slot 4; node = Some (by.Name (codes "n1"));
-            state = state.Running; desired = desired.Running; note = note_shown.Empty;
-          }
-        ∷ record {
-            id = 8; service = by.Name (codes "web"); place = place_shown.Slot 1; node = Some (by.Name (codes "n1"));
-            state = state.Rejected; desired = desired.Shutdown; note = note_shown.Closed closed.Condition;
-          }
-        ∷ record {
-            id = 9; service = by.Name (codes "web"); place = place_shown.Slot 2; node = Some (by.Name (codes "n1"));
-            state = state.Rejected; desired = desired.Shutdown; note = note_shown.Closed closed.Condition;
-          }
-        ∷ [])))
+    record {
+      id = 3;
+      service = by.Name (codes "web");
+      place = place_shown.Slot 1;
+      node = Some (by.Name (codes "n1"));
+      state = state.Shutdown;
+      desired = desired.Shutdown;
+      note = note_shown.Empty;
+    }
+    ∷ record {
+      id = 4;
+      service = by.Name (codes "web");
+      place = place_shown.Slot 2;
+      node = Some (by.Name (codes "n1"));
+      state = state.Shutdown;
+      desired = desired.Shutdown;
+      note = note_shown.Empty;
+    }
+    ∷ record {
+      id = 5;
+      service = by.Name (codes "web");
+      place = place_shown.Slot 3;
+      node = Some (by.Name (codes "n1"));
+      state = state.Running;
+      desired = desired.Running;
+      note = note_shown.Empty;
+    }
+    ∷ record {
+      id = 6;
+      service = by.Name (codes "web");
+      place = place_shown.Slot 4;
+      node = Some (by.Name (codes "n1"));
+      state = state.Running;
+      desired = desired.Running;
+      note = note_shown.Empty;
+    }
+    ∷ record {
+      id = 8;
+      service = by.Name (codes "web");
+      place = place_shown.Slot 1;
+      node = Some (by.Name (codes "n1"));
+      state = state.Rejected;
+      desired = desired.Shutdown;
+      note = note_shown.Closed closed.Condition;
+    }
+    ∷ record {
+      id = 9;
+      service = by.Name (codes "web");
+      place = place_shown.Slot 2;
+      node = Some (by.Name (codes "n1"));
+      state = state.Rejected;
+      desired = desired.Shutdown;
+      note = note_shown.Closed closed.Condition;
+    }
+    ∷ [])))
     ∷ asked 0 call.Halt reply.HaltDone
     ∷ []
 
@@ -227,108 +297,256 @@ abbrev pub world : World
 world = record {
   entries = 95;
   tables = record {
-    clock = 20; next_id = 10;
+    clock = 20;
+    next_id = 10;
     nodes =
-      record {
-        id = 1; version = 15; name = codes "n1"; labels = []; role = node_role.Worker;
-        availability = availability.Active; state = node_state.Ready; down_since = 0; cpu = 4000; mem = 8589934592;
-        os = codes "linux"; arch = codes "amd64"; engine = []; remote = false;
-      }
-      ∷ [];
+        record {
+          id = 1;
+          version = 15;
+          name = codes "n1";
+          labels = [];
+          role = node_role.Worker;
+          availability = availability.Active;
+          state = node_state.Ready;
+          down_since = 0;
+          cpu = 4000;
+          mem = 8589934592;
+          os = codes "linux";
+          arch = codes "amd64";
+          engine = [];
+          remote = false;
+        }
+        ∷ [];
     services =
-      record {
-        id = 2; version = 84; name = codes "web"; spec = spec_2; previous = Some spec_1; template_version = 53;
-        rolling_back = false; iteration = 0; numbers = [];
-        run = Some (record {
-          status = status.Paused; version = 53; total = 4;
-          replaced =
-            record { place = Slot 1; task = 8; created = 10 }
-            ∷ record { place = Slot 2; task = 9; created = 10 }
-            ∷ [];
-        });
-      }
-      ∷ [];
+        record {
+          id = 2;
+          version = 84;
+          name = codes "web";
+          spec = spec_2;
+          previous = Some spec_1;
+          template_version = 53;
+          rolling_back = false;
+          iteration = 0;
+          numbers = [];
+          run = Some (record {
+            status = status.Paused;
+            version = 53;
+            total = 4;
+            replaced =
+                record { place = Slot 1; task = 8; created = 10 }
+                ∷ record { place = Slot 2; task = 9; created = 10 }
+                ∷ [];
+          });
+        }
+        ∷ [];
     tasks =
-      record {
-        id = 3; version = 74; service = 2; place = Slot 1; iteration = 0; template = template_1; born = 2;
-        goal = desired.Running; node = Some 1; state = state.Shutdown; since = 11; desired = desired.Shutdown;
-        created = 0; raise_at = 0; addresses = []; note = note.Empty; closed = None;
-      }
-      ∷ record {
-          id = 4; version = 78; service = 2; place = Slot 2; iteration = 0; template = template_1; born = 2;
-          goal = desired.Running; node = Some 1; state = state.Shutdown; since = 11; desired = desired.Shutdown;
-          created = 0; raise_at = 0; addresses = []; note = note.Empty; closed = None;
+        record {
+          id = 3;
+          version = 74;
+          service = 2;
+          place = Slot 1;
+          iteration = 0;
+          template = template_1;
+          born = 2;
+          goal = desired.Running;
+          node = Some 1;
+          state = state.Shutdown;
+          since = 11;
+          desired = desired.Shutdown;
+          created = 0;
+          raise_at = 0;
+          addresses = [];
+          note = note.Empty;
+          closed = None;
         }
-      ∷ record {
-          id = 5; version = 50; service = 2; place = Slot 3; iteration = 0; template = template_1; born = 2;
-          goal = desired.Running; node = Some 1; state = state.Running; since = 2; desired = desired.Running;
-          created = 0; raise_at = 0; addresses = []; note = note.Empty; closed = None;
+        ∷ record {
+          id = 4;
+          version = 78;
+          service = 2;
+          place = Slot 2;
+          iteration = 0;
+          template = template_1;
+          born = 2;
+          goal = desired.Running;
+          node = Some 1;
+          state = state.Shutdown;
+          since = 11;
+          desired = desired.Shutdown;
+          created = 0;
+          raise_at = 0;
+          addresses = [];
+          note = note.Empty;
+          closed = None;
         }
-      ∷ record {
-          id = 6; version = 51; service = 2; place = Slot 4; iteration = 0; template = template_1; born = 2;
-          goal = desired.Running; node = Some 1; state = state.Running; since = 2; desired = desired.Running;
-          created = 0; raise_at = 0; addresses = []; note = note.Empty; closed = None;
+        ∷ record {
+          id = 5;
+          version = 50;
+          service = 2;
+          place = Slot 3;
+          iteration = 0;
+          template = template_1;
+          born = 2;
+          goal = desired.Running;
+          node = Some 1;
+          state = state.Running;
+          since = 2;
+          desired = desired.Running;
+          created = 0;
+          raise_at = 0;
+          addresses = [];
+          note = note.Empty;
+          closed = None;
         }
-      ∷ record {
-          id = 8; version = 83; service = 2; place = Slot 1; iteration = 0; template = template_2; born = 53;
-          goal = desired.Running; node = Some 1; state = state.Rejected; since = 11; desired = desired.Shutdown;
-          created = 10; raise_at = 10; addresses = []; note = note.Empty; closed = Some closed.Condition;
+        ∷ record {
+          id = 6;
+          version = 51;
+          service = 2;
+          place = Slot 4;
+          iteration = 0;
+          template = template_1;
+          born = 2;
+          goal = desired.Running;
+          node = Some 1;
+          state = state.Running;
+          since = 2;
+          desired = desired.Running;
+          created = 0;
+          raise_at = 0;
+          addresses = [];
+          note = note.Empty;
+          closed = None;
         }
-      ∷ record {
-          id = 9; version = 88; service = 2; place = Slot 2; iteration = 0; template = template_2; born = 53;
-          goal = desired.Running; node = Some 1; state = state.Rejected; since = 11; desired = desired.Shutdown;
-          created = 10; raise_at = 10; addresses = []; note = note.Empty; closed = Some closed.Condition;
+        ∷ record {
+          id = 8;
+          version = 83;
+          service = 2;
+          place = Slot 1;
+          iteration = 0;
+          template = template_2;
+          born = 53;
+          goal = desired.Running;
+          node = Some 1;
+          state = state.Rejected;
+          since = 11;
+          desired = desired.Shutdown;
+          created = 10;
+          raise_at = 10;
+          addresses = [];
+          note = note.Empty;
+          closed = Some closed.Condition;
         }
-      ∷ [];
-    networks = []; attempts = [];
+        ∷ record {
+          id = 9;
+          version = 88;
+          service = 2;
+          place = Slot 2;
+          iteration = 0;
+          template = template_2;
+          born = 53;
+          goal = desired.Running;
+          node = Some 1;
+          state = state.Rejected;
+          since = 11;
+          desired = desired.Shutdown;
+          created = 10;
+          raise_at = 10;
+          addresses = [];
+          note = note.Empty;
+          closed = Some closed.Condition;
+        }
+        ∷ [];
+    networks = [];
+    attempts = [];
     sessions = record { node = 1; session = record { id = 7; deadline = 15000; beat = 0 } } ∷ [];
     settings = record { heartbeat = 5000; orphan = 86400000; history = 5 };
   };
   sent =
-    record {
-      node = 1; count = 6;
-      tasks =
-        record { task = 3; desired = desired.Shutdown; workload = workload_1 }
-        ∷ record { task = 4; desired = desired.Shutdown; workload = workload_1 }
-        ∷ record { task = 5; desired = desired.Running; workload = workload_1 }
-        ∷ record { task = 6; desired = desired.Running; workload = workload_1 }
-        ∷ record { task = 8; desired = desired.Shutdown; workload = workload_2 }
-        ∷ record { task = 9; desired = desired.Shutdown; workload = workload_2 }
-        ∷ [];
-    }
-    ∷ [];
+      record {
+        node = 1;
+        count = 6;
+        tasks =
+            record { task = 3; desired = desired.Shutdown; workload = workload_1 }
+            ∷ record { task = 4; desired = desired.Shutdown; workload = workload_1 }
+            ∷ record { task = 5; desired = desired.Running; workload = workload_1 }
+            ∷ record { task = 6; desired = desired.Running; workload = workload_1 }
+            ∷ record { task = 8; desired = desired.Shutdown; workload = workload_2 }
+            ∷ record { task = 9; desired = desired.Shutdown; workload = workload_2 }
+            ∷ [];
+      }
+      ∷ [];
   agents =
-    record {
-      node = 1; mode = agent_mode.On; inbox = None; applied = 6;
-      executors =
-        record {
-          task = 3; desired = desired.Shutdown; workload = workload_1; state = state.Shutdown; since = 11;
-          stopping = Some 11; reported = Some state.Shutdown; gone = false;
-        }
-        ∷ record {
-            task = 4; desired = desired.Shutdown; workload = workload_1; state = state.Shutdown; since = 11;
-            stopping = Some 11; reported = Some state.Shutdown; gone = false;
-          }
-        ∷ record {
-            task = 5; desired = desired.Running; workload = workload_1; state = state.Running; since = 2;
-            stopping = None; reported = Some state.Running; gone = false;
-          }
-        ∷ record {
-            task = 6; desired = desired.Running; workload = workload_1; state = state.Running; since = 2;
-            stopping = None; reported = Some state.Running; gone = false;
-          }
-        ∷ record {
-            task = 8; desired = desired.Shutdown; workload = workload_2; state = state.Rejected; since = 11;
-            stopping = None; reported = Some state.Rejected; gone = false;
-          }
-        ∷ record {
-            task = 9; desired = desired.Shutdown; workload = workload_2; state = state.Rejected; since = 11;
-            stopping = None; reported = Some state.Rejected; gone = false;
-          }
-        ∷ [];
-    }
-    ∷ [];
-  watchers = []; events = []; halted = true;
+      record {
+        node = 1;
+        mode = agent_mode.On;
+        inbox = None;
+        applied = 6;
+        executors =
+            record {
+              task = 3;
+              desired = desired.Shutdown;
+              workload = workload_1;
+              state = state.Shutdown;
+              since = 11;
+              stopping = Some 11;
+              reported = Some state.Shutdown;
+              gone = false;
+            }
+            ∷ record {
+              task = 4;
+              desired = desired.Shutdown;
+              workload = workload_1;
+              state = state.Shutdown;
+              since = 11;
+              stopping = Some 11;
+              reported = Some state.Shutdown;
+              gone = false;
+            }
+            ∷ record {
+              task = 5;
+              desired = desired.Running;
+              workload = workload_1;
+              state = state.Running;
+              since = 2;
+              stopping = None;
+              reported = Some state.Running;
+              gone = false;
+            }
+            ∷ record {
+              task = 6;
+              desired = desired.Running;
+              workload = workload_1;
+              state = state.Running;
+              since = 2;
+              stopping = None;
+              reported = Some state.Running;
+              gone = false;
+            }
+            ∷ record {
+              task = 8;
+              desired = desired.Shutdown;
+              workload = workload_2;
+              state = state.Rejected;
+              since = 11;
+              stopping = None;
+              reported = Some state.Rejected;
+              gone = false;
+            }
+            ∷ record {
+              task = 9;
+              desired = desired.Shutdown;
+              workload = workload_2;
+              state = state.Rejected;
+              since = 11;
+              stopping = None;
+              reported = Some state.Rejected;
+              gone = false;
+            }
+            ∷ [];
+      }
+      ∷ [];
+  watchers = [];
+  events = [];
+  halted = true;
 }
 
 abbrev pub history : List Entry

@@ -30,8 +30,15 @@ use Rattle.swarm_objects.specs.declared.templates.Workload.{Workload}
 
 abbrev draft_1 : NodeDraft
 draft_1 = record {
-  labels = []; role = node_role.Worker; availability = availability.Active; cpu = 4000; mem = 8589934592;
-  os = codes "linux"; arch = codes "amd64"; engine = []; remote = false;
+  labels = [];
+  role = node_role.Worker;
+  availability = availability.Active;
+  cpu = 4000;
+  mem = 8589934592;
+  os = codes "linux";
+  arch = codes "amd64";
+  engine = [];
+  remote = false;
 }
 
 abbrev workload_1 : Workload
@@ -39,32 +46,60 @@ workload_1 = record { prepare = 1; start = 1; stop = 1; end = end.Never }
 
 abbrev template_1 : Template
 template_1 = record {
-  workload = workload_1; cpu = 0; mem = 0; constraints = []; spread = []; platforms = []; max_replicas = 0;
-  networks = []; host_ports = [];
+  workload = workload_1;
+  cpu = 0;
+  mem = 0;
+  constraints = [];
+  spread = [];
+  platforms = [];
+  max_replicas = 0;
+  networks = [];
+  host_ports = [];
   restart = record { condition = condition.Any; delay = 5000; max_attempts = 0; window = 0 };
 }
 
 abbrev spec_1 : ServiceSpec
 spec_1 = record {
-  mode = mode.Replicated 1; template = template_1; ports = [];
+  mode = mode.Replicated 1;
+  template = template_1;
+  ports = [];
   update = record {
-    parallelism = 1; delay = 0; monitor = 5000; action = action.Pause; ratio = 0; order = order.StopFirst;
+    parallelism = 1;
+    delay = 0;
+    monitor = 5000;
+    action = action.Pause;
+    ratio = 0;
+    order = order.StopFirst;
   };
 }
 
 abbrev spec_2 : ServiceSpec
 spec_2 = record {
-  mode = mode.Replicated 10001; template = template_1; ports = [];
+  mode = mode.Replicated 10001;
+  template = template_1;
+  ports = [];
   update = record {
-    parallelism = 1; delay = 0; monitor = 5000; action = action.Pause; ratio = 0; order = order.StopFirst;
+    parallelism = 1;
+    delay = 0;
+    monitor = 5000;
+    action = action.Pause;
+    ratio = 0;
+    order = order.StopFirst;
   };
 }
 
 abbrev spec_3 : ServiceSpec
 spec_3 = record {
-  mode = mode.Global; template = template_1; ports = [];
+  mode = mode.Global;
+  template = template_1;
+  ports = [];
   update = record {
-    parallelism = 1; delay = 0; monitor = 5000; action = action.Pause; ratio = 0; order = order.StopFirst;
+    parallelism = 1;
+    delay = 0;
+    monitor = 5000;
+    action = action.Pause;
+    ratio = 0;
+    order = order.StopFirst;
   };
 }
 
@@ -93,12 +128,12 @@ journal =
     ∷ did 0 (duty.Apply 1)
     ∷ asked 0 (call.Settle 100000) (reply.Settle 100000 settle.Settled)
     ∷ asked 0 (call.Txn (op.CreateService (codes "web") (record { spec = spec_1; networks = [] }) ∷ []))
-          (reply.Txn (3 ∷ []))
+    (reply.Txn (3 ∷ []))
     ∷ asked 0 (call.Txn (op.CreateService (codes "x") (record { spec = spec_2; networks = [] }) ∷ []))
-          (reply.Refused (refusal.BadSpec rule.Replicas))
+    (reply.Refused (refusal.BadSpec rule.Replicas))
     ∷ asked 0 (call.Txn (op.RemoveNode (codes "n1") false ∷ [])) (reply.Refused (refusal.NodeNotDown node_state.Ready))
     ∷ asked 0 (call.Txn (op.UpdateService (codes "web") None (record { spec = spec_3; networks = [] }) ∷ []))
-          (reply.Refused refusal.ModeChange)
+    (reply.Refused refusal.ModeChange)
     ∷ asked 0 (call.Txn (op.RollbackService (codes "web") None ∷ [])) (reply.Refused refusal.NoPrevious)
     ∷ asked 0 (call.Tick 1001) (reply.Refused (refusal.BadTick 1001))
     ∷ asked 0 (call.RemoteBeat (codes "n1") 2) (reply.Refused (refusal.WrongKind 1))
@@ -112,17 +147,34 @@ abbrev pub world : World
 world = record {
   entries = 16;
   tables = record {
-    clock = 0; next_id = 4; nodes = [];
+    clock = 0;
+    next_id = 4;
+    nodes = [];
     services =
-      record {
-        id = 3; version = 6; name = codes "web"; spec = spec_1; previous = None; template_version = 6;
-        rolling_back = false; iteration = 0; numbers = []; run = None;
-      }
-      ∷ [];
-    tasks = []; networks = []; attempts = []; sessions = [];
+        record {
+          id = 3;
+          version = 6;
+          name = codes "web";
+          spec = spec_1;
+          previous = None;
+          template_version = 6;
+          rolling_back = false;
+          iteration = 0;
+          numbers = [];
+          run = None;
+        }
+        ∷ [];
+    tasks = [];
+    networks = [];
+    attempts = [];
+    sessions = [];
     settings = record { heartbeat = 5000; orphan = 86400000; history = 5 };
   };
-  sent = []; agents = []; watchers = []; events = []; halted = true;
+  sent = [];
+  agents = [];
+  watchers = [];
+  events = [];
+  halted = true;
 }
 
 abbrev pub history : List Entry

@@ -32,8 +32,15 @@ use Rattle.swarm_objects.specs.declared.templates.Workload.{Workload}
 
 abbrev draft_1 : NodeDraft
 draft_1 = record {
-  labels = []; role = node_role.Worker; availability = availability.Active; cpu = 4000; mem = 8589934592;
-  os = codes "linux"; arch = codes "amd64"; engine = []; remote = true;
+  labels = [];
+  role = node_role.Worker;
+  availability = availability.Active;
+  cpu = 4000;
+  mem = 8589934592;
+  os = codes "linux";
+  arch = codes "amd64";
+  engine = [];
+  remote = true;
 }
 
 abbrev workload_1 : Workload
@@ -41,16 +48,30 @@ workload_1 = record { prepare = 1; start = 1; stop = 1; end = end.Never }
 
 abbrev template_1 : Template
 template_1 = record {
-  workload = workload_1; cpu = 0; mem = 0; constraints = []; spread = []; platforms = []; max_replicas = 0;
-  networks = []; host_ports = [];
+  workload = workload_1;
+  cpu = 0;
+  mem = 0;
+  constraints = [];
+  spread = [];
+  platforms = [];
+  max_replicas = 0;
+  networks = [];
+  host_ports = [];
   restart = record { condition = condition.Any; delay = 5000; max_attempts = 0; window = 0 };
 }
 
 abbrev spec_1 : ServiceSpec
 spec_1 = record {
-  mode = mode.Replicated 1; template = template_1; ports = [];
+  mode = mode.Replicated 1;
+  template = template_1;
+  ports = [];
   update = record {
-    parallelism = 1; delay = 0; monitor = 5000; action = action.Pause; ratio = 0; order = order.StopFirst;
+    parallelism = 1;
+    delay = 0;
+    monitor = 5000;
+    action = action.Pause;
+    ratio = 0;
+    order = order.StopFirst;
   };
 }
 
@@ -76,30 +97,34 @@ abbrev pub journal : List Told
 journal =
     asked 0 (call.Txn (op.CreateNode (codes "r1") draft_1 ∷ [])) (reply.Txn (1 ∷ []))
     ∷ asked 0 (call.Txn (op.CreateService (codes "web") (record { spec = spec_1; networks = [] }) ∷ []))
-          (reply.Txn (2 ∷ []))
+    (reply.Txn (2 ∷ []))
     ∷ asked 0 (call.RemoteBegin (codes "r1") None None) (reply.SessionBegun 3 15000)
     ∷ did 0 (duty.ReplicatedCreate 2 1)
     ∷ did 0 (duty.Address 4)
     ∷ did 0 (duty.Place 4 1)
     ∷ asked 0 (call.Settle 100000) (reply.Settle 100000 (settle.Waiting 15000 cause.Remote 4))
     ∷ asked 0 (call.RemotePull (codes "r1") 3) (reply.Pulled (Some (record {
-        complete = true; applies_to = 0; results_in = 1;
-        changes = assign.Update (record { task = 4; desired = desired.Running; workload = workload_1 }) ∷ [];
-      })))
+      complete = true;
+      applies_to = 0;
+      results_in = 1;
+      changes = assign.Update (record { task = 4; desired = desired.Running; workload = workload_1 }) ∷ [];
+    })))
     ∷ asked 0 (call.RemotePull (codes "r1") 3) (reply.Pulled None)
     ∷ asked 0 (call.Txn (op.RemoveService (codes "web") ∷ [])) (reply.Txn (2 ∷ []))
     ∷ did 0 (duty.Gone 4)
     ∷ asked 0 (call.Settle 100000) (reply.Settle 100000 (settle.Waiting 15000 cause.Remote 4))
     ∷ asked 0 (call.RemotePull (codes "r1") 3) (reply.Pulled (Some (record {
-        complete = false; applies_to = 1; results_in = 2;
-        changes = assign.Update (record { task = 4; desired = desired.Remove; workload = workload_1 }) ∷ [];
-      })))
+      complete = false;
+      applies_to = 1;
+      results_in = 2;
+      changes = assign.Update (record { task = 4; desired = desired.Remove; workload = workload_1 }) ∷ [];
+    })))
     ∷ asked 0 (call.RemoteStatus (codes "r1") 3 4 state.Assigned) (reply.Refused (refusal.BadState state.Assigned))
     ∷ asked 0 (call.RemoteStatus (codes "r1") 3 4 state.Shutdown) (reply.Status true state.Shutdown)
     ∷ did 0 (duty.Delete 4)
     ∷ asked 0 (call.Settle 100000) (reply.Settle 100000 settle.Settled)
     ∷ asked 0 (call.RemotePull (codes "r1") 3) (reply.Pulled
-          (Some (record { complete = false; applies_to = 2; results_in = 3; changes = assign.Remove 4 ∷ [] })))
+    (Some (record { complete = false; applies_to = 2; results_in = 3; changes = assign.Remove 4 ∷ [] })))
     ∷ asked 0 call.Halt reply.HaltDone
     ∷ []
 
@@ -107,19 +132,38 @@ abbrev pub world : World
 world = record {
   entries = 19;
   tables = record {
-    clock = 0; next_id = 5;
+    clock = 0;
+    next_id = 5;
     nodes =
-      record {
-        id = 1; version = 3; name = codes "r1"; labels = []; role = node_role.Worker;
-        availability = availability.Active; state = node_state.Ready; down_since = 0; cpu = 4000; mem = 8589934592;
-        os = codes "linux"; arch = codes "amd64"; engine = []; remote = true;
-      }
-      ∷ [];
-    services = []; tasks = []; networks = []; attempts = [];
+        record {
+          id = 1;
+          version = 3;
+          name = codes "r1";
+          labels = [];
+          role = node_role.Worker;
+          availability = availability.Active;
+          state = node_state.Ready;
+          down_since = 0;
+          cpu = 4000;
+          mem = 8589934592;
+          os = codes "linux";
+          arch = codes "amd64";
+          engine = [];
+          remote = true;
+        }
+        ∷ [];
+    services = [];
+    tasks = [];
+    networks = [];
+    attempts = [];
     sessions = record { node = 1; session = record { id = 3; deadline = 15000; beat = 0 } } ∷ [];
     settings = record { heartbeat = 5000; orphan = 86400000; history = 5 };
   };
-  sent = record { node = 1; count = 3; tasks = [] } ∷ []; agents = []; watchers = []; events = []; halted = true;
+  sent = record { node = 1; count = 3; tasks = [] } ∷ [];
+  agents = [];
+  watchers = [];
+  events = [];
+  halted = true;
 }
 
 abbrev pub history : List Entry

@@ -32,8 +32,15 @@ use Rattle.swarm_objects.specs.declared.templates.Workload.{Workload}
 
 abbrev draft_1 : NodeDraft
 draft_1 = record {
-  labels = []; role = node_role.Worker; availability = availability.Active; cpu = 4000; mem = 8589934592;
-  os = codes "linux"; arch = codes "amd64"; engine = []; remote = true;
+  labels = [];
+  role = node_role.Worker;
+  availability = availability.Active;
+  cpu = 4000;
+  mem = 8589934592;
+  os = codes "linux";
+  arch = codes "amd64";
+  engine = [];
+  remote = true;
 }
 
 abbrev workload_1 : Workload
@@ -41,16 +48,30 @@ workload_1 = record { prepare = 1; start = 1; stop = 1; end = end.Never }
 
 abbrev template_1 : Template
 template_1 = record {
-  workload = workload_1; cpu = 0; mem = 0; constraints = []; spread = []; platforms = []; max_replicas = 0;
-  networks = []; host_ports = [];
+  workload = workload_1;
+  cpu = 0;
+  mem = 0;
+  constraints = [];
+  spread = [];
+  platforms = [];
+  max_replicas = 0;
+  networks = [];
+  host_ports = [];
   restart = record { condition = condition.Any; delay = 5000; max_attempts = 0; window = 0 };
 }
 
 abbrev spec_1 : ServiceSpec
 spec_1 = record {
-  mode = mode.Replicated 1; template = template_1; ports = [];
+  mode = mode.Replicated 1;
+  template = template_1;
+  ports = [];
   update = record {
-    parallelism = 1; delay = 0; monitor = 5000; action = action.Pause; ratio = 0; order = order.StopFirst;
+    parallelism = 1;
+    delay = 0;
+    monitor = 5000;
+    action = action.Pause;
+    ratio = 0;
+    order = order.StopFirst;
   };
 }
 
@@ -72,7 +93,7 @@ abbrev pub journal : List Told
 journal =
     asked 0 (call.Txn (op.CreateNode (codes "r1") draft_1 ∷ [])) (reply.Txn (1 ∷ []))
     ∷ asked 0 (call.Txn (op.CreateService (codes "web") (record { spec = spec_1; networks = [] }) ∷ []))
-          (reply.Txn (2 ∷ []))
+    (reply.Txn (2 ∷ []))
     ∷ asked 0 (call.RemoteBegin (codes "r1") None None) (reply.SessionBegun 3 15000)
     ∷ did 0 (duty.ReplicatedCreate 2 1)
     ∷ did 0 (duty.Address 4)
@@ -90,40 +111,90 @@ abbrev pub world : World
 world = record {
   entries = 13;
   tables = record {
-    clock = 0; next_id = 7;
+    clock = 0;
+    next_id = 7;
     nodes =
-      record {
-        id = 1; version = 3; name = codes "r1"; labels = []; role = node_role.Worker;
-        availability = availability.Active; state = node_state.Ready; down_since = 0; cpu = 4000; mem = 8589934592;
-        os = codes "linux"; arch = codes "amd64"; engine = []; remote = true;
-      }
-      ∷ record {
-          id = 5; version = 9; name = codes "r2"; labels = []; role = node_role.Worker;
-          availability = availability.Active; state = node_state.Ready; down_since = 0; cpu = 4000; mem = 8589934592;
-          os = codes "linux"; arch = codes "amd64"; engine = []; remote = true;
+        record {
+          id = 1;
+          version = 3;
+          name = codes "r1";
+          labels = [];
+          role = node_role.Worker;
+          availability = availability.Active;
+          state = node_state.Ready;
+          down_since = 0;
+          cpu = 4000;
+          mem = 8589934592;
+          os = codes "linux";
+          arch = codes "amd64";
+          engine = [];
+          remote = true;
         }
-      ∷ [];
+        ∷ record {
+          id = 5;
+          version = 9;
+          name = codes "r2";
+          labels = [];
+          role = node_role.Worker;
+          availability = availability.Active;
+          state = node_state.Ready;
+          down_since = 0;
+          cpu = 4000;
+          mem = 8589934592;
+          os = codes "linux";
+          arch = codes "amd64";
+          engine = [];
+          remote = true;
+        }
+        ∷ [];
     services =
-      record {
-        id = 2; version = 2; name = codes "web"; spec = spec_1; previous = None; template_version = 2;
-        rolling_back = false; iteration = 0; numbers = []; run = None;
-      }
-      ∷ [];
+        record {
+          id = 2;
+          version = 2;
+          name = codes "web";
+          spec = spec_1;
+          previous = None;
+          template_version = 2;
+          rolling_back = false;
+          iteration = 0;
+          numbers = [];
+          run = None;
+        }
+        ∷ [];
     tasks =
-      record {
-        id = 4; version = 10; service = 2; place = Slot 1; iteration = 0; template = template_1; born = 2;
-        goal = desired.Running; node = Some 1; state = state.Running; since = 0; desired = desired.Running; created = 0;
-        raise_at = 0; addresses = []; note = note.Empty; closed = None;
-      }
-      ∷ [];
-    networks = []; attempts = [];
+        record {
+          id = 4;
+          version = 10;
+          service = 2;
+          place = Slot 1;
+          iteration = 0;
+          template = template_1;
+          born = 2;
+          goal = desired.Running;
+          node = Some 1;
+          state = state.Running;
+          since = 0;
+          desired = desired.Running;
+          created = 0;
+          raise_at = 0;
+          addresses = [];
+          note = note.Empty;
+          closed = None;
+        }
+        ∷ [];
+    networks = [];
+    attempts = [];
     sessions =
-      record { node = 1; session = record { id = 3; deadline = 15000; beat = 0 } }
-      ∷ record { node = 5; session = record { id = 6; deadline = 15000; beat = 0 } }
-      ∷ [];
+        record { node = 1; session = record { id = 3; deadline = 15000; beat = 0 } }
+        ∷ record { node = 5; session = record { id = 6; deadline = 15000; beat = 0 } }
+        ∷ [];
     settings = record { heartbeat = 5000; orphan = 86400000; history = 5 };
   };
-  sent = []; agents = []; watchers = []; events = []; halted = true;
+  sent = [];
+  agents = [];
+  watchers = [];
+  events = [];
+  halted = true;
 }
 
 abbrev pub history : List Entry

@@ -37,8 +37,15 @@ use Rattle.swarm_objects.specs.declared.templates.Workload.{Workload}
 
 abbrev draft_1 : NodeDraft
 draft_1 = record {
-  labels = []; role = node_role.Worker; availability = availability.Active; cpu = 4000; mem = 8589934592;
-  os = codes "linux"; arch = codes "amd64"; engine = []; remote = false;
+  labels = [];
+  role = node_role.Worker;
+  availability = availability.Active;
+  cpu = 4000;
+  mem = 8589934592;
+  os = codes "linux";
+  arch = codes "amd64";
+  engine = [];
+  remote = false;
 }
 
 abbrev workload_1 : Workload
@@ -46,16 +53,30 @@ workload_1 = record { prepare = 1; start = 1; stop = 1; end = end.Never }
 
 abbrev template_1 : Template
 template_1 = record {
-  workload = workload_1; cpu = 0; mem = 0; constraints = []; spread = []; platforms = []; max_replicas = 0;
-  networks = []; host_ports = [];
+  workload = workload_1;
+  cpu = 0;
+  mem = 0;
+  constraints = [];
+  spread = [];
+  platforms = [];
+  max_replicas = 0;
+  networks = [];
+  host_ports = [];
   restart = record { condition = condition.Never; delay = 5000; max_attempts = 0; window = 0 };
 }
 
 abbrev spec_1 : ServiceSpec
 spec_1 = record {
-  mode = mode.Replicated 4; template = template_1; ports = [];
+  mode = mode.Replicated 4;
+  template = template_1;
+  ports = [];
   update = record {
-    parallelism = 2; delay = 0; monitor = 5000; action = action.Pause; ratio = 0; order = order.StopFirst;
+    parallelism = 2;
+    delay = 0;
+    monitor = 5000;
+    action = action.Pause;
+    ratio = 0;
+    order = order.StopFirst;
   };
 }
 
@@ -64,16 +85,30 @@ workload_2 = record { prepare = 1; start = 1; stop = 1; end = end.Reject }
 
 abbrev template_2 : Template
 template_2 = record {
-  workload = workload_2; cpu = 0; mem = 0; constraints = []; spread = []; platforms = []; max_replicas = 0;
-  networks = []; host_ports = [];
+  workload = workload_2;
+  cpu = 0;
+  mem = 0;
+  constraints = [];
+  spread = [];
+  platforms = [];
+  max_replicas = 0;
+  networks = [];
+  host_ports = [];
   restart = record { condition = condition.Never; delay = 5000; max_attempts = 0; window = 0 };
 }
 
 abbrev spec_2 : ServiceSpec
 spec_2 = record {
-  mode = mode.Replicated 4; template = template_2; ports = [];
+  mode = mode.Replicated 4;
+  template = template_2;
+  ports = [];
   update = record {
-    parallelism = 2; delay = 0; monitor = 5000; action = action.Rollback; ratio = 0; order = order.StopFirst;
+    parallelism = 2;
+    delay = 0;
+    monitor = 5000;
+    action = action.Rollback;
+    ratio = 0;
+    order = order.StopFirst;
   };
 }
 
@@ -93,7 +128,7 @@ abbrev pub journal : List Told
 journal =
     asked 0 (call.Txn (op.CreateNode (codes "n1") draft_1 ∷ [])) (reply.Txn (1 ∷ []))
     ∷ asked 0 (call.Txn (op.CreateService (codes "web") (record { spec = spec_1; networks = [] }) ∷ []))
-          (reply.Txn (2 ∷ []))
+    (reply.Txn (2 ∷ []))
     ∷ did 0 (duty.ReplicatedCreate 2 1)
     ∷ did 0 (duty.ReplicatedCreate 2 2)
     ∷ did 0 (duty.ReplicatedCreate 2 3)
@@ -145,7 +180,7 @@ journal =
     ∷ did 0 (duty.Report 1 6)
     ∷ asked 0 (call.Tick 8) reply.Ticked
     ∷ asked 0 (call.Txn (op.UpdateService (codes "web") None (record { spec = spec_2; networks = [] }) ∷ []))
-          (reply.Txn (2 ∷ []))
+    (reply.Txn (2 ∷ []))
     ∷ did 0 (duty.Start 2)
     ∷ did 0 (duty.Replace 2 1)
     ∷ did 0 (duty.Replace 2 2)
@@ -220,11 +255,15 @@ journal =
     ∷ asked 0 (call.Tick 999) reply.Ticked
     ∷ asked 0 (call.Settle 100000) (reply.Settle 100000 settle.Settled)
     ∷ asked 0 (call.View query.ListServices) (reply.View (view.Services (
-        record {
-          id = 2; name = codes "web"; mode = mode.Replicated 4; running = 4; wanted = 4;
-          update = Some status.RollbackCompleted;
-        }
-        ∷ [])))
+    record {
+      id = 2;
+      name = codes "web";
+      mode = mode.Replicated 4;
+      running = 4;
+      wanted = 4;
+      update = Some status.RollbackCompleted;
+    }
+    ∷ [])))
     ∷ asked 0 call.Halt reply.HaltDone
     ∷ []
 
@@ -232,128 +271,316 @@ abbrev pub world : World
 world = record {
   entries = 128;
   tables = record {
-    clock = 10010; next_id = 12;
+    clock = 10010;
+    next_id = 12;
     nodes =
-      record {
-        id = 1; version = 15; name = codes "n1"; labels = []; role = node_role.Worker;
-        availability = availability.Active; state = node_state.Ready; down_since = 0; cpu = 4000; mem = 8589934592;
-        os = codes "linux"; arch = codes "amd64"; engine = []; remote = false;
-      }
-      ∷ [];
+        record {
+          id = 1;
+          version = 15;
+          name = codes "n1";
+          labels = [];
+          role = node_role.Worker;
+          availability = availability.Active;
+          state = node_state.Ready;
+          down_since = 0;
+          cpu = 4000;
+          mem = 8589934592;
+          os = codes "linux";
+          arch = codes "amd64";
+          engine = [];
+          remote = false;
+        }
+        ∷ [];
     services =
-      record {
-        id = 2; version = 119; name = codes "web"; spec = spec_1; previous = None; template_version = 84;
-        rolling_back = true; iteration = 0; numbers = [];
-        run = Some (record {
-          status = status.RollbackCompleted; version = 84; total = 2;
-          replaced =
-            record { place = Slot 1; task = 10; created = 11 }
-            ∷ record { place = Slot 2; task = 11; created = 11 }
-            ∷ [];
-        });
-      }
-      ∷ [];
+        record {
+          id = 2;
+          version = 119;
+          name = codes "web";
+          spec = spec_1;
+          previous = None;
+          template_version = 84;
+          rolling_back = true;
+          iteration = 0;
+          numbers = [];
+          run = Some (record {
+            status = status.RollbackCompleted;
+            version = 84;
+            total = 2;
+            replaced =
+                record { place = Slot 1; task = 10; created = 11 }
+                ∷ record { place = Slot 2; task = 11; created = 11 }
+                ∷ [];
+          });
+        }
+        ∷ [];
     tasks =
-      record {
-        id = 3; version = 74; service = 2; place = Slot 1; iteration = 0; template = template_1; born = 2;
-        goal = desired.Running; node = Some 1; state = state.Shutdown; since = 11; desired = desired.Shutdown;
-        created = 0; raise_at = 0; addresses = []; note = note.Empty; closed = None;
-      }
-      ∷ record {
-          id = 4; version = 78; service = 2; place = Slot 2; iteration = 0; template = template_1; born = 2;
-          goal = desired.Running; node = Some 1; state = state.Shutdown; since = 11; desired = desired.Shutdown;
-          created = 0; raise_at = 0; addresses = []; note = note.Empty; closed = None;
+        record {
+          id = 3;
+          version = 74;
+          service = 2;
+          place = Slot 1;
+          iteration = 0;
+          template = template_1;
+          born = 2;
+          goal = desired.Running;
+          node = Some 1;
+          state = state.Shutdown;
+          since = 11;
+          desired = desired.Shutdown;
+          created = 0;
+          raise_at = 0;
+          addresses = [];
+          note = note.Empty;
+          closed = None;
         }
-      ∷ record {
-          id = 5; version = 50; service = 2; place = Slot 3; iteration = 0; template = template_1; born = 2;
-          goal = desired.Running; node = Some 1; state = state.Running; since = 2; desired = desired.Running;
-          created = 0; raise_at = 0; addresses = []; note = note.Empty; closed = None;
+        ∷ record {
+          id = 4;
+          version = 78;
+          service = 2;
+          place = Slot 2;
+          iteration = 0;
+          template = template_1;
+          born = 2;
+          goal = desired.Running;
+          node = Some 1;
+          state = state.Shutdown;
+          since = 11;
+          desired = desired.Shutdown;
+          created = 0;
+          raise_at = 0;
+          addresses = [];
+          note = note.Empty;
+          closed = None;
         }
-      ∷ record {
-          id = 6; version = 51; service = 2; place = Slot 4; iteration = 0; template = template_1; born = 2;
-          goal = desired.Running; node = Some 1; state = state.Running; since = 2; desired = desired.Running;
-          created = 0; raise_at = 0; addresses = []; note = note.Empty; closed = None;
+        ∷ record {
+          id = 5;
+          version = 50;
+          service = 2;
+          place = Slot 3;
+          iteration = 0;
+          template = template_1;
+          born = 2;
+          goal = desired.Running;
+          node = Some 1;
+          state = state.Running;
+          since = 2;
+          desired = desired.Running;
+          created = 0;
+          raise_at = 0;
+          addresses = [];
+          note = note.Empty;
+          closed = None;
         }
-      ∷ record {
-          id = 8; version = 83; service = 2; place = Slot 1; iteration = 0; template = template_2; born = 53;
-          goal = desired.Running; node = Some 1; state = state.Rejected; since = 11; desired = desired.Shutdown;
-          created = 10; raise_at = 10; addresses = []; note = note.Empty; closed = Some closed.Condition;
+        ∷ record {
+          id = 6;
+          version = 51;
+          service = 2;
+          place = Slot 4;
+          iteration = 0;
+          template = template_1;
+          born = 2;
+          goal = desired.Running;
+          node = Some 1;
+          state = state.Running;
+          since = 2;
+          desired = desired.Running;
+          created = 0;
+          raise_at = 0;
+          addresses = [];
+          note = note.Empty;
+          closed = None;
         }
-      ∷ record {
-          id = 9; version = 96; service = 2; place = Slot 2; iteration = 0; template = template_2; born = 53;
-          goal = desired.Running; node = Some 1; state = state.Rejected; since = 11; desired = desired.Shutdown;
-          created = 10; raise_at = 10; addresses = []; note = note.Empty; closed = None;
+        ∷ record {
+          id = 8;
+          version = 83;
+          service = 2;
+          place = Slot 1;
+          iteration = 0;
+          template = template_2;
+          born = 53;
+          goal = desired.Running;
+          node = Some 1;
+          state = state.Rejected;
+          since = 11;
+          desired = desired.Shutdown;
+          created = 10;
+          raise_at = 10;
+          addresses = [];
+          note = note.Empty;
+          closed = Some closed.Condition;
         }
-      ∷ record {
-          id = 10; version = 112; service = 2; place = Slot 1; iteration = 0; template = template_1; born = 84;
-          goal = desired.Running; node = Some 1; state = state.Running; since = 13; desired = desired.Running;
-          created = 11; raise_at = 11; addresses = []; note = note.Empty; closed = None;
+        ∷ record {
+          id = 9;
+          version = 96;
+          service = 2;
+          place = Slot 2;
+          iteration = 0;
+          template = template_2;
+          born = 53;
+          goal = desired.Running;
+          node = Some 1;
+          state = state.Rejected;
+          since = 11;
+          desired = desired.Shutdown;
+          created = 10;
+          raise_at = 10;
+          addresses = [];
+          note = note.Empty;
+          closed = None;
         }
-      ∷ record {
-          id = 11; version = 113; service = 2; place = Slot 2; iteration = 0; template = template_1; born = 84;
-          goal = desired.Running; node = Some 1; state = state.Running; since = 13; desired = desired.Running;
-          created = 11; raise_at = 11; addresses = []; note = note.Empty; closed = None;
+        ∷ record {
+          id = 10;
+          version = 112;
+          service = 2;
+          place = Slot 1;
+          iteration = 0;
+          template = template_1;
+          born = 84;
+          goal = desired.Running;
+          node = Some 1;
+          state = state.Running;
+          since = 13;
+          desired = desired.Running;
+          created = 11;
+          raise_at = 11;
+          addresses = [];
+          note = note.Empty;
+          closed = None;
         }
-      ∷ [];
-    networks = []; attempts = [];
+        ∷ record {
+          id = 11;
+          version = 113;
+          service = 2;
+          place = Slot 2;
+          iteration = 0;
+          template = template_1;
+          born = 84;
+          goal = desired.Running;
+          node = Some 1;
+          state = state.Running;
+          since = 13;
+          desired = desired.Running;
+          created = 11;
+          raise_at = 11;
+          addresses = [];
+          note = note.Empty;
+          closed = None;
+        }
+        ∷ [];
+    networks = [];
+    attempts = [];
     sessions = record { node = 1; session = record { id = 7; deadline = 20011; beat = 5011 } } ∷ [];
     settings = record { heartbeat = 5000; orphan = 86400000; history = 5 };
   };
   sent =
-    record {
-      node = 1; count = 6;
-      tasks =
-        record { task = 3; desired = desired.Shutdown; workload = workload_1 }
-        ∷ record { task = 4; desired = desired.Shutdown; workload = workload_1 }
-        ∷ record { task = 5; desired = desired.Running; workload = workload_1 }
-        ∷ record { task = 6; desired = desired.Running; workload = workload_1 }
-        ∷ record { task = 8; desired = desired.Shutdown; workload = workload_2 }
-        ∷ record { task = 9; desired = desired.Shutdown; workload = workload_2 }
-        ∷ record { task = 10; desired = desired.Running; workload = workload_1 }
-        ∷ record { task = 11; desired = desired.Running; workload = workload_1 }
-        ∷ [];
-    }
-    ∷ [];
+      record {
+        node = 1;
+        count = 6;
+        tasks =
+            record { task = 3; desired = desired.Shutdown; workload = workload_1 }
+            ∷ record { task = 4; desired = desired.Shutdown; workload = workload_1 }
+            ∷ record { task = 5; desired = desired.Running; workload = workload_1 }
+            ∷ record { task = 6; desired = desired.Running; workload = workload_1 }
+            ∷ record { task = 8; desired = desired.Shutdown; workload = workload_2 }
+            ∷ record { task = 9; desired = desired.Shutdown; workload = workload_2 }
+            ∷ record { task = 10; desired = desired.Running; workload = workload_1 }
+            ∷ record { task = 11; desired = desired.Running; workload = workload_1 }
+            ∷ [];
+      }
+      ∷ [];
   agents =
-    record {
-      node = 1; mode = agent_mode.On; inbox = None; applied = 6;
-      executors =
-        record {
-          task = 3; desired = desired.Shutdown; workload = workload_1; state = state.Shutdown; since = 11;
-          stopping = Some 11; reported = Some state.Shutdown; gone = false;
-        }
-        ∷ record {
-            task = 4; desired = desired.Shutdown; workload = workload_1; state = state.Shutdown; since = 11;
-            stopping = Some 11; reported = Some state.Shutdown; gone = false;
-          }
-        ∷ record {
-            task = 5; desired = desired.Running; workload = workload_1; state = state.Running; since = 2;
-            stopping = None; reported = Some state.Running; gone = false;
-          }
-        ∷ record {
-            task = 6; desired = desired.Running; workload = workload_1; state = state.Running; since = 2;
-            stopping = None; reported = Some state.Running; gone = false;
-          }
-        ∷ record {
-            task = 8; desired = desired.Shutdown; workload = workload_2; state = state.Rejected; since = 11;
-            stopping = None; reported = Some state.Rejected; gone = false;
-          }
-        ∷ record {
-            task = 9; desired = desired.Shutdown; workload = workload_2; state = state.Rejected; since = 11;
-            stopping = None; reported = Some state.Rejected; gone = false;
-          }
-        ∷ record {
-            task = 10; desired = desired.Running; workload = workload_1; state = state.Running; since = 13;
-            stopping = None; reported = Some state.Running; gone = false;
-          }
-        ∷ record {
-            task = 11; desired = desired.Running; workload = workload_1; state = state.Running; since = 13;
-            stopping = None; reported = Some state.Running; gone = false;
-          }
-        ∷ [];
-    }
-    ∷ [];
-  watchers = []; events = []; halted = true;
+      record {
+        node = 1;
+        mode = agent_mode.On;
+        inbox = None;
+        applied = 6;
+        executors =
+            record {
+              task = 3;
+              desired = desired.Shutdown;
+              workload = workload_1;
+              state = state.Shutdown;
+              since = 11;
+              stopping = Some 11;
+              reported = Some state.Shutdown;
+              gone = false;
+            }
+            ∷ record {
+              task = 4;
+              desired = desired.Shutdown;
+              workload = workload_1;
+              state = state.Shutdown;
+              since = 11;
+              stopping = Some 11;
+              reported = Some state.Shutdown;
+              gone = false;
+            }
+            ∷ record {
+              task = 5;
+              desired = desired.Running;
+              workload = workload_1;
+              state = state.Running;
+              since = 2;
+              stopping = None;
+              reported = Some state.Running;
+              gone = false;
+            }
+            ∷ record {
+              task = 6;
+              desired = desired.Running;
+              workload = workload_1;
+              state = state.Running;
+              since = 2;
+              stopping = None;
+              reported = Some state.Running;
+              gone = false;
+            }
+            ∷ record {
+              task = 8;
+              desired = desired.Shutdown;
+              workload = workload_2;
+              state = state.Rejected;
+              since = 11;
+              stopping = None;
+              reported = Some state.Rejected;
+              gone = false;
+            }
+            ∷ record {
+              task = 9;
+              desired = desired.Shutdown;
+              workload = workload_2;
+              state = state.Rejected;
+              since = 11;
+              stopping = None;
+              reported = Some state.Rejected;
+              gone = false;
+            }
+            ∷ record {
+              task = 10;
+              desired = desired.Running;
+              workload = workload_1;
+              state = state.Running;
+              since = 13;
+              stopping = None;
+              reported = Some state.Running;
+              gone = false;
+            }
+            ∷ record {
+              task = 11;
+              desired = desired.Running;
+              workload = workload_1;
+              state = state.Running;
+              since = 13;
+              stopping = None;
+              reported = Some state.Running;
+              gone = false;
+            }
+            ∷ [];
+      }
+      ∷ [];
+  watchers = [];
+  events = [];
+  halted = true;
 }
 
 abbrev pub history : List Entry

@@ -38,14 +38,28 @@ use Rattle.swarm_objects.specs.declared.views.Shown.TheVariants as by
 
 abbrev draft_1 : NodeDraft
 draft_1 = record {
-  labels = (codes "zone", codes "a") ∷ []; role = node_role.Worker; availability = availability.Active; cpu = 4000;
-  mem = 8589934592; os = codes "linux"; arch = codes "amd64"; engine = []; remote = false;
+  labels = (codes "zone", codes "a") ∷ [];
+  role = node_role.Worker;
+  availability = availability.Active;
+  cpu = 4000;
+  mem = 8589934592;
+  os = codes "linux";
+  arch = codes "amd64";
+  engine = [];
+  remote = false;
 }
 
 abbrev draft_2 : NodeDraft
 draft_2 = record {
-  labels = (codes "zone", codes "b") ∷ []; role = node_role.Worker; availability = availability.Active; cpu = 4000;
-  mem = 8589934592; os = codes "linux"; arch = codes "amd64"; engine = []; remote = false;
+  labels = (codes "zone", codes "b") ∷ [];
+  role = node_role.Worker;
+  availability = availability.Active;
+  cpu = 4000;
+  mem = 8589934592;
+  os = codes "linux";
+  arch = codes "amd64";
+  engine = [];
+  remote = false;
 }
 
 abbrev workload_1 : Workload
@@ -53,16 +67,30 @@ workload_1 = record { prepare = 1; start = 1; stop = 1; end = end.Never }
 
 abbrev template_1 : Template
 template_1 = record {
-  workload = workload_1; cpu = 0; mem = 0; constraints = []; spread = key.Label (codes "zone") ∷ []; platforms = [];
-  max_replicas = 0; networks = []; host_ports = [];
+  workload = workload_1;
+  cpu = 0;
+  mem = 0;
+  constraints = [];
+  spread = key.Label (codes "zone") ∷ [];
+  platforms = [];
+  max_replicas = 0;
+  networks = [];
+  host_ports = [];
   restart = record { condition = condition.Any; delay = 5000; max_attempts = 0; window = 0 };
 }
 
 abbrev spec_1 : ServiceSpec
 spec_1 = record {
-  mode = mode.Replicated 4; template = template_1; ports = [];
+  mode = mode.Replicated 4;
+  template = template_1;
+  ports = [];
   update = record {
-    parallelism = 1; delay = 0; monitor = 5000; action = action.Pause; ratio = 0; order = order.StopFirst;
+    parallelism = 1;
+    delay = 0;
+    monitor = 5000;
+    action = action.Pause;
+    ratio = 0;
+    order = order.StopFirst;
   };
 }
 
@@ -99,7 +127,7 @@ journal =
     ∷ did 0 (duty.Apply 4)
     ∷ asked 0 (call.Settle 100000) (reply.Settle 100000 settle.Settled)
     ∷ asked 0 (call.Txn (op.CreateService (codes "web") (record { spec = spec_1; networks = [] }) ∷ []))
-          (reply.Txn (9 ∷ []))
+    (reply.Txn (9 ∷ []))
     ∷ did 0 (duty.ReplicatedCreate 9 1)
     ∷ did 0 (duty.ReplicatedCreate 9 2)
     ∷ did 0 (duty.ReplicatedCreate 9 3)
@@ -150,23 +178,43 @@ journal =
     ∷ did 0 (duty.Report 4 13)
     ∷ asked 0 (call.Tick 8) reply.Ticked
     ∷ asked 0 (call.View (query.ListTasks None)) (reply.View (view.Tasks (
-        record {
-          id = 10; service = by.Name (codes "web"); place = place_shown.Slot 1; node = Some (by.Name (codes "n1"));
-          state = state.Running; desired = desired.Running; note = note_shown.Empty;
-        }
-        ∷ record {
-            id = 11; service = by.Name (codes "web"); place = place_shown.Slot 2; node = Some (by.Name (codes "n4"));
-            state = state.Running; desired = desired.Running; note = note_shown.Empty;
-          }
-        ∷ record {
-            id = 12; service = by.Name (codes "web"); place = place_shown.Slot 3; node = Some (by.Name (codes "n2"));
-            state = state.Running; desired = desired.Running; note = note_shown.Empty;
-          }
-        ∷ record {
-            id = 13; service = by.Name (codes "web"); place = place_shown.Slot 4; node = Some (by.Name (codes "n4"));
-            state = state.Running; desired = desired.Running; note = note_shown.Empty;
-          }
-        ∷ [])))
+    record {
+      id = 10;
+      service = by.Name (codes "web");
+      place = place_shown.Slot 1;
+      node = Some (by.Name (codes "n1"));
+      state = state.Running;
+      desired = desired.Running;
+      note = note_shown.Empty;
+    }
+    ∷ record {
+      id = 11;
+      service = by.Name (codes "web");
+      place = place_shown.Slot 2;
+      node = Some (by.Name (codes "n4"));
+      state = state.Running;
+      desired = desired.Running;
+      note = note_shown.Empty;
+    }
+    ∷ record {
+      id = 12;
+      service = by.Name (codes "web");
+      place = place_shown.Slot 3;
+      node = Some (by.Name (codes "n2"));
+      state = state.Running;
+      desired = desired.Running;
+      note = note_shown.Empty;
+    }
+    ∷ record {
+      id = 13;
+      service = by.Name (codes "web");
+      place = place_shown.Slot 4;
+      node = Some (by.Name (codes "n4"));
+      state = state.Running;
+      desired = desired.Running;
+      note = note_shown.Empty;
+    }
+    ∷ [])))
     ∷ asked 0 call.Halt reply.HaltDone
     ∷ []
 
@@ -174,115 +222,263 @@ abbrev pub world : World
 world = record {
   entries = 69;
   tables = record {
-    clock = 10; next_id = 14;
+    clock = 10;
+    next_id = 14;
     nodes =
-      record {
-        id = 1; version = 5; name = codes "n1"; labels = (codes "zone", codes "a") ∷ []; role = node_role.Worker;
-        availability = availability.Active; state = node_state.Ready; down_since = 0; cpu = 4000; mem = 8589934592;
-        os = codes "linux"; arch = codes "amd64"; engine = []; remote = false;
-      }
-      ∷ record {
-          id = 2; version = 8; name = codes "n2"; labels = (codes "zone", codes "a") ∷ []; role = node_role.Worker;
-          availability = availability.Active; state = node_state.Ready; down_since = 0; cpu = 4000; mem = 8589934592;
-          os = codes "linux"; arch = codes "amd64"; engine = []; remote = false;
+        record {
+          id = 1;
+          version = 5;
+          name = codes "n1";
+          labels = (codes "zone", codes "a") ∷ [];
+          role = node_role.Worker;
+          availability = availability.Active;
+          state = node_state.Ready;
+          down_since = 0;
+          cpu = 4000;
+          mem = 8589934592;
+          os = codes "linux";
+          arch = codes "amd64";
+          engine = [];
+          remote = false;
         }
-      ∷ record {
-          id = 3; version = 11; name = codes "n3"; labels = (codes "zone", codes "a") ∷ []; role = node_role.Worker;
-          availability = availability.Active; state = node_state.Ready; down_since = 0; cpu = 4000; mem = 8589934592;
-          os = codes "linux"; arch = codes "amd64"; engine = []; remote = false;
+        ∷ record {
+          id = 2;
+          version = 8;
+          name = codes "n2";
+          labels = (codes "zone", codes "a") ∷ [];
+          role = node_role.Worker;
+          availability = availability.Active;
+          state = node_state.Ready;
+          down_since = 0;
+          cpu = 4000;
+          mem = 8589934592;
+          os = codes "linux";
+          arch = codes "amd64";
+          engine = [];
+          remote = false;
         }
-      ∷ record {
-          id = 4; version = 14; name = codes "n4"; labels = (codes "zone", codes "b") ∷ []; role = node_role.Worker;
-          availability = availability.Active; state = node_state.Ready; down_since = 0; cpu = 4000; mem = 8589934592;
-          os = codes "linux"; arch = codes "amd64"; engine = []; remote = false;
+        ∷ record {
+          id = 3;
+          version = 11;
+          name = codes "n3";
+          labels = (codes "zone", codes "a") ∷ [];
+          role = node_role.Worker;
+          availability = availability.Active;
+          state = node_state.Ready;
+          down_since = 0;
+          cpu = 4000;
+          mem = 8589934592;
+          os = codes "linux";
+          arch = codes "amd64";
+          engine = [];
+          remote = false;
         }
-      ∷ [];
+        ∷ record {
+          id = 4;
+          version = 14;
+          name = codes "n4";
+          labels = (codes "zone", codes "b") ∷ [];
+          role = node_role.Worker;
+          availability = availability.Active;
+          state = node_state.Ready;
+          down_since = 0;
+          cpu = 4000;
+          mem = 8589934592;
+          os = codes "linux";
+          arch = codes "amd64";
+          engine = [];
+          remote = false;
+        }
+        ∷ [];
     services =
-      record {
-        id = 9; version = 18; name = codes "web"; spec = spec_1; previous = None; template_version = 18;
-        rolling_back = false; iteration = 0; numbers = []; run = None;
-      }
-      ∷ [];
+        record {
+          id = 9;
+          version = 18;
+          name = codes "web";
+          spec = spec_1;
+          previous = None;
+          template_version = 18;
+          rolling_back = false;
+          iteration = 0;
+          numbers = [];
+          run = None;
+        }
+        ∷ [];
     tasks =
-      record {
-        id = 10; version = 60; service = 9; place = Slot 1; iteration = 0; template = template_1; born = 18;
-        goal = desired.Running; node = Some 1; state = state.Running; since = 2; desired = desired.Running; created = 0;
-        raise_at = 0; addresses = []; note = note.Empty; closed = None;
-      }
-      ∷ record {
-          id = 11; version = 65; service = 9; place = Slot 2; iteration = 0; template = template_1; born = 18;
-          goal = desired.Running; node = Some 4; state = state.Running; since = 2; desired = desired.Running;
-          created = 0; raise_at = 0; addresses = []; note = note.Empty; closed = None;
+        record {
+          id = 10;
+          version = 60;
+          service = 9;
+          place = Slot 1;
+          iteration = 0;
+          template = template_1;
+          born = 18;
+          goal = desired.Running;
+          node = Some 1;
+          state = state.Running;
+          since = 2;
+          desired = desired.Running;
+          created = 0;
+          raise_at = 0;
+          addresses = [];
+          note = note.Empty;
+          closed = None;
         }
-      ∷ record {
-          id = 12; version = 62; service = 9; place = Slot 3; iteration = 0; template = template_1; born = 18;
-          goal = desired.Running; node = Some 2; state = state.Running; since = 2; desired = desired.Running;
-          created = 0; raise_at = 0; addresses = []; note = note.Empty; closed = None;
+        ∷ record {
+          id = 11;
+          version = 65;
+          service = 9;
+          place = Slot 2;
+          iteration = 0;
+          template = template_1;
+          born = 18;
+          goal = desired.Running;
+          node = Some 4;
+          state = state.Running;
+          since = 2;
+          desired = desired.Running;
+          created = 0;
+          raise_at = 0;
+          addresses = [];
+          note = note.Empty;
+          closed = None;
         }
-      ∷ record {
-          id = 13; version = 66; service = 9; place = Slot 4; iteration = 0; template = template_1; born = 18;
-          goal = desired.Running; node = Some 4; state = state.Running; since = 2; desired = desired.Running;
-          created = 0; raise_at = 0; addresses = []; note = note.Empty; closed = None;
+        ∷ record {
+          id = 12;
+          version = 62;
+          service = 9;
+          place = Slot 3;
+          iteration = 0;
+          template = template_1;
+          born = 18;
+          goal = desired.Running;
+          node = Some 2;
+          state = state.Running;
+          since = 2;
+          desired = desired.Running;
+          created = 0;
+          raise_at = 0;
+          addresses = [];
+          note = note.Empty;
+          closed = None;
         }
-      ∷ [];
-    networks = []; attempts = [];
+        ∷ record {
+          id = 13;
+          version = 66;
+          service = 9;
+          place = Slot 4;
+          iteration = 0;
+          template = template_1;
+          born = 18;
+          goal = desired.Running;
+          node = Some 4;
+          state = state.Running;
+          since = 2;
+          desired = desired.Running;
+          created = 0;
+          raise_at = 0;
+          addresses = [];
+          note = note.Empty;
+          closed = None;
+        }
+        ∷ [];
+    networks = [];
+    attempts = [];
     sessions =
-      record { node = 1; session = record { id = 5; deadline = 15000; beat = 0 } }
-      ∷ record { node = 2; session = record { id = 6; deadline = 15000; beat = 0 } }
-      ∷ record { node = 3; session = record { id = 7; deadline = 15000; beat = 0 } }
-      ∷ record { node = 4; session = record { id = 8; deadline = 15000; beat = 0 } }
-      ∷ [];
+        record { node = 1; session = record { id = 5; deadline = 15000; beat = 0 } }
+        ∷ record { node = 2; session = record { id = 6; deadline = 15000; beat = 0 } }
+        ∷ record { node = 3; session = record { id = 7; deadline = 15000; beat = 0 } }
+        ∷ record { node = 4; session = record { id = 8; deadline = 15000; beat = 0 } }
+        ∷ [];
     settings = record { heartbeat = 5000; orphan = 86400000; history = 5 };
   };
   sent =
-    record { node = 1; count = 2; tasks = record { task = 10; desired = desired.Running; workload = workload_1 } ∷ [] }
-    ∷ record {
-        node = 2; count = 2; tasks = record { task = 12; desired = desired.Running; workload = workload_1 } ∷ [];
+      record { node = 1; count = 2; tasks = record { task = 10; desired = desired.Running; workload = workload_1 } ∷ [] }
+      ∷ record {
+        node = 2;
+        count = 2;
+        tasks = record { task = 12; desired = desired.Running; workload = workload_1 } ∷ [];
       }
-    ∷ record { node = 3; count = 1; tasks = [] }
-    ∷ record {
-        node = 4; count = 2;
+      ∷ record { node = 3; count = 1; tasks = [] }
+      ∷ record {
+        node = 4;
+        count = 2;
         tasks =
-          record { task = 11; desired = desired.Running; workload = workload_1 }
-          ∷ record { task = 13; desired = desired.Running; workload = workload_1 }
-          ∷ [];
+            record { task = 11; desired = desired.Running; workload = workload_1 }
+            ∷ record { task = 13; desired = desired.Running; workload = workload_1 }
+            ∷ [];
       }
-    ∷ [];
+      ∷ [];
   agents =
-    record {
-      node = 1; mode = agent_mode.On; inbox = None; applied = 2;
-      executors =
-        record {
-          task = 10; desired = desired.Running; workload = workload_1; state = state.Running; since = 2;
-          stopping = None; reported = Some state.Running; gone = false;
-        }
-        ∷ [];
-    }
-    ∷ record {
-        node = 2; mode = agent_mode.On; inbox = None; applied = 2;
+      record {
+        node = 1;
+        mode = agent_mode.On;
+        inbox = None;
+        applied = 2;
         executors =
-          record {
-            task = 12; desired = desired.Running; workload = workload_1; state = state.Running; since = 2;
-            stopping = None; reported = Some state.Running; gone = false;
-          }
-          ∷ [];
-      }
-    ∷ record { node = 3; mode = agent_mode.On; inbox = None; applied = 1; executors = [] }
-    ∷ record {
-        node = 4; mode = agent_mode.On; inbox = None; applied = 2;
-        executors =
-          record {
-            task = 11; desired = desired.Running; workload = workload_1; state = state.Running; since = 2;
-            stopping = None; reported = Some state.Running; gone = false;
-          }
-          ∷ record {
-              task = 13; desired = desired.Running; workload = workload_1; state = state.Running; since = 2;
-              stopping = None; reported = Some state.Running; gone = false;
+            record {
+              task = 10;
+              desired = desired.Running;
+              workload = workload_1;
+              state = state.Running;
+              since = 2;
+              stopping = None;
+              reported = Some state.Running;
+              gone = false;
             }
-          ∷ [];
+            ∷ [];
       }
-    ∷ [];
-  watchers = []; events = []; halted = true;
+      ∷ record {
+        node = 2;
+        mode = agent_mode.On;
+        inbox = None;
+        applied = 2;
+        executors =
+            record {
+              task = 12;
+              desired = desired.Running;
+              workload = workload_1;
+              state = state.Running;
+              since = 2;
+              stopping = None;
+              reported = Some state.Running;
+              gone = false;
+            }
+            ∷ [];
+      }
+      ∷ record { node = 3; mode = agent_mode.On; inbox = None; applied = 1; executors = [] }
+      ∷ record {
+        node = 4;
+        mode = agent_mode.On;
+        inbox = None;
+        applied = 2;
+        executors =
+            record {
+              task = 11;
+              desired = desired.Running;
+              workload = workload_1;
+              state = state.Running;
+              since = 2;
+              stopping = None;
+              reported = Some state.Running;
+              gone = false;
+            }
+            ∷ record {
+              task = 13;
+              desired = desired.Running;
+              workload = workload_1;
+              state = state.Running;
+              since = 2;
+              stopping = None;
+              reported = Some state.Running;
+              gone = false;
+            }
+            ∷ [];
+      }
+      ∷ [];
+  watchers = [];
+  events = [];
+  halted = true;
 }
 
 abbrev pub history : List Entry

@@ -38,8 +38,15 @@ use Rattle.swarm_objects.specs.declared.views.Shown.TheVariants as by
 
 abbrev draft_1 : NodeDraft
 draft_1 = record {
-  labels = []; role = node_role.Worker; availability = availability.Active; cpu = 2000; mem = 1073741824;
-  os = codes "linux"; arch = codes "amd64"; engine = []; remote = false;
+  labels = [];
+  role = node_role.Worker;
+  availability = availability.Active;
+  cpu = 2000;
+  mem = 1073741824;
+  os = codes "linux";
+  arch = codes "amd64";
+  engine = [];
+  remote = false;
 }
 
 abbrev workload_1 : Workload
@@ -47,16 +54,30 @@ workload_1 = record { prepare = 1; start = 1; stop = 1; end = end.Never }
 
 abbrev template_1 : Template
 template_1 = record {
-  workload = workload_1; cpu = 0; mem = 0; constraints = []; spread = []; platforms = []; max_replicas = 0;
-  networks = []; host_ports = [];
+  workload = workload_1;
+  cpu = 0;
+  mem = 0;
+  constraints = [];
+  spread = [];
+  platforms = [];
+  max_replicas = 0;
+  networks = [];
+  host_ports = [];
   restart = record { condition = condition.Any; delay = 5000; max_attempts = 0; window = 0 };
 }
 
 abbrev spec_1 : ServiceSpec
 spec_1 = record {
-  mode = mode.Replicated 2; template = template_1; ports = [];
+  mode = mode.Replicated 2;
+  template = template_1;
+  ports = [];
   update = record {
-    parallelism = 1; delay = 0; monitor = 5000; action = action.Pause; ratio = 0; order = order.StopFirst;
+    parallelism = 1;
+    delay = 0;
+    monitor = 5000;
+    action = action.Pause;
+    ratio = 0;
+    order = order.StopFirst;
   };
 }
 
@@ -74,7 +95,7 @@ abbrev pub journal : List Told
 journal =
     asked 0 (call.Txn (op.CreateNode (codes "n1") draft_1 ∷ [])) (reply.Txn (1 ∷ []))
     ∷ asked 0 (call.Txn (op.CreateService (codes "web") (record { spec = spec_1; networks = [] }) ∷ []))
-          (reply.Txn (2 ∷ []))
+    (reply.Txn (2 ∷ []))
     ∷ did 0 (duty.ReplicatedCreate 2 1)
     ∷ did 0 (duty.ReplicatedCreate 2 2)
     ∷ did 0 (duty.Address 3)
@@ -105,15 +126,25 @@ journal =
     ∷ asked 0 (call.Tick 8) reply.Ticked
     ∷ asked 0 (call.Settle 100000) (reply.Settle 100000 settle.Settled)
     ∷ asked 0 (call.View (query.ListTasks None)) (reply.View (view.Tasks (
-        record {
-          id = 3; service = by.Name (codes "web"); place = place_shown.Slot 1; node = Some (by.Name (codes "n1"));
-          state = state.Running; desired = desired.Running; note = note_shown.Empty;
-        }
-        ∷ record {
-            id = 4; service = by.Name (codes "web"); place = place_shown.Slot 2; node = Some (by.Name (codes "n1"));
-            state = state.Running; desired = desired.Running; note = note_shown.Empty;
-          }
-        ∷ [])))
+    record {
+      id = 3;
+      service = by.Name (codes "web");
+      place = place_shown.Slot 1;
+      node = Some (by.Name (codes "n1"));
+      state = state.Running;
+      desired = desired.Running;
+      note = note_shown.Empty;
+    }
+    ∷ record {
+      id = 4;
+      service = by.Name (codes "web");
+      place = place_shown.Slot 2;
+      node = Some (by.Name (codes "n1"));
+      state = state.Running;
+      desired = desired.Running;
+      note = note_shown.Empty;
+    }
+    ∷ [])))
     ∷ asked 0 call.Halt reply.HaltDone
     ∷ []
 
@@ -121,61 +152,128 @@ abbrev pub world : World
 world = record {
   entries = 33;
   tables = record {
-    clock = 10; next_id = 6;
+    clock = 10;
+    next_id = 6;
     nodes =
-      record {
-        id = 1; version = 9; name = codes "n1"; labels = []; role = node_role.Worker;
-        availability = availability.Active; state = node_state.Ready; down_since = 0; cpu = 2000; mem = 1073741824;
-        os = codes "linux"; arch = codes "amd64"; engine = []; remote = false;
-      }
-      ∷ [];
-    services =
-      record {
-        id = 2; version = 2; name = codes "web"; spec = spec_1; previous = None; template_version = 2;
-        rolling_back = false; iteration = 0; numbers = []; run = None;
-      }
-      ∷ [];
-    tasks =
-      record {
-        id = 3; version = 28; service = 2; place = Slot 1; iteration = 0; template = template_1; born = 2;
-        goal = desired.Running; node = Some 1; state = state.Running; since = 2; desired = desired.Running; created = 0;
-        raise_at = 0; addresses = []; note = note.Empty; closed = None;
-      }
-      ∷ record {
-          id = 4; version = 29; service = 2; place = Slot 2; iteration = 0; template = template_1; born = 2;
-          goal = desired.Running; node = Some 1; state = state.Running; since = 2; desired = desired.Running;
-          created = 0; raise_at = 0; addresses = []; note = note.Empty; closed = None;
+        record {
+          id = 1;
+          version = 9;
+          name = codes "n1";
+          labels = [];
+          role = node_role.Worker;
+          availability = availability.Active;
+          state = node_state.Ready;
+          down_since = 0;
+          cpu = 2000;
+          mem = 1073741824;
+          os = codes "linux";
+          arch = codes "amd64";
+          engine = [];
+          remote = false;
         }
-      ∷ [];
-    networks = []; attempts = [];
+        ∷ [];
+    services =
+        record {
+          id = 2;
+          version = 2;
+          name = codes "web";
+          spec = spec_1;
+          previous = None;
+          template_version = 2;
+          rolling_back = false;
+          iteration = 0;
+          numbers = [];
+          run = None;
+        }
+        ∷ [];
+    tasks =
+        record {
+          id = 3;
+          version = 28;
+          service = 2;
+          place = Slot 1;
+          iteration = 0;
+          template = template_1;
+          born = 2;
+          goal = desired.Running;
+          node = Some 1;
+          state = state.Running;
+          since = 2;
+          desired = desired.Running;
+          created = 0;
+          raise_at = 0;
+          addresses = [];
+          note = note.Empty;
+          closed = None;
+        }
+        ∷ record {
+          id = 4;
+          version = 29;
+          service = 2;
+          place = Slot 2;
+          iteration = 0;
+          template = template_1;
+          born = 2;
+          goal = desired.Running;
+          node = Some 1;
+          state = state.Running;
+          since = 2;
+          desired = desired.Running;
+          created = 0;
+          raise_at = 0;
+          addresses = [];
+          note = note.Empty;
+          closed = None;
+        }
+        ∷ [];
+    networks = [];
+    attempts = [];
     sessions = record { node = 1; session = record { id = 5; deadline = 15000; beat = 0 } } ∷ [];
     settings = record { heartbeat = 5000; orphan = 86400000; history = 5 };
   };
   sent =
-    record {
-      node = 1; count = 1;
-      tasks =
-        record { task = 3; desired = desired.Running; workload = workload_1 }
-        ∷ record { task = 4; desired = desired.Running; workload = workload_1 }
-        ∷ [];
-    }
-    ∷ [];
+      record {
+        node = 1;
+        count = 1;
+        tasks =
+            record { task = 3; desired = desired.Running; workload = workload_1 }
+            ∷ record { task = 4; desired = desired.Running; workload = workload_1 }
+            ∷ [];
+      }
+      ∷ [];
   agents =
-    record {
-      node = 1; mode = agent_mode.On; inbox = None; applied = 1;
-      executors =
-        record {
-          task = 3; desired = desired.Running; workload = workload_1; state = state.Running; since = 2; stopping = None;
-          reported = Some state.Running; gone = false;
-        }
-        ∷ record {
-            task = 4; desired = desired.Running; workload = workload_1; state = state.Running; since = 2;
-            stopping = None; reported = Some state.Running; gone = false;
-          }
-        ∷ [];
-    }
-    ∷ [];
-  watchers = []; events = []; halted = true;
+      record {
+        node = 1;
+        mode = agent_mode.On;
+        inbox = None;
+        applied = 1;
+        executors =
+            record {
+              task = 3;
+              desired = desired.Running;
+              workload = workload_1;
+              state = state.Running;
+              since = 2;
+              stopping = None;
+              reported = Some state.Running;
+              gone = false;
+            }
+            ∷ record {
+              task = 4;
+              desired = desired.Running;
+              workload = workload_1;
+              state = state.Running;
+              since = 2;
+              stopping = None;
+              reported = Some state.Running;
+              gone = false;
+            }
+            ∷ [];
+      }
+      ∷ [];
+  watchers = [];
+  events = [];
+  halted = true;
 }
 
 abbrev pub history : List Entry

@@ -25,24 +25,45 @@ workload_1 = record { prepare = 1; start = 1; stop = 1; end = end.Never }
 
 abbrev template_1 : Template
 template_1 = record {
-  workload = workload_1; cpu = 0; mem = 0; constraints = []; spread = []; platforms = []; max_replicas = 0;
-  networks = []; host_ports = [];
+  workload = workload_1;
+  cpu = 0;
+  mem = 0;
+  constraints = [];
+  spread = [];
+  platforms = [];
+  max_replicas = 0;
+  networks = [];
+  host_ports = [];
   restart = record { condition = condition.Any; delay = 5000; max_attempts = 0; window = 0 };
 }
 
 abbrev spec_1 : ServiceSpec
 spec_1 = record {
-  mode = mode.Replicated 1; template = template_1; ports = [];
+  mode = mode.Replicated 1;
+  template = template_1;
+  ports = [];
   update = record {
-    parallelism = 1; delay = 0; monitor = 5000; action = action.Pause; ratio = 0; order = order.StopFirst;
+    parallelism = 1;
+    delay = 0;
+    monitor = 5000;
+    action = action.Pause;
+    ratio = 0;
+    order = order.StopFirst;
   };
 }
 
 abbrev spec_2 : ServiceSpec
 spec_2 = record {
-  mode = mode.Replicated 3; template = template_1; ports = [];
+  mode = mode.Replicated 3;
+  template = template_1;
+  ports = [];
   update = record {
-    parallelism = 1; delay = 0; monitor = 5000; action = action.Pause; ratio = 0; order = order.StopFirst;
+    parallelism = 1;
+    delay = 0;
+    monitor = 5000;
+    action = action.Pause;
+    ratio = 0;
+    order = order.StopFirst;
   };
 }
 
@@ -61,15 +82,15 @@ abbrev pub journal : List Told
 journal =
     asked 0 (call.WatchBegin (record { kind = Some kind.Service; id = None })) (reply.WatchBegun 1)
     ∷ asked 0 (call.Txn (op.CreateService (codes "web") (record { spec = spec_1; networks = [] }) ∷ []))
-          (reply.Txn (2 ∷ []))
+    (reply.Txn (2 ∷ []))
     ∷ asked 0 (call.Txn (op.UpdateService (codes "web") None (record { spec = spec_2; networks = [] }) ∷ []))
-          (reply.Txn (2 ∷ []))
+    (reply.Txn (2 ∷ []))
     ∷ asked 0 (call.Txn (op.RemoveService (codes "web") ∷ [])) (reply.Txn (2 ∷ []))
     ∷ asked 0 (call.WatchPoll 1) (reply.Events (
-        record { entry = 2; verb = verb.Created; kind = kind.Service; id = 2 }
-        ∷ record { entry = 3; verb = verb.Updated; kind = kind.Service; id = 2 }
-        ∷ record { entry = 4; verb = verb.Deleted; kind = kind.Service; id = 2 }
-        ∷ []))
+    record { entry = 2; verb = verb.Created; kind = kind.Service; id = 2 }
+    ∷ record { entry = 3; verb = verb.Updated; kind = kind.Service; id = 2 }
+    ∷ record { entry = 4; verb = verb.Deleted; kind = kind.Service; id = 2 }
+    ∷ []))
     ∷ asked 0 (call.WatchPoll 1) (reply.Events [])
     ∷ asked 0 call.Halt reply.HaltDone
     ∷ []
@@ -78,11 +99,20 @@ abbrev pub world : World
 world = record {
   entries = 7;
   tables = record {
-    clock = 0; next_id = 3; nodes = []; services = []; tasks = []; networks = []; attempts = []; sessions = [];
+    clock = 0;
+    next_id = 3;
+    nodes = [];
+    services = [];
+    tasks = [];
+    networks = [];
+    attempts = [];
+    sessions = [];
     settings = record { heartbeat = 5000; orphan = 86400000; history = 5 };
   };
-  sent = []; agents = [];
-  watchers = record { id = 1; filter = record { kind = Some kind.Service; id = None }; cursor = 6 } ∷ []; events = [];
+  sent = [];
+  agents = [];
+  watchers = record { id = 1; filter = record { kind = Some kind.Service; id = None }; cursor = 6 } ∷ [];
+  events = [];
   halted = true;
 }
 

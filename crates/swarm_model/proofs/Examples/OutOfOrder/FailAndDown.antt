@@ -33,14 +33,28 @@ use Rattle.swarm_objects.specs.declared.templates.Workload.{Workload}
 
 abbrev draft_1 : NodeDraft
 draft_1 = record {
-  labels = []; role = node_role.Worker; availability = availability.Active; cpu = 2000; mem = 8589934592;
-  os = codes "linux"; arch = codes "amd64"; engine = (codes "disk", codes "ssd") ∷ []; remote = false;
+  labels = [];
+  role = node_role.Worker;
+  availability = availability.Active;
+  cpu = 2000;
+  mem = 8589934592;
+  os = codes "linux";
+  arch = codes "amd64";
+  engine = (codes "disk", codes "ssd") ∷ [];
+  remote = false;
 }
 
 abbrev draft_2 : NodeDraft
 draft_2 = record {
-  labels = (codes "zone", codes "b") ∷ []; role = node_role.Worker; availability = availability.Active; cpu = 2000;
-  mem = 8589934592; os = codes "linux"; arch = codes "amd64"; engine = []; remote = true;
+  labels = (codes "zone", codes "b") ∷ [];
+  role = node_role.Worker;
+  availability = availability.Active;
+  cpu = 2000;
+  mem = 8589934592;
+  os = codes "linux";
+  arch = codes "amd64";
+  engine = [];
+  remote = true;
 }
 
 abbrev workload_1 : Workload
@@ -48,16 +62,30 @@ workload_1 = record { prepare = 1; start = 1; stop = 1; end = end.Never }
 
 abbrev template_1 : Template
 template_1 = record {
-  workload = workload_1; cpu = 1000; mem = 0; constraints = []; spread = []; platforms = []; max_replicas = 0;
-  networks = []; host_ports = [];
+  workload = workload_1;
+  cpu = 1000;
+  mem = 0;
+  constraints = [];
+  spread = [];
+  platforms = [];
+  max_replicas = 0;
+  networks = [];
+  host_ports = [];
   restart = record { condition = condition.Any; delay = 5000; max_attempts = 0; window = 0 };
 }
 
 abbrev spec_1 : ServiceSpec
 spec_1 = record {
-  mode = mode.Replicated 2; template = template_1; ports = [];
+  mode = mode.Replicated 2;
+  template = template_1;
+  ports = [];
   update = record {
-    parallelism = 1; delay = 0; monitor = 0; action = action.Rollback; ratio = 0; order = order.StopFirst;
+    parallelism = 1;
+    delay = 0;
+    monitor = 0;
+    action = action.Rollback;
+    ratio = 0;
+    order = order.StopFirst;
   };
 }
 
@@ -66,31 +94,59 @@ workload_2 = record { prepare = 1; start = 1; stop = 1; end = end.Exit 1000 0 }
 
 abbrev template_2 : Template
 template_2 = record {
-  workload = workload_2; cpu = 0; mem = 0; constraints = []; spread = []; platforms = []; max_replicas = 0;
-  networks = []; host_ports = [];
+  workload = workload_2;
+  cpu = 0;
+  mem = 0;
+  constraints = [];
+  spread = [];
+  platforms = [];
+  max_replicas = 0;
+  networks = [];
+  host_ports = [];
   restart = record { condition = condition.Never; delay = 1; max_attempts = 1; window = 0 };
 }
 
 abbrev spec_2 : ServiceSpec
 spec_2 = record {
-  mode = mode.Replicated 4; template = template_2; ports = [];
+  mode = mode.Replicated 4;
+  template = template_2;
+  ports = [];
   update = record {
-    parallelism = 1; delay = 0; monitor = 1; action = action.Continue; ratio = 0; order = order.StartFirst;
+    parallelism = 1;
+    delay = 0;
+    monitor = 1;
+    action = action.Continue;
+    ratio = 0;
+    order = order.StartFirst;
   };
 }
 
 abbrev template_3 : Template
 template_3 = record {
-  workload = workload_1; cpu = 0; mem = 0; constraints = []; spread = []; platforms = []; max_replicas = 0;
-  networks = []; host_ports = [];
+  workload = workload_1;
+  cpu = 0;
+  mem = 0;
+  constraints = [];
+  spread = [];
+  platforms = [];
+  max_replicas = 0;
+  networks = [];
+  host_ports = [];
   restart = record { condition = condition.Any; delay = 50; max_attempts = 0; window = 0 };
 }
 
 abbrev spec_3 : ServiceSpec
 spec_3 = record {
-  mode = mode.Replicated 2; template = template_3; ports = [];
+  mode = mode.Replicated 2;
+  template = template_3;
+  ports = [];
   update = record {
-    parallelism = 1; delay = 0; monitor = 1; action = action.Pause; ratio = 500; order = order.StopFirst;
+    parallelism = 1;
+    delay = 0;
+    monitor = 1;
+    action = action.Pause;
+    ratio = 500;
+    order = order.StopFirst;
   };
 }
 
@@ -99,16 +155,30 @@ workload_3 = record { prepare = 1; start = 1; stop = 1; end = end.Reject }
 
 abbrev template_4 : Template
 template_4 = record {
-  workload = workload_3; cpu = 1000; mem = 0; constraints = []; spread = []; platforms = []; max_replicas = 0;
-  networks = []; host_ports = [];
+  workload = workload_3;
+  cpu = 1000;
+  mem = 0;
+  constraints = [];
+  spread = [];
+  platforms = [];
+  max_replicas = 0;
+  networks = [];
+  host_ports = [];
   restart = record { condition = condition.Any; delay = 5000; max_attempts = 1; window = 0 };
 }
 
 abbrev spec_4 : ServiceSpec
 spec_4 = record {
-  mode = mode.Replicated 3; template = template_4; ports = [];
+  mode = mode.Replicated 3;
+  template = template_4;
+  ports = [];
   update = record {
-    parallelism = 1; delay = 0; monitor = 100; action = action.Rollback; ratio = 500; order = order.StartFirst;
+    parallelism = 1;
+    delay = 0;
+    monitor = 100;
+    action = action.Rollback;
+    ratio = 500;
+    order = order.StartFirst;
   };
 }
 
@@ -120,9 +190,9 @@ journal =
     ∷ asked 0 (call.Txn (op.CreateNetwork (codes "lan") 167772416 29 ∷ [])) (reply.Txn (4 ∷ []))
     ∷ asked 0 (call.Txn (op.CreateNetwork (codes "wan") 167772672 28 ∷ [])) (reply.Txn (5 ∷ []))
     ∷ asked 0 (call.Txn (op.SetCluster (record { heartbeat = 5000; orphan = 86400000; history = 1 }) ∷ []))
-          (reply.Txn (0 ∷ []))
+    (reply.Txn (0 ∷ []))
     ∷ asked 0 (call.Txn (op.CreateService (codes "s1") (record { spec = spec_1; networks = [] }) ∷ []))
-          (reply.Txn (6 ∷ []))
+    (reply.Txn (6 ∷ []))
     ∷ did 0 (duty.ReplicatedCreate 6 1)
     ∷ did 0 (duty.Address 7)
     ∷ did 0 (duty.Register 1)
@@ -135,14 +205,14 @@ journal =
     ∷ did 0 (duty.Exec 1 7)
     ∷ did 0 (duty.Report 1 7)
     ∷ asked 0 (call.Txn (
-        op.CreateService (codes "s2") (record { spec = spec_2; networks = [] })
-        ∷ op.UpdateService (codes "s3") None (record { spec = spec_3; networks = [] })
-        ∷ [])) (reply.Refused (refusal.NotFound kind.Service (wanted_by.Name (codes "s3"))))
+    op.CreateService (codes "s2") (record { spec = spec_2; networks = [] })
+    ∷ op.UpdateService (codes "s3") None (record { spec = spec_3; networks = [] })
+    ∷ [])) (reply.Refused (refusal.NotFound kind.Service (wanted_by.Name (codes "s3"))))
     ∷ asked 0 (call.RemoteBeat (codes "r1") 3) (reply.Beat 15000)
     ∷ asked 0 (call.Txn (
-        op.UpdateService (codes "s1") None (record { spec = spec_4; networks = [] })
-        ∷ op.UpdateNode (codes "n1") None ((codes "zone", codes "b") ∷ []) node_role.Manager availability.Active
-        ∷ [])) (reply.Txn (6 ∷ 1 ∷ []))
+    op.UpdateService (codes "s1") None (record { spec = spec_4; networks = [] })
+    ∷ op.UpdateNode (codes "n1") None ((codes "zone", codes "b") ∷ []) node_role.Manager availability.Active
+    ∷ [])) (reply.Txn (6 ∷ 1 ∷ []))
     ∷ did 0 (duty.Start 6)
     ∷ did 0 (duty.Replace 6 2)
     ∷ did 0 (duty.ReplicatedCreate 6 3)
@@ -188,73 +258,162 @@ abbrev pub world : World
 world = record {
   entries = 60;
   tables = record {
-    clock = 2; next_id = 13;
+    clock = 2;
+    next_id = 13;
     nodes =
-      record {
-        id = 1; version = 21; name = codes "n1"; labels = (codes "zone", codes "b") ∷ []; role = node_role.Manager;
-        availability = availability.Active; state = node_state.Ready; down_since = 0; cpu = 2000; mem = 8589934592;
-        os = codes "linux"; arch = codes "amd64"; engine = (codes "disk", codes "ssd") ∷ []; remote = false;
-      }
-      ∷ record {
-          id = 2; version = 3; name = codes "r1"; labels = (codes "zone", codes "b") ∷ []; role = node_role.Worker;
-          availability = availability.Active; state = node_state.Ready; down_since = 0; cpu = 2000; mem = 8589934592;
-          os = codes "linux"; arch = codes "amd64"; engine = []; remote = true;
+        record {
+          id = 1;
+          version = 21;
+          name = codes "n1";
+          labels = (codes "zone", codes "b") ∷ [];
+          role = node_role.Manager;
+          availability = availability.Active;
+          state = node_state.Ready;
+          down_since = 0;
+          cpu = 2000;
+          mem = 8589934592;
+          os = codes "linux";
+          arch = codes "amd64";
+          engine = (codes "disk", codes "ssd") ∷ [];
+          remote = false;
         }
-      ∷ [];
+        ∷ record {
+          id = 2;
+          version = 3;
+          name = codes "r1";
+          labels = (codes "zone", codes "b") ∷ [];
+          role = node_role.Worker;
+          availability = availability.Active;
+          state = node_state.Ready;
+          down_since = 0;
+          cpu = 2000;
+          mem = 8589934592;
+          os = codes "linux";
+          arch = codes "amd64";
+          engine = [];
+          remote = true;
+        }
+        ∷ [];
     services =
-      record {
-        id = 6; version = 54; name = codes "s1"; spec = spec_1; previous = None; template_version = 54;
-        rolling_back = true; iteration = 0; numbers = [];
-        run = Some (record { status = status.RollbackStarted; version = 54; total = 2; replaced = [] });
-      }
-      ∷ [];
+        record {
+          id = 6;
+          version = 54;
+          name = codes "s1";
+          spec = spec_1;
+          previous = None;
+          template_version = 54;
+          rolling_back = true;
+          iteration = 0;
+          numbers = [];
+          run = Some (record { status = status.RollbackStarted; version = 54; total = 2; replaced = [] });
+        }
+        ∷ [];
     tasks =
-      record {
-        id = 7; version = 52; service = 6; place = Slot 1; iteration = 0; template = template_1; born = 7;
-        goal = desired.Running; node = Some 1; state = state.Running; since = 2; desired = desired.Running; created = 0;
-        raise_at = 0; addresses = []; note = note.Empty; closed = None;
-      }
-      ∷ record {
-          id = 9; version = 15; service = 6; place = Slot 2; iteration = 0; template = template_1; born = 7;
-          goal = desired.Running; node = Some 2; state = state.Assigned; since = 0; desired = desired.Running;
-          created = 0; raise_at = 0; addresses = []; note = note.Empty; closed = None;
+        record {
+          id = 7;
+          version = 52;
+          service = 6;
+          place = Slot 1;
+          iteration = 0;
+          template = template_1;
+          born = 7;
+          goal = desired.Running;
+          node = Some 1;
+          state = state.Running;
+          since = 2;
+          desired = desired.Running;
+          created = 0;
+          raise_at = 0;
+          addresses = [];
+          note = note.Empty;
+          closed = None;
         }
-      ∷ record {
-          id = 10; version = 28; service = 6; place = Slot 2; iteration = 0; template = template_4; born = 21;
-          goal = desired.Running; node = Some 2; state = state.Assigned; since = 0; desired = desired.Running;
-          created = 0; raise_at = 0; addresses = []; note = note.Empty; closed = None;
+        ∷ record {
+          id = 9;
+          version = 15;
+          service = 6;
+          place = Slot 2;
+          iteration = 0;
+          template = template_1;
+          born = 7;
+          goal = desired.Running;
+          node = Some 2;
+          state = state.Assigned;
+          since = 0;
+          desired = desired.Running;
+          created = 0;
+          raise_at = 0;
+          addresses = [];
+          note = note.Empty;
+          closed = None;
         }
-      ∷ [];
+        ∷ record {
+          id = 10;
+          version = 28;
+          service = 6;
+          place = Slot 2;
+          iteration = 0;
+          template = template_4;
+          born = 21;
+          goal = desired.Running;
+          node = Some 2;
+          state = state.Assigned;
+          since = 0;
+          desired = desired.Running;
+          created = 0;
+          raise_at = 0;
+          addresses = [];
+          note = note.Empty;
+          closed = None;
+        }
+        ∷ [];
     networks =
-      record { id = 4; version = 4; name = codes "lan"; base = 167772416; length = 29 }
-      ∷ record { id = 5; version = 5; name = codes "wan"; base = 167772672; length = 28 }
-      ∷ [];
+        record { id = 4; version = 4; name = codes "lan"; base = 167772416; length = 29 }
+        ∷ record { id = 5; version = 5; name = codes "wan"; base = 167772672; length = 28 }
+        ∷ [];
     attempts = record { service = 6; place = Slot 3; version = 21; at = 1 } ∷ [];
     sessions =
-      record { node = 1; session = record { id = 8; deadline = 15000; beat = 0 } }
-      ∷ record { node = 2; session = record { id = 3; deadline = 15000; beat = 0 } }
-      ∷ [];
+        record { node = 1; session = record { id = 8; deadline = 15000; beat = 0 } }
+        ∷ record { node = 2; session = record { id = 3; deadline = 15000; beat = 0 } }
+        ∷ [];
     settings = record { heartbeat = 5000; orphan = 86400000; history = 1 };
   };
   sent =
-    record { node = 1; count = 4; tasks = record { task = 7; desired = desired.Running; workload = workload_1 } ∷ [] }
-    ∷ [];
+      record { node = 1; count = 4; tasks = record { task = 7; desired = desired.Running; workload = workload_1 } ∷ [] }
+      ∷ [];
   agents =
-    record {
-      node = 1; mode = agent_mode.On; inbox = None; applied = 4;
-      executors =
-        record {
-          task = 7; desired = desired.Running; workload = workload_1; state = state.Running; since = 2; stopping = None;
-          reported = Some state.Running; gone = false;
-        }
-        ∷ record {
-            task = 12; desired = desired.Ready; workload = workload_3; state = state.Rejected; since = 2;
-            stopping = None; reported = Some state.Rejected; gone = true;
-          }
-        ∷ [];
-    }
-    ∷ [];
-  watchers = []; events = []; halted = false;
+      record {
+        node = 1;
+        mode = agent_mode.On;
+        inbox = None;
+        applied = 4;
+        executors =
+            record {
+              task = 7;
+              desired = desired.Running;
+              workload = workload_1;
+              state = state.Running;
+              since = 2;
+              stopping = None;
+              reported = Some state.Running;
+              gone = false;
+            }
+            ∷ record {
+              task = 12;
+              desired = desired.Ready;
+              workload = workload_3;
+              state = state.Rejected;
+              since = 2;
+              stopping = None;
+              reported = Some state.Rejected;
+              gone = true;
+            }
+            ∷ [];
+      }
+      ∷ [];
+  watchers = [];
+  events = [];
+  halted = false;
 }
 
 abbrev pub history : List Entry

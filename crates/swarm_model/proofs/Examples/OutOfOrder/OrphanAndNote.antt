@@ -34,8 +34,15 @@ use Rattle.swarm_objects.specs.declared.templates.Workload.{Workload}
 
 abbrev draft_1 : NodeDraft
 draft_1 = record {
-  labels = []; role = node_role.Worker; availability = availability.Active; cpu = 2000; mem = 8589934592;
-  os = codes "linux"; arch = codes "amd64"; engine = []; remote = false;
+  labels = [];
+  role = node_role.Worker;
+  availability = availability.Active;
+  cpu = 2000;
+  mem = 8589934592;
+  os = codes "linux";
+  arch = codes "amd64";
+  engine = [];
+  remote = false;
 }
 
 abbrev workload_1 : Workload
@@ -43,41 +50,67 @@ workload_1 = record { prepare = 1; start = 2; stop = 1; end = end.Never }
 
 abbrev template_1 : Template
 template_1 = record {
-  workload = workload_1; cpu = 0; mem = 0; constraints = []; spread = []; platforms = []; max_replicas = 0;
-  networks = []; host_ports = [];
+  workload = workload_1;
+  cpu = 0;
+  mem = 0;
+  constraints = [];
+  spread = [];
+  platforms = [];
+  max_replicas = 0;
+  networks = [];
+  host_ports = [];
   restart = record { condition = condition.Any; delay = 0; max_attempts = 0; window = 0 };
 }
 
 abbrev spec_1 : ServiceSpec
 spec_1 = record {
-  mode = mode.Replicated 3; template = template_1;
+  mode = mode.Replicated 3;
+  template = template_1;
   ports =
-    record { target = 80; number = None; udp = false }
-    ∷ record { target = 81; number = None; udp = false }
-    ∷ record { target = 82; number = None; udp = false }
-    ∷ [];
+      record { target = 80; number = None; udp = false }
+      ∷ record { target = 81; number = None; udp = false }
+      ∷ record { target = 82; number = None; udp = false }
+      ∷ [];
   update = record {
-    parallelism = 1; delay = 0; monitor = 5000; action = action.Rollback; ratio = 0; order = order.StartFirst;
+    parallelism = 1;
+    delay = 0;
+    monitor = 5000;
+    action = action.Rollback;
+    ratio = 0;
+    order = order.StartFirst;
   };
 }
 
 abbrev template_2 : Template
 template_2 = record {
-  workload = workload_1; cpu = 0; mem = 0; constraints = []; spread = []; platforms = []; max_replicas = 0;
-  networks = 2 ∷ []; host_ports = [];
+  workload = workload_1;
+  cpu = 0;
+  mem = 0;
+  constraints = [];
+  spread = [];
+  platforms = [];
+  max_replicas = 0;
+  networks = 2 ∷ [];
+  host_ports = [];
   restart = record { condition = condition.Any; delay = 0; max_attempts = 0; window = 0 };
 }
 
 abbrev spec_2 : ServiceSpec
 spec_2 = record {
-  mode = mode.Replicated 3; template = template_2;
+  mode = mode.Replicated 3;
+  template = template_2;
   ports =
-    record { target = 80; number = None; udp = false }
-    ∷ record { target = 81; number = None; udp = false }
-    ∷ record { target = 82; number = None; udp = false }
-    ∷ [];
+      record { target = 80; number = None; udp = false }
+      ∷ record { target = 81; number = None; udp = false }
+      ∷ record { target = 82; number = None; udp = false }
+      ∷ [];
   update = record {
-    parallelism = 1; delay = 0; monitor = 5000; action = action.Rollback; ratio = 0; order = order.StartFirst;
+    parallelism = 1;
+    delay = 0;
+    monitor = 5000;
+    action = action.Rollback;
+    ratio = 0;
+    order = order.StartFirst;
   };
 }
 
@@ -87,9 +120,9 @@ journal =
     ∷ asked 0 (call.Txn (op.CreateNetwork (codes "lan") 167772416 29 ∷ [])) (reply.Txn (2 ∷ []))
     ∷ asked 0 (call.Txn (op.CreateNetwork (codes "wan") 167772672 28 ∷ [])) (reply.Txn (3 ∷ []))
     ∷ asked 0 (call.Txn (op.SetCluster (record { heartbeat = 1000; orphan = 50; history = 0 }) ∷ []))
-          (reply.Txn (0 ∷ []))
+    (reply.Txn (0 ∷ []))
     ∷ asked 0 (call.Txn (op.CreateService (codes "s1") (record { spec = spec_1; networks = codes "lan" ∷ [] }) ∷ []))
-          (reply.Txn (4 ∷ []))
+    (reply.Txn (4 ∷ []))
     ∷ did 0 (duty.Register 1)
     ∷ did 0 (duty.ReplicatedCreate 4 1)
     ∷ did 0 (duty.ReplicatedCreate 4 2)
@@ -127,21 +160,21 @@ journal =
     ∷ asked 0 (call.Tick 1) reply.Ticked
     ∷ asked 0 (call.NodeFail (codes "n2")) (reply.Refused (refusal.NotFound kind.Node (wanted_by.Name (codes "n2"))))
     ∷ asked 0 (call.RemoteBegin (codes "r1") None None)
-          (reply.Refused (refusal.NotFound kind.Node (wanted_by.Name (codes "r1"))))
+    (reply.Refused (refusal.NotFound kind.Node (wanted_by.Name (codes "r1"))))
     ∷ asked 0 (call.NodeFail (codes "n3")) (reply.Refused (refusal.NotFound kind.Node (wanted_by.Name (codes "n3"))))
     ∷ asked 0 (call.Txn
-          (op.UpdateNode (codes "r1") None ((codes "zone", codes "a") ∷ []) node_role.Manager availability.Active ∷ []))
-          (reply.Refused (refusal.NotFound kind.Node (wanted_by.Name (codes "r1"))))
+    (op.UpdateNode (codes "r1") None ((codes "zone", codes "a") ∷ []) node_role.Manager availability.Active ∷ []))
+    (reply.Refused (refusal.NotFound kind.Node (wanted_by.Name (codes "r1"))))
     ∷ asked 0 (call.Tick 1) reply.Ticked
     ∷ asked 0 (call.RemoteBegin (codes "r1") None None)
-          (reply.Refused (refusal.NotFound kind.Node (wanted_by.Name (codes "r1"))))
+    (reply.Refused (refusal.NotFound kind.Node (wanted_by.Name (codes "r1"))))
     ∷ asked 0 (call.RemoteBegin (codes "r1") (Some 1000) (Some 0))
-          (reply.Refused (refusal.NotFound kind.Node (wanted_by.Name (codes "r1"))))
+    (reply.Refused (refusal.NotFound kind.Node (wanted_by.Name (codes "r1"))))
     ∷ asked 0 (call.RemoteBegin (codes "r1") None None)
-          (reply.Refused (refusal.NotFound kind.Node (wanted_by.Name (codes "r1"))))
+    (reply.Refused (refusal.NotFound kind.Node (wanted_by.Name (codes "r1"))))
     ∷ asked 0 (call.Tick 1) reply.Ticked
     ∷ asked 0 (call.RemoteBegin (codes "r1") None None)
-          (reply.Refused (refusal.NotFound kind.Node (wanted_by.Name (codes "r1"))))
+    (reply.Refused (refusal.NotFound kind.Node (wanted_by.Name (codes "r1"))))
     ∷ asked 0 (call.Settle 67988) (reply.Settle 67988 settle.Settled)
     ∷ asked 0 (call.Tick 1000) reply.Ticked
     ∷ did 0 (duty.Orphan 7)
@@ -158,72 +191,135 @@ abbrev pub world : World
 world = record {
   entries = 60;
   tables = record {
-    clock = 4003; next_id = 12;
+    clock = 4003;
+    next_id = 12;
     nodes =
-      record {
-        id = 1; version = 27; name = codes "n1"; labels = []; role = node_role.Worker;
-        availability = availability.Active; state = node_state.Down; down_since = 3000; cpu = 2000; mem = 8589934592;
-        os = codes "linux"; arch = codes "amd64"; engine = []; remote = false;
-      }
-      ∷ [];
+        record {
+          id = 1;
+          version = 27;
+          name = codes "n1";
+          labels = [];
+          role = node_role.Worker;
+          availability = availability.Active;
+          state = node_state.Down;
+          down_since = 3000;
+          cpu = 2000;
+          mem = 8589934592;
+          os = codes "linux";
+          arch = codes "amd64";
+          engine = [];
+          remote = false;
+        }
+        ∷ [];
     services =
-      record {
-        id = 4; version = 14; name = codes "s1"; spec = spec_2; previous = None; template_version = 5;
-        rolling_back = false; iteration = 0;
-        numbers =
-          record { target = 80; udp = false; number = 30000 }
-          ∷ record { target = 81; udp = false; number = 30001 }
-          ∷ record { target = 82; udp = false; number = 30002 }
-          ∷ [];
-        run = None;
-      }
-      ∷ [];
+        record {
+          id = 4;
+          version = 14;
+          name = codes "s1";
+          spec = spec_2;
+          previous = None;
+          template_version = 5;
+          rolling_back = false;
+          iteration = 0;
+          numbers =
+              record { target = 80; udp = false; number = 30000 }
+              ∷ record { target = 81; udp = false; number = 30001 }
+              ∷ record { target = 82; udp = false; number = 30002 }
+              ∷ [];
+          run = None;
+        }
+        ∷ [];
     tasks =
-      record {
-        id = 9; version = 38; service = 4; place = Slot 3; iteration = 0; template = template_2; born = 5;
-        goal = desired.Running; node = None; state = state.Pending; since = 3000; desired = desired.Running;
-        created = 3000; raise_at = 3000; addresses = record { network = 2; number = 167772422 } ∷ [];
-        note = note.Filters (1 ∷ 0 ∷ 0 ∷ 0 ∷ 0 ∷ 0 ∷ []); closed = None;
-      }
-      ∷ record {
-          id = 10; version = 57; service = 4; place = Slot 2; iteration = 0; template = template_2; born = 5;
-          goal = desired.Running; node = None; state = state.Pending; since = 4003; desired = desired.Running;
-          created = 3000; raise_at = 3000; addresses = record { network = 2; number = 167772418 } ∷ [];
-          note = note.Filters (1 ∷ 0 ∷ 0 ∷ 0 ∷ 0 ∷ 0 ∷ []); closed = None;
+        record {
+          id = 9;
+          version = 38;
+          service = 4;
+          place = Slot 3;
+          iteration = 0;
+          template = template_2;
+          born = 5;
+          goal = desired.Running;
+          node = None;
+          state = state.Pending;
+          since = 3000;
+          desired = desired.Running;
+          created = 3000;
+          raise_at = 3000;
+          addresses = record { network = 2; number = 167772422 } ∷ [];
+          note = note.Filters (1 ∷ 0 ∷ 0 ∷ 0 ∷ 0 ∷ 0 ∷ []);
+          closed = None;
         }
-      ∷ record {
-          id = 11; version = 35; service = 4; place = Slot 1; iteration = 0; template = template_2; born = 5;
-          goal = desired.Running; node = None; state = state.Pending; since = 3000; desired = desired.Running;
-          created = 3000; raise_at = 3000; addresses = record { network = 2; number = 167772421 } ∷ [];
-          note = note.Filters (1 ∷ 0 ∷ 0 ∷ 0 ∷ 0 ∷ 0 ∷ []); closed = None;
+        ∷ record {
+          id = 10;
+          version = 57;
+          service = 4;
+          place = Slot 2;
+          iteration = 0;
+          template = template_2;
+          born = 5;
+          goal = desired.Running;
+          node = None;
+          state = state.Pending;
+          since = 4003;
+          desired = desired.Running;
+          created = 3000;
+          raise_at = 3000;
+          addresses = record { network = 2; number = 167772418 } ∷ [];
+          note = note.Filters (1 ∷ 0 ∷ 0 ∷ 0 ∷ 0 ∷ 0 ∷ []);
+          closed = None;
         }
-      ∷ [];
+        ∷ record {
+          id = 11;
+          version = 35;
+          service = 4;
+          place = Slot 1;
+          iteration = 0;
+          template = template_2;
+          born = 5;
+          goal = desired.Running;
+          node = None;
+          state = state.Pending;
+          since = 3000;
+          desired = desired.Running;
+          created = 3000;
+          raise_at = 3000;
+          addresses = record { network = 2; number = 167772421 } ∷ [];
+          note = note.Filters (1 ∷ 0 ∷ 0 ∷ 0 ∷ 0 ∷ 0 ∷ []);
+          closed = None;
+        }
+        ∷ [];
     networks =
-      record { id = 2; version = 2; name = codes "lan"; base = 167772416; length = 29 }
-      ∷ record { id = 3; version = 3; name = codes "wan"; base = 167772672; length = 28 }
-      ∷ [];
+        record { id = 2; version = 2; name = codes "lan"; base = 167772416; length = 29 }
+        ∷ record { id = 3; version = 3; name = codes "wan"; base = 167772672; length = 28 }
+        ∷ [];
     attempts =
-      record { service = 4; place = Slot 3; version = 5; at = 3000 }
-      ∷ record { service = 4; place = Slot 2; version = 5; at = 3000 }
-      ∷ record { service = 4; place = Slot 1; version = 5; at = 3000 }
-      ∷ [];
+        record { service = 4; place = Slot 3; version = 5; at = 3000 }
+        ∷ record { service = 4; place = Slot 2; version = 5; at = 3000 }
+        ∷ record { service = 4; place = Slot 1; version = 5; at = 3000 }
+        ∷ [];
     sessions = record { node = 1; session = record { id = 5; deadline = 3000; beat = 0 } } ∷ [];
     settings = record { heartbeat = 1000; orphan = 50; history = 0 };
   };
   sent =
-    record { node = 1; count = 2; tasks = record { task = 6; desired = desired.Running; workload = workload_1 } ∷ [] }
-    ∷ [];
+      record { node = 1; count = 2; tasks = record { task = 6; desired = desired.Running; workload = workload_1 } ∷ [] }
+      ∷ [];
   agents =
-    record {
-      node = 1; mode = agent_mode.PowerOff;
-      inbox = Some (record {
-        complete = false; applies_to = 1; results_in = 2;
-        changes = assign.Update (record { task = 6; desired = desired.Running; workload = workload_1 }) ∷ [];
-      });
-      applied = 1; executors = [];
-    }
-    ∷ [];
-  watchers = []; events = []; halted = false;
+      record {
+        node = 1;
+        mode = agent_mode.PowerOff;
+        inbox = Some (record {
+          complete = false;
+          applies_to = 1;
+          results_in = 2;
+          changes = assign.Update (record { task = 6; desired = desired.Running; workload = workload_1 }) ∷ [];
+        });
+        applied = 1;
+        executors = [];
+      }
+      ∷ [];
+  watchers = [];
+  events = [];
+  halted = false;
 }
 
 abbrev pub history : List Entry

@@ -35,14 +35,28 @@ use Rattle.swarm_objects.specs.declared.templates.Workload.{Workload}
 
 abbrev draft_1 : NodeDraft
 draft_1 = record {
-  labels = (codes "zone", codes "A") ∷ []; role = node_role.Manager; availability = availability.Active; cpu = 2000;
-  mem = 8589934592; os = codes "linux"; arch = codes "amd64"; engine = []; remote = false;
+  labels = (codes "zone", codes "A") ∷ [];
+  role = node_role.Manager;
+  availability = availability.Active;
+  cpu = 2000;
+  mem = 8589934592;
+  os = codes "linux";
+  arch = codes "amd64";
+  engine = [];
+  remote = false;
 }
 
 abbrev draft_2 : NodeDraft
 draft_2 = record {
-  labels = (codes "zone", codes "b") ∷ []; role = node_role.Worker; availability = availability.Active; cpu = 4000;
-  mem = 8589934592; os = codes "linux"; arch = codes "amd64"; engine = []; remote = true;
+  labels = (codes "zone", codes "b") ∷ [];
+  role = node_role.Worker;
+  availability = availability.Active;
+  cpu = 4000;
+  mem = 8589934592;
+  os = codes "linux";
+  arch = codes "amd64";
+  engine = [];
+  remote = true;
 }
 
 abbrev workload_1 : Workload
@@ -50,56 +64,96 @@ workload_1 = record { prepare = 1; start = 1; stop = 1; end = end.Never }
 
 abbrev template_1 : Template
 template_1 = record {
-  workload = workload_1; cpu = 0; mem = 0; constraints = []; spread = []; platforms = []; max_replicas = 0;
-  networks = []; host_ports = [];
+  workload = workload_1;
+  cpu = 0;
+  mem = 0;
+  constraints = [];
+  spread = [];
+  platforms = [];
+  max_replicas = 0;
+  networks = [];
+  host_ports = [];
   restart = record { condition = condition.OnFailure; delay = 4; max_attempts = 1; window = 0 };
 }
 
 abbrev spec_1 : ServiceSpec
 spec_1 = record {
-  mode = mode.Replicated 2; template = template_1;
+  mode = mode.Replicated 2;
+  template = template_1;
   ports =
-    record { target = 80; number = None; udp = false }
-    ∷ record { target = 81; number = None; udp = false }
-    ∷ record { target = 82; number = None; udp = false }
-    ∷ [];
+      record { target = 80; number = None; udp = false }
+      ∷ record { target = 81; number = None; udp = false }
+      ∷ record { target = 82; number = None; udp = false }
+      ∷ [];
   update = record {
-    parallelism = 1; delay = 0; monitor = 5000; action = action.Pause; ratio = 0; order = order.StopFirst;
+    parallelism = 1;
+    delay = 0;
+    monitor = 5000;
+    action = action.Pause;
+    ratio = 0;
+    order = order.StopFirst;
   };
 }
 
 abbrev template_2 : Template
 template_2 = record {
-  workload = workload_1; cpu = 1000001; mem = 0; constraints = [];
-  spread = key.Label (codes "zone") ∷ key.Engine (codes "disk") ∷ []; platforms = []; max_replicas = 0; networks = [];
-  host_ports = []; restart = record { condition = condition.Any; delay = 50; max_attempts = 0; window = 0 };
+  workload = workload_1;
+  cpu = 1000001;
+  mem = 0;
+  constraints = [];
+  spread = key.Label (codes "zone") ∷ key.Engine (codes "disk") ∷ [];
+  platforms = [];
+  max_replicas = 0;
+  networks = [];
+  host_ports = [];
+  restart = record { condition = condition.Any; delay = 50; max_attempts = 0; window = 0 };
 }
 
 abbrev spec_2 : ServiceSpec
 spec_2 = record {
-  mode = mode.Replicated 4; template = template_2; ports = [];
+  mode = mode.Replicated 4;
+  template = template_2;
+  ports = [];
   update = record {
-    parallelism = 1; delay = 0; monitor = 1; action = action.Pause; ratio = 0; order = order.StopFirst;
+    parallelism = 1;
+    delay = 0;
+    monitor = 1;
+    action = action.Pause;
+    ratio = 0;
+    order = order.StopFirst;
   };
 }
 
 abbrev template_3 : Template
 template_3 = record {
-  workload = workload_1; cpu = 0; mem = 0; constraints = []; spread = []; platforms = []; max_replicas = 0;
-  networks = 5 ∷ []; host_ports = [];
+  workload = workload_1;
+  cpu = 0;
+  mem = 0;
+  constraints = [];
+  spread = [];
+  platforms = [];
+  max_replicas = 0;
+  networks = 5 ∷ [];
+  host_ports = [];
   restart = record { condition = condition.OnFailure; delay = 4; max_attempts = 1; window = 0 };
 }
 
 abbrev spec_3 : ServiceSpec
 spec_3 = record {
-  mode = mode.Replicated 2; template = template_3;
+  mode = mode.Replicated 2;
+  template = template_3;
   ports =
-    record { target = 80; number = None; udp = false }
-    ∷ record { target = 81; number = None; udp = false }
-    ∷ record { target = 82; number = None; udp = false }
-    ∷ [];
+      record { target = 80; number = None; udp = false }
+      ∷ record { target = 81; number = None; udp = false }
+      ∷ record { target = 82; number = None; udp = false }
+      ∷ [];
   update = record {
-    parallelism = 1; delay = 0; monitor = 5000; action = action.Pause; ratio = 0; order = order.StopFirst;
+    parallelism = 1;
+    delay = 0;
+    monitor = 5000;
+    action = action.Pause;
+    ratio = 0;
+    order = order.StopFirst;
   };
 }
 
@@ -109,18 +163,18 @@ journal =
     ∷ asked 0 (call.Txn (op.CreateNode (codes "r1") draft_2 ∷ [])) (reply.Txn (2 ∷ []))
     ∷ asked 0 (call.RemoteBegin (codes "r1") None None) (reply.SessionBegun 3 15000)
     ∷ asked 0 (call.Txn (op.SetCluster (record { heartbeat = 1000; orphan = 50; history = 5 }) ∷ []))
-          (reply.Txn (0 ∷ []))
+    (reply.Txn (0 ∷ []))
     ∷ asked 0 (call.Txn (op.CreateService (codes "s1") (record { spec = spec_1; networks = codes "lan" ∷ [] }) ∷ []))
-          (reply.Refused (refusal.NotFound kind.Network (wanted_by.Name (codes "lan"))))
+    (reply.Refused (refusal.NotFound kind.Network (wanted_by.Name (codes "lan"))))
     ∷ did 0 (duty.Register 1)
     ∷ asked 0 (call.Tick 1) reply.Ticked
     ∷ did 0 (duty.Pull 1)
     ∷ did 0 (duty.Apply 1)
     ∷ asked 0 (call.RemoteBegin (codes "r2") None None)
-          (reply.Refused (refusal.NotFound kind.Node (wanted_by.Name (codes "r2"))))
+    (reply.Refused (refusal.NotFound kind.Node (wanted_by.Name (codes "r2"))))
     ∷ asked 0 (call.Txn (op.CreateNetwork (codes "lan") 167772416 29 ∷ [])) (reply.Txn (5 ∷ []))
     ∷ asked 0 (call.Txn (op.CreateService (codes "s2") (record { spec = spec_1; networks = codes "lan" ∷ [] }) ∷ []))
-          (reply.Txn (6 ∷ []))
+    (reply.Txn (6 ∷ []))
     ∷ did 0 (duty.Port 6 82 false)
     ∷ did 0 (duty.Port 6 80 false)
     ∷ did 0 (duty.Port 6 81 false)
@@ -131,7 +185,7 @@ journal =
     ∷ did 0 (duty.Pull 1)
     ∷ asked 0 (call.Tick 1000) reply.Ticked
     ∷ asked 0 (call.RemoteStatus (codes "r1") 3 9 state.Complete)
-          (reply.Refused (refusal.NotFound kind.Task (wanted_by.Id 9)))
+    (reply.Refused (refusal.NotFound kind.Task (wanted_by.Id 9)))
     ∷ did 0 (duty.Apply 1)
     ∷ did 0 (duty.ReplicatedCreate 6 2)
     ∷ did 0 (duty.Address 8)
@@ -151,11 +205,13 @@ journal =
     ∷ did 0 (duty.Beat 1)
     ∷ asked 0 (call.RemoteStatus (codes "r1") 3 8 state.Running) (reply.Status true state.Running)
     ∷ asked 0 (call.Txn (op.CreateService (codes "s4") (record { spec = spec_2; networks = [] }) ∷ []))
-          (reply.Refused (refusal.BadSpec rule.Reservation))
+    (reply.Refused (refusal.BadSpec rule.Reservation))
     ∷ asked 0 (call.RemotePull (codes "r1") 3) (reply.Pulled (Some (record {
-        complete = true; applies_to = 0; results_in = 1;
-        changes = assign.Update (record { task = 8; desired = desired.Running; workload = workload_1 }) ∷ [];
-      })))
+      complete = true;
+      applies_to = 0;
+      results_in = 1;
+      changes = assign.Update (record { task = 8; desired = desired.Running; workload = workload_1 }) ∷ [];
+    })))
     ∷ asked 0 (call.Tick 1000) reply.Ticked
     ∷ did 0 (duty.Expire 2)
     ∷ did 0 (duty.Restart 8)
@@ -171,7 +227,7 @@ journal =
     ∷ did 0 (duty.Orphan 8)
     ∷ did 0 (duty.Pull 1)
     ∷ asked 0 (call.RemoteBegin (codes "r2") None None)
-          (reply.Refused (refusal.NotFound kind.Node (wanted_by.Name (codes "r2"))))
+    (reply.Refused (refusal.NotFound kind.Node (wanted_by.Name (codes "r2"))))
     ∷ did 0 (duty.Exec 1 9)
     ∷ did 0 (duty.Report 1 9)
     ∷ did 0 (duty.Apply 1)
@@ -181,85 +237,171 @@ abbrev pub world : World
 world = record {
   entries = 60;
   tables = record {
-    clock = 3103; next_id = 10;
+    clock = 3103;
+    next_id = 10;
     nodes =
-      record {
-        id = 1; version = 6; name = codes "n1"; labels = (codes "zone", codes "A") ∷ []; role = node_role.Manager;
-        availability = availability.Active; state = node_state.Ready; down_since = 0; cpu = 2000; mem = 8589934592;
-        os = codes "linux"; arch = codes "amd64"; engine = []; remote = false;
-      }
-      ∷ record {
-          id = 2; version = 44; name = codes "r1"; labels = (codes "zone", codes "b") ∷ []; role = node_role.Worker;
-          availability = availability.Active; state = node_state.Down; down_since = 3003; cpu = 4000; mem = 8589934592;
-          os = codes "linux"; arch = codes "amd64"; engine = []; remote = true;
+        record {
+          id = 1;
+          version = 6;
+          name = codes "n1";
+          labels = (codes "zone", codes "A") ∷ [];
+          role = node_role.Manager;
+          availability = availability.Active;
+          state = node_state.Ready;
+          down_since = 0;
+          cpu = 2000;
+          mem = 8589934592;
+          os = codes "linux";
+          arch = codes "amd64";
+          engine = [];
+          remote = false;
         }
-      ∷ [];
+        ∷ record {
+          id = 2;
+          version = 44;
+          name = codes "r1";
+          labels = (codes "zone", codes "b") ∷ [];
+          role = node_role.Worker;
+          availability = availability.Active;
+          state = node_state.Down;
+          down_since = 3003;
+          cpu = 4000;
+          mem = 8589934592;
+          os = codes "linux";
+          arch = codes "amd64";
+          engine = [];
+          remote = true;
+        }
+        ∷ [];
     services =
-      record {
-        id = 6; version = 15; name = codes "s2"; spec = spec_3; previous = None; template_version = 12;
-        rolling_back = false; iteration = 0;
-        numbers =
-          record { target = 82; udp = false; number = 30000 }
-          ∷ record { target = 80; udp = false; number = 30001 }
-          ∷ record { target = 81; udp = false; number = 30002 }
-          ∷ [];
-        run = None;
-      }
-      ∷ [];
+        record {
+          id = 6;
+          version = 15;
+          name = codes "s2";
+          spec = spec_3;
+          previous = None;
+          template_version = 12;
+          rolling_back = false;
+          iteration = 0;
+          numbers =
+              record { target = 82; udp = false; number = 30000 }
+              ∷ record { target = 80; udp = false; number = 30001 }
+              ∷ record { target = 81; udp = false; number = 30002 }
+              ∷ [];
+          run = None;
+        }
+        ∷ [];
     tasks =
-      record {
-        id = 7; version = 37; service = 6; place = Slot 1; iteration = 0; template = template_3; born = 12;
-        goal = desired.Running; node = Some 1; state = state.Running; since = 1003; desired = desired.Running;
-        created = 1; raise_at = 1; addresses = record { network = 5; number = 167772418 } ∷ []; note = note.Empty;
-        closed = None;
-      }
-      ∷ record {
-          id = 8; version = 55; service = 6; place = Slot 2; iteration = 0; template = template_3; born = 12;
-          goal = desired.Running; node = Some 2; state = state.Orphaned; since = 3103; desired = desired.Shutdown;
-          created = 1001; raise_at = 1001; addresses = record { network = 5; number = 167772419 } ∷ [];
-          note = note.Empty; closed = None;
+        record {
+          id = 7;
+          version = 37;
+          service = 6;
+          place = Slot 1;
+          iteration = 0;
+          template = template_3;
+          born = 12;
+          goal = desired.Running;
+          node = Some 1;
+          state = state.Running;
+          since = 1003;
+          desired = desired.Running;
+          created = 1;
+          raise_at = 1;
+          addresses = record { network = 5; number = 167772418 } ∷ [];
+          note = note.Empty;
+          closed = None;
         }
-      ∷ record {
-          id = 9; version = 59; service = 6; place = Slot 2; iteration = 0; template = template_3; born = 12;
-          goal = desired.Running; node = Some 1; state = state.Ready; since = 3103; desired = desired.Running;
-          created = 3003; raise_at = 3007; addresses = record { network = 5; number = 167772420 } ∷ [];
-          note = note.Empty; closed = None;
+        ∷ record {
+          id = 8;
+          version = 55;
+          service = 6;
+          place = Slot 2;
+          iteration = 0;
+          template = template_3;
+          born = 12;
+          goal = desired.Running;
+          node = Some 2;
+          state = state.Orphaned;
+          since = 3103;
+          desired = desired.Shutdown;
+          created = 1001;
+          raise_at = 1001;
+          addresses = record { network = 5; number = 167772419 } ∷ [];
+          note = note.Empty;
+          closed = None;
         }
-      ∷ [];
+        ∷ record {
+          id = 9;
+          version = 59;
+          service = 6;
+          place = Slot 2;
+          iteration = 0;
+          template = template_3;
+          born = 12;
+          goal = desired.Running;
+          node = Some 1;
+          state = state.Ready;
+          since = 3103;
+          desired = desired.Running;
+          created = 3003;
+          raise_at = 3007;
+          addresses = record { network = 5; number = 167772420 } ∷ [];
+          note = note.Empty;
+          closed = None;
+        }
+        ∷ [];
     networks = record { id = 5; version = 11; name = codes "lan"; base = 167772416; length = 29 } ∷ [];
     attempts = record { service = 6; place = Slot 2; version = 12; at = 3003 } ∷ [];
     sessions =
-      record { node = 1; session = record { id = 4; deadline = 6003; beat = 3003 } }
-      ∷ record { node = 2; session = record { id = 3; deadline = 3001; beat = 1 } }
-      ∷ [];
+        record { node = 1; session = record { id = 4; deadline = 6003; beat = 3003 } }
+        ∷ record { node = 2; session = record { id = 3; deadline = 3001; beat = 1 } }
+        ∷ [];
     settings = record { heartbeat = 1000; orphan = 50; history = 5 };
   };
   sent =
-    record {
-      node = 1; count = 4;
-      tasks =
-        record { task = 7; desired = desired.Running; workload = workload_1 }
-        ∷ record { task = 9; desired = desired.Running; workload = workload_1 }
-        ∷ [];
-    }
-    ∷ record { node = 2; count = 1; tasks = record { task = 8; desired = desired.Running; workload = workload_1 } ∷ [] }
-    ∷ [];
+      record {
+        node = 1;
+        count = 4;
+        tasks =
+            record { task = 7; desired = desired.Running; workload = workload_1 }
+            ∷ record { task = 9; desired = desired.Running; workload = workload_1 }
+            ∷ [];
+      }
+      ∷ record { node = 2; count = 1; tasks = record { task = 8; desired = desired.Running; workload = workload_1 } ∷ [] }
+      ∷ [];
   agents =
-    record {
-      node = 1; mode = agent_mode.On; inbox = None; applied = 4;
-      executors =
-        record {
-          task = 7; desired = desired.Running; workload = workload_1; state = state.Running; since = 1003;
-          stopping = None; reported = Some state.Running; gone = false;
-        }
-        ∷ record {
-            task = 9; desired = desired.Running; workload = workload_1; state = state.Ready; since = 3103;
-            stopping = None; reported = Some state.Ready; gone = false;
-          }
-        ∷ [];
-    }
-    ∷ [];
-  watchers = []; events = []; halted = false;
+      record {
+        node = 1;
+        mode = agent_mode.On;
+        inbox = None;
+        applied = 4;
+        executors =
+            record {
+              task = 7;
+              desired = desired.Running;
+              workload = workload_1;
+              state = state.Running;
+              since = 1003;
+              stopping = None;
+              reported = Some state.Running;
+              gone = false;
+            }
+            ∷ record {
+              task = 9;
+              desired = desired.Running;
+              workload = workload_1;
+              state = state.Ready;
+              since = 3103;
+              stopping = None;
+              reported = Some state.Ready;
+              gone = false;
+            }
+            ∷ [];
+      }
+      ∷ [];
+  watchers = [];
+  events = [];
+  halted = false;
 }
 
 abbrev pub history : List Entry

@@ -35,8 +35,15 @@ use Rattle.swarm_objects.specs.declared.templates.Workload.{Workload}
 
 abbrev draft_1 : NodeDraft
 draft_1 = record {
-  labels = (codes "zone", codes "a") ∷ []; role = node_role.Worker; availability = availability.Active; cpu = 1000;
-  mem = 8589934592; os = codes "linux"; arch = codes "amd64"; engine = []; remote = false;
+  labels = (codes "zone", codes "a") ∷ [];
+  role = node_role.Worker;
+  availability = availability.Active;
+  cpu = 1000;
+  mem = 8589934592;
+  os = codes "linux";
+  arch = codes "amd64";
+  engine = [];
+  remote = false;
 }
 
 abbrev workload_1 : Workload
@@ -44,21 +51,33 @@ workload_1 = record { prepare = 1; start = 1; stop = 1; end = end.Never }
 
 abbrev template_1 : Template
 template_1 = record {
-  workload = workload_1; cpu = 0; mem = 1000;
-  constraints = record { key = key.Role; equal = true; value = codes "worker" } ∷ []; spread = [];
+  workload = workload_1;
+  cpu = 0;
+  mem = 1000;
+  constraints = record { key = key.Role; equal = true; value = codes "worker" } ∷ [];
+  spread = [];
   platforms =
-    record { os = codes "windows"; arch = codes "amd64" }
-    ∷ record { os = codes "linux"; arch = codes "amd64" }
-    ∷ [];
-  max_replicas = 0; networks = []; host_ports = [];
+      record { os = codes "windows"; arch = codes "amd64" }
+      ∷ record { os = codes "linux"; arch = codes "amd64" }
+      ∷ [];
+  max_replicas = 0;
+  networks = [];
+  host_ports = [];
   restart = record { condition = condition.Any; delay = 5000; max_attempts = 0; window = 0 };
 }
 
 abbrev spec_1 : ServiceSpec
 spec_1 = record {
-  mode = mode.Global; template = template_1; ports = [];
+  mode = mode.Global;
+  template = template_1;
+  ports = [];
   update = record {
-    parallelism = 1; delay = 0; monitor = 5000; action = action.Pause; ratio = 0; order = order.StartFirst;
+    parallelism = 1;
+    delay = 0;
+    monitor = 5000;
+    action = action.Pause;
+    ratio = 0;
+    order = order.StartFirst;
   };
 }
 
@@ -67,25 +86,45 @@ workload_2 = record { prepare = 1; start = 1; stop = 1; end = end.Exit 1000 1 }
 
 abbrev template_2 : Template
 template_2 = record {
-  workload = workload_2; cpu = 0; mem = 0;
-  constraints = record { key = key.Label (codes "zone"); equal = false; value = codes "a" } ∷ []; spread = [];
-  platforms = []; max_replicas = 0; networks = []; host_ports = [];
+  workload = workload_2;
+  cpu = 0;
+  mem = 0;
+  constraints = record { key = key.Label (codes "zone"); equal = false; value = codes "a" } ∷ [];
+  spread = [];
+  platforms = [];
+  max_replicas = 0;
+  networks = [];
+  host_ports = [];
   restart = record { condition = condition.Any; delay = 4; max_attempts = 0; window = 0 };
 }
 
 abbrev spec_2 : ServiceSpec
 spec_2 = record {
-  mode = mode.Replicated 1; template = template_2; ports = [];
+  mode = mode.Replicated 1;
+  template = template_2;
+  ports = [];
   update = record {
-    parallelism = 1; delay = 0; monitor = 5000; action = action.Pause; ratio = 500; order = order.StopFirst;
+    parallelism = 1;
+    delay = 0;
+    monitor = 5000;
+    action = action.Pause;
+    ratio = 500;
+    order = order.StopFirst;
   };
 }
 
 abbrev spec_3 : ServiceSpec
 spec_3 = record {
-  mode = mode.Global; template = template_1; ports = [];
+  mode = mode.Global;
+  template = template_1;
+  ports = [];
   update = record {
-    parallelism = 1; delay = 50; monitor = 5000; action = action.Pause; ratio = 0; order = order.StartFirst;
+    parallelism = 1;
+    delay = 50;
+    monitor = 5000;
+    action = action.Pause;
+    ratio = 0;
+    order = order.StartFirst;
   };
 }
 
@@ -94,21 +133,33 @@ workload_3 = record { prepare = 1; start = 2; stop = 1; end = end.Never }
 
 abbrev template_3 : Template
 template_3 = record {
-  workload = workload_3; cpu = 0; mem = 1000;
-  constraints = record { key = key.Role; equal = true; value = codes "worker" } ∷ []; spread = [];
+  workload = workload_3;
+  cpu = 0;
+  mem = 1000;
+  constraints = record { key = key.Role; equal = true; value = codes "worker" } ∷ [];
+  spread = [];
   platforms =
-    record { os = codes "windows"; arch = codes "amd64" }
-    ∷ record { os = codes "linux"; arch = codes "amd64" }
-    ∷ [];
-  max_replicas = 0; networks = []; host_ports = [];
+      record { os = codes "windows"; arch = codes "amd64" }
+      ∷ record { os = codes "linux"; arch = codes "amd64" }
+      ∷ [];
+  max_replicas = 0;
+  networks = [];
+  host_ports = [];
   restart = record { condition = condition.Any; delay = 5000; max_attempts = 0; window = 0 };
 }
 
 abbrev spec_4 : ServiceSpec
 spec_4 = record {
-  mode = mode.Global; template = template_3; ports = [];
+  mode = mode.Global;
+  template = template_3;
+  ports = [];
   update = record {
-    parallelism = 1; delay = 0; monitor = 5000; action = action.Pause; ratio = 0; order = order.StartFirst;
+    parallelism = 1;
+    delay = 0;
+    monitor = 5000;
+    action = action.Pause;
+    ratio = 0;
+    order = order.StartFirst;
   };
 }
 
@@ -118,11 +169,11 @@ journal =
     ∷ asked 0 (call.Txn (op.CreateNetwork (codes "lan") 167772416 29 ∷ [])) (reply.Txn (2 ∷ []))
     ∷ asked 0 (call.Txn (op.CreateNetwork (codes "wan") 167772672 28 ∷ [])) (reply.Txn (3 ∷ []))
     ∷ asked 0 (call.Txn (op.SetCluster (record { heartbeat = 1000; orphan = 50; history = 0 }) ∷ []))
-          (reply.Txn (0 ∷ []))
+    (reply.Txn (0 ∷ []))
     ∷ asked 0 (call.Txn (op.CreateService (codes "s1") (record { spec = spec_1; networks = [] }) ∷ []))
-          (reply.Txn (4 ∷ []))
+    (reply.Txn (4 ∷ []))
     ∷ asked 0 (call.Txn (op.CreateService (codes "s2") (record { spec = spec_2; networks = [] }) ∷ []))
-          (reply.Txn (5 ∷ []))
+    (reply.Txn (5 ∷ []))
     ∷ asked 0 (call.Tick 2) reply.Ticked
     ∷ did 0 (duty.Register 1)
     ∷ did 0 (duty.GlobalCreate 4 1)
@@ -143,13 +194,13 @@ journal =
     ∷ did 0 (duty.Report 1 7)
     ∷ did 0 (duty.Exec 1 7)
     ∷ asked 0 (call.Txn (op.UpdateService (codes "s1") None (record { spec = spec_3; networks = [] }) ∷ []))
-          (reply.Txn (4 ∷ []))
+    (reply.Txn (4 ∷ []))
     ∷ asked 0 (call.Settle 14685) (reply.Settle 14685 (settle.Busy (duty.Report 1 7)))
     ∷ did 0 (duty.Report 1 7)
     ∷ asked 0 (call.Txn (op.UpdateNode (codes "n2") None [] node_role.Manager availability.Active ∷ []))
-          (reply.Refused (refusal.NotFound kind.Node (wanted_by.Name (codes "n2"))))
+    (reply.Refused (refusal.NotFound kind.Node (wanted_by.Name (codes "n2"))))
     ∷ asked 0 (call.Txn (op.UpdateService (codes "s1") None (record { spec = spec_4; networks = [] }) ∷ []))
-          (reply.Txn (4 ∷ []))
+    (reply.Txn (4 ∷ []))
     ∷ did 0 (duty.Start 4)
     ∷ did 0 (duty.Replace 4 1)
     ∷ did 0 (duty.Address 9)
@@ -186,77 +237,167 @@ abbrev pub world : World
 world = record {
   entries = 60;
   tables = record {
-    clock = 3007; next_id = 10;
+    clock = 3007;
+    next_id = 10;
     nodes =
-      record {
-        id = 1; version = 8; name = codes "n1"; labels = (codes "zone", codes "a") ∷ []; role = node_role.Worker;
-        availability = availability.Active; state = node_state.Ready; down_since = 0; cpu = 1000; mem = 8589934592;
-        os = codes "linux"; arch = codes "amd64"; engine = []; remote = false;
-      }
-      ∷ [];
+        record {
+          id = 1;
+          version = 8;
+          name = codes "n1";
+          labels = (codes "zone", codes "a") ∷ [];
+          role = node_role.Worker;
+          availability = availability.Active;
+          state = node_state.Ready;
+          down_since = 0;
+          cpu = 1000;
+          mem = 8589934592;
+          os = codes "linux";
+          arch = codes "amd64";
+          engine = [];
+          remote = false;
+        }
+        ∷ [];
     services =
-      record {
-        id = 4; version = 32; name = codes "s1"; spec = spec_4; previous = Some spec_3; template_version = 30;
-        rolling_back = false; iteration = 0; numbers = [];
-        run = Some (record {
-          status = status.Updating; version = 30; total = 1;
-          replaced = record { place = On 1; task = 9; created = 3 } ∷ [];
-        });
-      }
-      ∷ record {
-          id = 5; version = 6; name = codes "s2"; spec = spec_2; previous = None; template_version = 6;
-          rolling_back = false; iteration = 0; numbers = []; run = None;
+        record {
+          id = 4;
+          version = 32;
+          name = codes "s1";
+          spec = spec_4;
+          previous = Some spec_3;
+          template_version = 30;
+          rolling_back = false;
+          iteration = 0;
+          numbers = [];
+          run = Some (record {
+            status = status.Updating;
+            version = 30;
+            total = 1;
+            replaced = record { place = On 1; task = 9; created = 3 } ∷ [];
+          });
         }
-      ∷ [];
+        ∷ record {
+          id = 5;
+          version = 6;
+          name = codes "s2";
+          spec = spec_2;
+          previous = None;
+          template_version = 6;
+          rolling_back = false;
+          iteration = 0;
+          numbers = [];
+          run = None;
+        }
+        ∷ [];
     tasks =
-      record {
-        id = 7; version = 54; service = 4; place = On 1; iteration = 0; template = template_1; born = 5;
-        goal = desired.Running; node = Some 1; state = state.Shutdown; since = 7; desired = desired.Shutdown;
-        created = 2; raise_at = 2; addresses = []; note = note.Empty; closed = None;
-      }
-      ∷ record {
-          id = 8; version = 21; service = 5; place = Slot 1; iteration = 0; template = template_2; born = 6;
-          goal = desired.Running; node = None; state = state.Pending; since = 2; desired = desired.Running; created = 2;
-          raise_at = 2; addresses = []; note = note.Filters (0 ∷ 0 ∷ 1 ∷ 0 ∷ 0 ∷ 0 ∷ []); closed = None;
+        record {
+          id = 7;
+          version = 54;
+          service = 4;
+          place = On 1;
+          iteration = 0;
+          template = template_1;
+          born = 5;
+          goal = desired.Running;
+          node = Some 1;
+          state = state.Shutdown;
+          since = 7;
+          desired = desired.Shutdown;
+          created = 2;
+          raise_at = 2;
+          addresses = [];
+          note = note.Empty;
+          closed = None;
         }
-      ∷ record {
-          id = 9; version = 47; service = 4; place = On 1; iteration = 0; template = template_3; born = 30;
-          goal = desired.Running; node = Some 1; state = state.Running; since = 6; desired = desired.Running;
-          created = 3; raise_at = 3; addresses = []; note = note.Empty; closed = None;
+        ∷ record {
+          id = 8;
+          version = 21;
+          service = 5;
+          place = Slot 1;
+          iteration = 0;
+          template = template_2;
+          born = 6;
+          goal = desired.Running;
+          node = None;
+          state = state.Pending;
+          since = 2;
+          desired = desired.Running;
+          created = 2;
+          raise_at = 2;
+          addresses = [];
+          note = note.Filters (0 ∷ 0 ∷ 1 ∷ 0 ∷ 0 ∷ 0 ∷ []);
+          closed = None;
         }
-      ∷ [];
+        ∷ record {
+          id = 9;
+          version = 47;
+          service = 4;
+          place = On 1;
+          iteration = 0;
+          template = template_3;
+          born = 30;
+          goal = desired.Running;
+          node = Some 1;
+          state = state.Running;
+          since = 6;
+          desired = desired.Running;
+          created = 3;
+          raise_at = 3;
+          addresses = [];
+          note = note.Empty;
+          closed = None;
+        }
+        ∷ [];
     networks =
-      record { id = 2; version = 2; name = codes "lan"; base = 167772416; length = 29 }
-      ∷ record { id = 3; version = 3; name = codes "wan"; base = 167772672; length = 28 }
-      ∷ [];
-    attempts = []; sessions = record { node = 1; session = record { id = 6; deadline = 6007; beat = 3007 } } ∷ [];
+        record { id = 2; version = 2; name = codes "lan"; base = 167772416; length = 29 }
+        ∷ record { id = 3; version = 3; name = codes "wan"; base = 167772672; length = 28 }
+        ∷ [];
+    attempts = [];
+    sessions = record { node = 1; session = record { id = 6; deadline = 6007; beat = 3007 } } ∷ [];
     settings = record { heartbeat = 1000; orphan = 50; history = 0 };
   };
   sent =
-    record {
-      node = 1; count = 4;
-      tasks =
-        record { task = 7; desired = desired.Shutdown; workload = workload_1 }
-        ∷ record { task = 9; desired = desired.Running; workload = workload_3 }
-        ∷ [];
-    }
-    ∷ [];
+      record {
+        node = 1;
+        count = 4;
+        tasks =
+            record { task = 7; desired = desired.Shutdown; workload = workload_1 }
+            ∷ record { task = 9; desired = desired.Running; workload = workload_3 }
+            ∷ [];
+      }
+      ∷ [];
   agents =
-    record {
-      node = 1; mode = agent_mode.On; inbox = None; applied = 4;
-      executors =
-        record {
-          task = 7; desired = desired.Shutdown; workload = workload_1; state = state.Shutdown; since = 7;
-          stopping = Some 7; reported = Some state.Shutdown; gone = false;
-        }
-        ∷ record {
-            task = 9; desired = desired.Running; workload = workload_3; state = state.Running; since = 6;
-            stopping = None; reported = Some state.Running; gone = false;
-          }
-        ∷ [];
-    }
-    ∷ [];
-  watchers = []; events = []; halted = false;
+      record {
+        node = 1;
+        mode = agent_mode.On;
+        inbox = None;
+        applied = 4;
+        executors =
+            record {
+              task = 7;
+              desired = desired.Shutdown;
+              workload = workload_1;
+              state = state.Shutdown;
+              since = 7;
+              stopping = Some 7;
+              reported = Some state.Shutdown;
+              gone = false;
+            }
+            ∷ record {
+              task = 9;
+              desired = desired.Running;
+              workload = workload_3;
+              state = state.Running;
+              since = 6;
+              stopping = None;
+              reported = Some state.Running;
+              gone = false;
+            }
+            ∷ [];
+      }
+      ∷ [];
+  watchers = [];
+  events = [];
+  halted = false;
 }
 
 abbrev pub history : List Entry

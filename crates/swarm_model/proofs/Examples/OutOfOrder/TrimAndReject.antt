@@ -35,20 +35,41 @@ use Rattle.swarm_objects.specs.declared.templates.Workload.{Workload}
 
 abbrev draft_1 : NodeDraft
 draft_1 = record {
-  labels = (codes "zone", codes "A") ∷ []; role = node_role.Worker; availability = availability.Active; cpu = 4000;
-  mem = 8589934592; os = codes "linux"; arch = codes "amd64"; engine = []; remote = false;
+  labels = (codes "zone", codes "A") ∷ [];
+  role = node_role.Worker;
+  availability = availability.Active;
+  cpu = 4000;
+  mem = 8589934592;
+  os = codes "linux";
+  arch = codes "amd64";
+  engine = [];
+  remote = false;
 }
 
 abbrev draft_2 : NodeDraft
 draft_2 = record {
-  labels = (codes "zone", codes "a") ∷ []; role = node_role.Worker; availability = availability.Drain; cpu = 1000;
-  mem = 8589934592; os = codes "linux"; arch = codes "amd64"; engine = []; remote = false;
+  labels = (codes "zone", codes "a") ∷ [];
+  role = node_role.Worker;
+  availability = availability.Drain;
+  cpu = 1000;
+  mem = 8589934592;
+  os = codes "linux";
+  arch = codes "amd64";
+  engine = [];
+  remote = false;
 }
 
 abbrev draft_3 : NodeDraft
 draft_3 = record {
-  labels = (codes "zone", codes "A") ∷ []; role = node_role.Worker; availability = availability.Active; cpu = 2000;
-  mem = 8589934592; os = codes "linux"; arch = codes "amd64"; engine = []; remote = true;
+  labels = (codes "zone", codes "A") ∷ [];
+  role = node_role.Worker;
+  availability = availability.Active;
+  cpu = 2000;
+  mem = 8589934592;
+  os = codes "linux";
+  arch = codes "amd64";
+  engine = [];
+  remote = true;
 }
 
 abbrev workload_1 : Workload
@@ -56,17 +77,30 @@ workload_1 = record { prepare = 1; start = 1; stop = 1; end = end.Never }
 
 abbrev template_1 : Template
 template_1 = record {
-  workload = workload_1; cpu = 0; mem = 0;
-  constraints = record { key = key.Role; equal = true; value = codes "worker" } ∷ []; spread = []; platforms = [];
-  max_replicas = 0; networks = []; host_ports = [];
+  workload = workload_1;
+  cpu = 0;
+  mem = 0;
+  constraints = record { key = key.Role; equal = true; value = codes "worker" } ∷ [];
+  spread = [];
+  platforms = [];
+  max_replicas = 0;
+  networks = [];
+  host_ports = [];
   restart = record { condition = condition.Any; delay = 1; max_attempts = 2; window = 0 };
 }
 
 abbrev spec_1 : ServiceSpec
 spec_1 = record {
-  mode = mode.Global; template = template_1; ports = [];
+  mode = mode.Global;
+  template = template_1;
+  ports = [];
   update = record {
-    parallelism = 1; delay = 1; monitor = 5000; action = action.Pause; ratio = 250; order = order.StopFirst;
+    parallelism = 1;
+    delay = 1;
+    monitor = 5000;
+    action = action.Pause;
+    ratio = 250;
+    order = order.StopFirst;
   };
 }
 
@@ -77,18 +111,18 @@ journal =
     ∷ asked 0 (call.Txn (op.CreateNode (codes "r1") draft_3 ∷ [])) (reply.Txn (3 ∷ []))
     ∷ asked 0 (call.RemoteBegin (codes "r1") None None) (reply.SessionBegun 4 15000)
     ∷ asked 0 (call.Txn (op.SetCluster (record { heartbeat = 5000; orphan = 50; history = 0 }) ∷ []))
-          (reply.Txn (0 ∷ []))
+    (reply.Txn (0 ∷ []))
     ∷ asked 0 (call.Txn (op.CreateService (codes "s1") (record { spec = spec_1; networks = [] }) ∷ []))
-          (reply.Txn (5 ∷ []))
+    (reply.Txn (5 ∷ []))
     ∷ asked 0 (call.Tick 1) reply.Ticked
     ∷ did 0 (duty.GlobalCreate 5 3)
     ∷ asked 0 (call.NodeStart (codes "r1")) (reply.Refused (refusal.WrongKind 3))
     ∷ asked 0 (call.WatchPoll 15) (reply.Refused (refusal.UnknownWatcher 15))
     ∷ asked 0 (call.Tick 1) reply.Ticked
     ∷ asked 0 (call.RemoteBegin (codes "r2") None None)
-          (reply.Refused (refusal.NotFound kind.Node (wanted_by.Name (codes "r2"))))
+    (reply.Refused (refusal.NotFound kind.Node (wanted_by.Name (codes "r2"))))
     ∷ asked 0 (call.Txn (op.UpdateNode (codes "r1") (Some 9) [] node_role.Worker availability.Active ∷ []))
-          (reply.Refused (refusal.SequenceConflict 4))
+    (reply.Refused (refusal.SequenceConflict 4))
     ∷ did 0 (duty.Address 6)
     ∷ did 0 (duty.Place 6 3)
     ∷ did 0 (duty.Register 1)
@@ -114,25 +148,25 @@ journal =
     ∷ asked 0 (call.RemoteStatus (codes "r1") 4 6 state.Running) (reply.Status true state.Running)
     ∷ asked 0 (call.RemoteStatus (codes "r1") 4 6 state.Ready) (reply.Status false state.Running)
     ∷ asked 0 (call.Txn
-          (op.UpdateNode (codes "r2") None ((codes "zone", codes "b") ∷ []) node_role.Manager availability.Active ∷ []))
-          (reply.Refused (refusal.NotFound kind.Node (wanted_by.Name (codes "r2"))))
+    (op.UpdateNode (codes "r2") None ((codes "zone", codes "b") ∷ []) node_role.Manager availability.Active ∷ []))
+    (reply.Refused (refusal.NotFound kind.Node (wanted_by.Name (codes "r2"))))
     ∷ asked 0 (call.View query.ListNetworks) (reply.View (view.Networks []))
     ∷ asked 0 (call.Txn
-          (op.UpdateNode (codes "n3") None ((codes "zone", codes "A") ∷ []) node_role.Manager availability.Active ∷ []))
-          (reply.Refused (refusal.NotFound kind.Node (wanted_by.Name (codes "n3"))))
+    (op.UpdateNode (codes "n3") None ((codes "zone", codes "A") ∷ []) node_role.Manager availability.Active ∷ []))
+    (reply.Refused (refusal.NotFound kind.Node (wanted_by.Name (codes "n3"))))
     ∷ asked 0 (call.Txn
-          (op.UpdateNode (codes "n1") None ((codes "zone", codes "b") ∷ []) node_role.Manager availability.Active ∷ []))
-          (reply.Txn (1 ∷ []))
+    (op.UpdateNode (codes "n1") None ((codes "zone", codes "b") ∷ []) node_role.Manager availability.Active ∷ []))
+    (reply.Txn (1 ∷ []))
     ∷ did 0 (duty.Reject 8)
     ∷ did 0 (duty.Restart 8)
     ∷ asked 0 (call.Txn
-          (op.UpdateNode (codes "n2") None ((codes "zone", codes "b") ∷ []) node_role.Manager availability.Pause ∷ []))
-          (reply.Txn (2 ∷ []))
+    (op.UpdateNode (codes "n2") None ((codes "zone", codes "b") ∷ []) node_role.Manager availability.Pause ∷ []))
+    (reply.Txn (2 ∷ []))
     ∷ asked 0 (call.Txn (
-        op.UpdateNode (codes "r2") None ((codes "zone", codes "b") ∷ []) node_role.Worker availability.Active
-        ∷ op.UpdateNode (codes "n3") None ((codes "zone", codes "A") ∷ []) node_role.Manager availability.Active
-        ∷ op.CreateNetwork (codes "wan") 167772161 29
-        ∷ [])) (reply.Refused (refusal.NotFound kind.Node (wanted_by.Name (codes "r2"))))
+    op.UpdateNode (codes "r2") None ((codes "zone", codes "b") ∷ []) node_role.Worker availability.Active
+    ∷ op.UpdateNode (codes "n3") None ((codes "zone", codes "A") ∷ []) node_role.Manager availability.Active
+    ∷ op.CreateNetwork (codes "wan") 167772161 29
+    ∷ [])) (reply.Refused (refusal.NotFound kind.Node (wanted_by.Name (codes "r2"))))
     ∷ asked 0 (call.WatchPoll 35) (reply.Refused (refusal.UnknownWatcher 35))
     ∷ did 0 (duty.Trim 8)
     ∷ did 0 (duty.Address 10)
@@ -146,10 +180,10 @@ journal =
     ∷ did 0 (duty.Exec 1 8)
     ∷ did 0 (duty.Forget 1 8)
     ∷ asked 0 (call.RemoteBegin (codes "r2") None (Some 1000))
-          (reply.Refused (refusal.NotFound kind.Node (wanted_by.Name (codes "r2"))))
+    (reply.Refused (refusal.NotFound kind.Node (wanted_by.Name (codes "r2"))))
     ∷ asked 0 (call.Txn
-          (op.UpdateNode (codes "n1") None ((codes "zone", codes "b") ∷ []) node_role.Manager availability.Drain ∷ []))
-          (reply.Txn (1 ∷ []))
+    (op.UpdateNode (codes "n1") None ((codes "zone", codes "b") ∷ []) node_role.Manager availability.Drain ∷ []))
+    (reply.Txn (1 ∷ []))
     ∷ asked 0 (call.Tick 5) reply.Ticked
     ∷ []
 
@@ -157,51 +191,110 @@ abbrev pub world : World
 world = record {
   entries = 60;
   tables = record {
-    clock = 10; next_id = 11;
+    clock = 10;
+    next_id = 11;
     nodes =
-      record {
-        id = 1; version = 59; name = codes "n1"; labels = (codes "zone", codes "b") ∷ []; role = node_role.Manager;
-        availability = availability.Drain; state = node_state.Ready; down_since = 0; cpu = 4000; mem = 8589934592;
-        os = codes "linux"; arch = codes "amd64"; engine = []; remote = false;
-      }
-      ∷ record {
-          id = 2; version = 44; name = codes "n2"; labels = (codes "zone", codes "b") ∷ []; role = node_role.Manager;
-          availability = availability.Pause; state = node_state.Ready; down_since = 0; cpu = 1000; mem = 8589934592;
-          os = codes "linux"; arch = codes "amd64"; engine = []; remote = false;
+        record {
+          id = 1;
+          version = 59;
+          name = codes "n1";
+          labels = (codes "zone", codes "b") ∷ [];
+          role = node_role.Manager;
+          availability = availability.Drain;
+          state = node_state.Ready;
+          down_since = 0;
+          cpu = 4000;
+          mem = 8589934592;
+          os = codes "linux";
+          arch = codes "amd64";
+          engine = [];
+          remote = false;
         }
-      ∷ record {
-          id = 3; version = 4; name = codes "r1"; labels = (codes "zone", codes "A") ∷ []; role = node_role.Worker;
-          availability = availability.Active; state = node_state.Ready; down_since = 0; cpu = 2000; mem = 8589934592;
-          os = codes "linux"; arch = codes "amd64"; engine = []; remote = true;
+        ∷ record {
+          id = 2;
+          version = 44;
+          name = codes "n2";
+          labels = (codes "zone", codes "b") ∷ [];
+          role = node_role.Manager;
+          availability = availability.Pause;
+          state = node_state.Ready;
+          down_since = 0;
+          cpu = 1000;
+          mem = 8589934592;
+          os = codes "linux";
+          arch = codes "amd64";
+          engine = [];
+          remote = false;
         }
-      ∷ [];
+        ∷ record {
+          id = 3;
+          version = 4;
+          name = codes "r1";
+          labels = (codes "zone", codes "A") ∷ [];
+          role = node_role.Worker;
+          availability = availability.Active;
+          state = node_state.Ready;
+          down_since = 0;
+          cpu = 2000;
+          mem = 8589934592;
+          os = codes "linux";
+          arch = codes "amd64";
+          engine = [];
+          remote = true;
+        }
+        ∷ [];
     services =
-      record {
-        id = 5; version = 6; name = codes "s1"; spec = spec_1; previous = None; template_version = 6;
-        rolling_back = false; iteration = 0; numbers = []; run = None;
-      }
-      ∷ [];
+        record {
+          id = 5;
+          version = 6;
+          name = codes "s1";
+          spec = spec_1;
+          previous = None;
+          template_version = 6;
+          rolling_back = false;
+          iteration = 0;
+          numbers = [];
+          run = None;
+        }
+        ∷ [];
     tasks =
-      record {
-        id = 6; version = 36; service = 5; place = On 3; iteration = 0; template = template_1; born = 6;
-        goal = desired.Running; node = Some 3; state = state.Running; since = 4; desired = desired.Running; created = 1;
-        raise_at = 1; addresses = []; note = note.Empty; closed = None;
-      }
-      ∷ [];
-    networks = []; attempts = record { service = 5; place = On 1; version = 6; at = 4 } ∷ [];
+        record {
+          id = 6;
+          version = 36;
+          service = 5;
+          place = On 3;
+          iteration = 0;
+          template = template_1;
+          born = 6;
+          goal = desired.Running;
+          node = Some 3;
+          state = state.Running;
+          since = 4;
+          desired = desired.Running;
+          created = 1;
+          raise_at = 1;
+          addresses = [];
+          note = note.Empty;
+          closed = None;
+        }
+        ∷ [];
+    networks = [];
+    attempts = record { service = 5; place = On 1; version = 6; at = 4 } ∷ [];
     sessions =
-      record { node = 1; session = record { id = 7; deadline = 15002; beat = 2 } }
-      ∷ record { node = 2; session = record { id = 9; deadline = 15002; beat = 2 } }
-      ∷ record { node = 3; session = record { id = 4; deadline = 15000; beat = 0 } }
-      ∷ [];
+        record { node = 1; session = record { id = 7; deadline = 15002; beat = 2 } }
+        ∷ record { node = 2; session = record { id = 9; deadline = 15002; beat = 2 } }
+        ∷ record { node = 3; session = record { id = 4; deadline = 15000; beat = 0 } }
+        ∷ [];
     settings = record { heartbeat = 5000; orphan = 50; history = 0 };
   };
   sent = record { node = 1; count = 3; tasks = [] } ∷ record { node = 2; count = 1; tasks = [] } ∷ [];
   agents =
-    record { node = 1; mode = agent_mode.On; inbox = None; applied = 3; executors = [] }
-    ∷ record { node = 2; mode = agent_mode.On; inbox = None; applied = 1; executors = [] }
-    ∷ [];
-  watchers = []; events = []; halted = false;
+      record { node = 1; mode = agent_mode.On; inbox = None; applied = 3; executors = [] }
+      ∷ record { node = 2; mode = agent_mode.On; inbox = None; applied = 1; executors = [] }
+      ∷ [];
+  watchers = [];
+  events = [];
+  halted = false;
 }
 
 abbrev pub history : List Entry

@@ -19,6 +19,6 @@ loop-op-preserved c =
     let one : new.tables.next_id ≤ old.tables.next_id + 1 = next_id-op c.args.version old op new id done in
     record {
       left = c.loop-op.invariant.left
-      ∙ after_next c.args.version ops i op old new c.loop-op.ids c.push.new.self id below c.op-item.is done more;
+          ∙ after_next c.args.version ops i op old new c.loop-op.ids c.push.new.self id below c.op-item.is done more;
       room = room_left ops i c.loop-op.self.next_id c.apply.new.self.next_id _ below one c.loop-op.invariant.room;
     }

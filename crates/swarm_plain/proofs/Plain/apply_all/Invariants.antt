@@ -7,6 +7,6 @@ use Rattle.swarm_plain.proofs.Plain.apply_all.Given as goal
 abbrev pub invariant-loop-op : goal.invariant-loop-op
 invariant-loop-op l = record {
   left : apply_ops l.version l.ops (world_of l.fn.self) [] ≡
-    apply_ops l.version (drop l.op-index l.ops) (world_of l.self) l.ids;
+      apply_ops l.version (drop l.op-index l.ops) (world_of l.self) l.ids;
   room : l.self.next_id + length (drop l.op-index l.ops) < 2 ^ 64;
 }

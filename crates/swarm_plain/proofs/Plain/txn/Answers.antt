@@ -8,7 +8,7 @@ overflow_add-self-in-Ok c =
     let old = c.args.self.now in
     let new = c.apply_whole.new.self in
     let same : new.entries ≡ old.entries =
-      entries-ops (old.entries + 1) c.args.ops.now (world_of old) (world_of new) [] _ c.in-Ok.ensures.0 in
+    entries-ops (old.entries + 1) c.args.ops.now (world_of old) (world_of new) [] _ c.in-Ok.ensures.0 in
     omega (arith, same, c.requires.entries)
 
 pub returns-in-Ok : goal.returns-in-Ok
@@ -16,5 +16,5 @@ returns-in-Ok c =
     let old = c.args.self.now in
     let new = c.apply_whole.new.self in
     let same : new.entries ≡ old.entries =
-      entries-ops (old.entries + 1) c.args.ops.now (world_of old) (world_of new) [] _ c.in-Ok.ensures.0 in
+    entries-ops (old.entries + 1) c.args.ops.now (world_of old) (world_of new) [] _ c.in-Ok.ensures.0 in
     search rules
