@@ -4,6 +4,8 @@
 mod creates;
 mod lists;
 mod reads;
+#[cfg(test)]
+mod tests;
 
 ghost use Rattle.std.specs.Prelude.{◌≡◌, [], ◌∷◌, ◌+◌, ◌^◌, ◌<◌, false, length, IfOk};
 ghost use Rattle.swarm_objects.specs.World.{empty_world};

@@ -1,0 +1,187 @@
+// Each answer of a call, asked for once: want of memory may come in place of any, and no contract refuses that.
+use crate::Plain;
+use std::alloc::Global;
+use std::test::Fail;
+use swarm_objects::{
+    Call, Draft, Kind, List, Mode, Name, NoMemory, NodeDraft, Op, Query, Refusal, Reply, SpecRule,
+    ViewReply, add, list_of,
+};
+
+// What is told of a reply.
+#[derive(Clone, Copy, Debug, PartialEq, Eq)]
+enum Told {
+    Ids(usize),
+    Nodes(usize),
+    Tasks(usize),
+    NameTaken(u64),
+    TooManyOps(u64),
+    BadReplicas,
+    TooManyNodes(u64),
+    TooManyServices(u64),
+    Halted,
+    Full(u64),
+    HaltDone,
+    Did,
+    Other,
+}
+
+fn told_refusal(refusal: &Refusal) -> Told {
+    match refusal {
+        Refusal::NameTaken(id) => Told::NameTaken(*id),
+        Refusal::TooManyOps(count) => Told::TooManyOps(*count),
+        Refusal::BadSpec(SpecRule::Replicas) => Told::BadReplicas,
+        Refusal::TooMany(Kind::Node, count) => Told::TooManyNodes(*count),
+        Refusal::TooMany(Kind::Service, count) => Told::TooManyServices(*count),
+        Refusal::Halted => Told::Halted,
+        Refusal::Full(entries) => Told::Full(*entries),
+        _ => Told::Other,
+    }
+}
+
+fn told_of(reply: &Reply) -> Told {
+    match reply {
+        Reply::Txn(ids) => Told::Ids(ids.as_slice().len()),
+        Reply::View(ViewReply::Nodes(rows)) => Told::Nodes(rows.as_slice().len()),
+        Reply::View(ViewReply::Tasks(rows)) => Told::Tasks(rows.as_slice().len()),
+        Reply::Refused(refusal) => told_refusal(refusal),
+        Reply::HaltDone => Told::HaltDone,
+        Reply::Did => Told::Did,
+        _ => Told::Other,
+    }
+}
+
+// What a transaction is answered in the empty world, and how many nodes, services and entries there are after it.
+fn txn(alloc: Global, ops: &[Op]) -> (Told, usize, usize, u64) {
+    let mut plain = Plain::new(alloc);
+    let reply = plain.txn(ops);
+    let nodes = plain.nodes.as_slice().len();
+    let services = plain.services.as_slice().len();
+    (told_of(&reply), nodes, services, plain.entries)
+}
+
+fn node(alloc: Global, name: &str) -> Result<Op, NoMemory> {
+    Ok(Op::CreateNode(Name::new(alloc, name)?, NodeDraft::usual(alloc)?))
+}
+
+fn service(alloc: Global, name: &str, replicas: u64) -> Result<Op, NoMemory> {
+    let mut draft = Draft::usual(alloc);
+    draft.spec.mode = Mode::Replicated(replicas);
+    Ok(Op::CreateService(Name::new(alloc, name)?, draft))
+}
+
+fn two(alloc: Global, first: Op, second: Op) -> Result<(Told, usize, usize, u64), NoMemory> {
+    let mut ops = list_of(alloc, first)?;
+    add(&mut ops, second)?;
+    Ok(txn(alloc, ops.as_slice()))
+}
+
+fn two_nodes(alloc: Global, second: &str) -> Result<(Told, usize, usize, u64), NoMemory> {
+    two(alloc, node(alloc, "n1")?, node(alloc, second)?)
+}
+
+fn two_services(
+    alloc: Global,
+    second: &str,
+    replicas: u64,
+) -> Result<(Told, usize, usize, u64), NoMemory> {
+    two(
+        alloc,
+        service(alloc, "web", 1)?,
+        service(alloc, second, replicas)?,
+    )
+}
+
+#[test]
+fn several_operations(rt: HostRuntime) -> Result<(), Fail> {
+    let alloc = rt.alloc();
+    assert_eq!(rt; two_nodes(alloc, "n2")?, (Told::Ids(2), 2, 0, 1));
+    assert_eq!(rt; two_services(alloc, "db", 10_000)?, (Told::Ids(2), 0, 2, 1));
+    Ok(())
+}
+
+#[test]
+fn refused_operations_keep_nothing(rt: HostRuntime) -> Result<(), Fail> {
+    let alloc = rt.alloc();
+    assert_eq!(rt; two_nodes(alloc, "n1")?, (Told::NameTaken(1), 0, 0, 1));
+    assert_eq!(rt;
+        two_services(alloc, "web", 1)?,
+        (Told::NameTaken(1), 0, 0, 1)
+    );
+    assert_eq!(rt;
+        two_services(alloc, "db", 10_001)?,
+        (Told::BadReplicas, 0, 0, 1)
+    );
+    Ok(())
+}
+
+fn one_service(alloc: Global, replicas: u64) -> Result<(Told, usize, usize, u64), NoMemory> {
+    let ops = list_of(alloc, service(alloc, "web", replicas)?)?;
+    Ok(txn(alloc, ops.as_slice()))
+}
+
+#[test]
+fn single_operations(rt: HostRuntime) -> Result<(), Fail> {
+    let alloc = rt.alloc();
+    assert_eq!(rt; one_service(alloc, 1)?, (Told::Ids(1), 0, 1, 1));
+    assert_eq!(rt; one_service(alloc, 10_001)?, (Told::BadReplicas, 0, 0, 1));
+    Ok(())
+}
+
+// So many operations, each of a node with the same name.
+fn many_ops(alloc: Global, count: u64) -> Result<(Told, usize, usize, u64), NoMemory> {
+    let mut ops = List::new(alloc);
+    for _ in 0..count {
+        add(&mut ops, node(alloc, "n1")?)?;
+    }
+    Ok(txn(alloc, ops.as_slice()))
+}
+
+#[test]
+fn too_many_operations(rt: HostRuntime) -> Result<(), Fail> {
+    let alloc = rt.alloc();
+    assert_eq!(rt; many_ops(alloc, 200)?, (Told::NameTaken(1), 0, 0, 1));
+    assert_eq!(rt; many_ops(alloc, 201)?, (Told::TooManyOps(201), 0, 0, 1));
+    Ok(())
+}
+
+// What a query is answered in the empty world, and how many entries there are after it.
+fn view(alloc: Global, query: &Query) -> (Told, u64) {
+    let mut plain = Plain::new(alloc);
+    let reply = plain.view(query);
+    (told_of(&reply), plain.entries)
+}
+
+#[test]
+fn queries(rt: HostRuntime) -> Result<(), Fail> {
+    let alloc = rt.alloc();
+    assert_eq!(rt; view(alloc, &Query::ListNodes), (Told::Nodes(0), 1));
+    assert_eq!(rt; view(alloc, &Query::ListTasks(None)), (Told::Tasks(0), 1));
+    Ok(())
+}
+
+// Why a call becomes no entry of a world with so many.
+fn refusal(alloc: Global, entries: u64, halted: bool, call: &Call) -> Option<Told> {
+    let mut plain = Plain::new(alloc);
+    plain.entries = entries;
+    plain.halted = halted;
+    plain.refuses(call).map(|refusal| told_refusal(&refusal))
+}
+
+#[test]
+fn no_entries(rt: HostRuntime) -> Result<(), Fail> {
+    let alloc = rt.alloc();
+    let list = Call::View(Query::ListNodes);
+    assert_eq!(rt; refusal(alloc, 0, false, &list), None);
+    assert_eq!(rt; refusal(alloc, 299_999, false, &list), None);
+    assert_eq!(rt;
+        refusal(alloc, 300_000, false, &list),
+        Some(Told::Full(300_000))
+    );
+    assert_eq!(rt; refusal(alloc, 300_000, false, &Call::Halt), None);
+    assert_eq!(rt;
+        refusal(alloc, 300_001, true, &Call::Halt),
+        Some(Told::Halted)
+    );
+    assert_eq!(rt; refusal(alloc, 1, true, &list), Some(Told::Halted));
+    Ok(())
+}
