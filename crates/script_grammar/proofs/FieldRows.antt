@@ -50,9 +50,6 @@ number_same m n e = grind (arith, nat_tests)
 pub same_number : (m n : ℕ) → m ≡ n → nat_eq m n ≡ true
 same_number m n e = grind (arith, nat_tests)
 
-pub other_number : (m n : ℕ) → (m ≡ n → ⊥) → nat_eq m n ≡ false
-other_number m n h = grind (arith, nat_tests)
-
 pub at_row-in : (r : ℕ) (fs : List Field) → InRow r fs → at_row r fs ≡ fs
 at_row-in r [] h = refl
 at_row-in r (f ∷ fs) h =

@@ -29,6 +29,5 @@ pub mod DutyLaws
 pub mod Spaces
 pub mod EntryWords
 pub mod EntryLaws
-pub mod Fits
 pub mod Fitting
 pub mod Running

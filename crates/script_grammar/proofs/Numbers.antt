@@ -4,8 +4,8 @@ use Rattle.std.specs.Str.{bytes_eq}
 use Rattle.std.specs.Str.Parse.{digits_value}
 use Rattle.std.proofs.lemmas.Slice.Eq.{bytes_eq-Decides}
 use Rattle.std.proofs.lemmas.Bool.Decides.{nat_tests}
-use Rattle.std.proofs.lemmas.Fmt.{decimal_is_IsNumeral, decimal_injective}
-use Rattle.script_grammar.specs.Words.{number_below, number_of}
+use Rattle.std.proofs.lemmas.Fmt.{decimal_is_IsNumeral}
+use Rattle.script_grammar.specs.Words.{number_below}
 
 pub both : (a b : Bool) → (a && b) ≡ true → (a ≡ true) × (b ≡ true)
 both true b e = (refl, e)
@@ -53,21 +53,5 @@ no_number (Some n) h = absurd (h n refl)
 
 pub number_no : (limit : ℕ) (w : List ℕ) → ((n : ℕ) → n < limit → w ≢ decimal n) → number_below limit w ≡ None
 number_no limit w h = no_number (number_below limit w) (λ n e. let o = number_only limit n w e in h n o.1 o.0)
-
--- a smaller limit
-pub number_smaller : (limit : ℕ) (w : List ℕ) → limit < 2 ^ 64 → (o : Option ℕ) → number_of w ≡ o → number_below limit w ≡ (elim o [ Some n ↦ cond (nat_lt n limit) (Some n) None | None ↦ None ])
-number_smaller limit w h None e = no_number (number_below limit w) (λ n f. let o = number_only limit n w f in
-    let g = number_yes (2 ^ 64) n (omega (arith, o.1)) (omega (arith, o.1)) in
-    let k : number_of w ≡ Some n = ap number_of o.0 ∙ g in let l : None ≡ Some n = sym e ∙ k in cc)
-number_smaller limit w h (Some n) e =
-    let o = number_only (2 ^ 64) n w e in
-    ap (number_below limit) o.0 ∙ go (nat_lt n limit) refl
-  where
-    go : (b : Bool) → nat_lt n limit ≡ b → number_below limit (decimal n) ≡ cond b (Some n) None
-    go true t = number_yes limit n (below_only n limit t) (number_only (2 ^ 64) n w e).1
-    go false t = no_number (number_below limit (decimal n)) (λ m f. let o = number_only limit m (decimal n) f in
-        let byte_number : n < 2 ^ 64 = (number_only (2 ^ 64) n w e).1 in
-        let same = decimal_injective n m byte_number (omega (arith, o.1)) o.0 in
-        not_below n limit t (subst (λ x. x < limit) (sym same) o.1))
 
 -- the place of the first such byte parts the text

@@ -8,7 +8,6 @@ use Rattle.std.proofs.lemmas.Bool.Decides.{nat_tests}
 use Rattle.std.proofs.lemmas.Fmt.{decimal_is_IsNumeral}
 use Rattle.swarm_objects.specs.declared.services.Mode.TheVariants as mode
 use Rattle.swarm_objects.specs.declared.templates.Key.{Key}
-use Rattle.swarm_objects.specs.declared.templates.RestartCondition.TheVariants as condition
 use Rattle.script_grammar.specs.declared.fields.Field.TheVariants as field
 use Rattle.script_grammar.specs.declared.fields.NumberField.{NumberField}
 use Rattle.script_grammar.specs.declared.fields.NumberField.TheVariants as number
@@ -160,11 +159,6 @@ label_spelled k v h g = record {
   no_end = refl;
   no_version = refl;
 }
-
--- ## Words
-
-pub restart_spelled : IsSpelled (field.Restart condition.OnFailure)
-restart_spelled = record { back = refl; no_end = refl; no_version = refl }
 
 -- ## Keys and constraints
 

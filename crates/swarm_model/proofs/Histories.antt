@@ -174,15 +174,12 @@ ops_move version (op ∷ ops) w ids done e =
     one_more version op ops w ids done (apply_op version w op)
     (λ one. ops_move version ops one.0 (ids ++ one.1 ∷ []) done) refl e
 
--- operations are no entries; each takes one id at most
-pub entries-op : (version : ℕ) (w : World) (op : Op) (v : World) (id : ℕ) → apply_op version w op ≡ Ok (v, id) →
-    v.entries ≡ w.entries
-entries-op version w op v id e = (op_moves version w op (v, id) e).0
-
+-- an operation takes one id at most
 pub next_id-op : (version : ℕ) (w : World) (op : Op) (v : World) (id : ℕ) → apply_op version w op ≡ Ok (v, id) →
     v.tables.next_id ≤ w.tables.next_id + 1
 next_id-op version w op v id e = (op_moves version w op (v, id) e).1.1.2
 
+-- operations are no entries
 pub entries-ops : (version : ℕ) (ops : List Op) (w v : World) (ids all : List ℕ) → apply_ops version ops w ids ≡ Ok (v, all) →
     v.entries ≡ w.entries
 entries-ops version ops w v ids all e = (ops_move version ops w ids (v, all) e).0

@@ -2,7 +2,6 @@
 use Rattle.std.specs.Prelude.{Bool, List, None, Option, Some, [], false, nat_le, not, true, ℕ, ◌&&◌, ◌||◌, ◌∷◌}
 use Rattle.std.specs.List.{list_all}
 use Rattle.std.specs.Option.{option_eq}
-use Rattle.swarm_model.proofs.Examples.Audit.{asked}
 use Rattle.swarm_model.specs.Calls.{call_outcome}
 use Rattle.swarm_model.specs.Content.{same_task_making}
 use Rattle.swarm_model.specs.History.{step_world}

@@ -5,7 +5,6 @@ use Rattle.swarm_model.proofs.Examples.LawTests.{laws_hold}
 use Rattle.swarm_model.specs.Laws.Matches.{Matches}
 use Rattle.swarm_model.specs.Script.{Asked, Asks, Settles, Waits}
 use Rattle.swarm_model.specs.Serial.{serial}
-use Rattle.swarm_objects.specs.Loops.Agents.{agents}
 use Rattle.swarm_objects.specs.World.{World, empty_world}
 use Rattle.swarm_objects.specs.declared.agents.AgentMode.TheVariants as agent_mode
 use Rattle.swarm_objects.specs.declared.calls.Call.TheVariants as call
