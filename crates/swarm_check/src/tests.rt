@@ -4,7 +4,7 @@ use std::alloc::Global;
 use std::test::Fail;
 use swarm_objects::{
     Availability, Constraint, Draft, Duplicate, End, Key, Labels, List, Mode, Ms, Name, NoMemory,
-    Node, NodeRole, NodeState, Platform, Port, Settings, SpecRule, add,
+    Node, NodeRole, NodeState, Platform, Port, Settings, SpecRule, Workload, add,
 };
 
 const DAY: Ms = 86_400_000;
