@@ -1,4 +1,5 @@
 pub mod DutyLemmas
 pub mod Examples
 pub mod Histories
+pub mod SettleLaws
 pub mod Times
