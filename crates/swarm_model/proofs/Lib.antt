@@ -1,5 +1,6 @@
 pub mod DutyLemmas
 pub mod Examples
 pub mod Histories
+pub mod ReplyLaws
 pub mod SettleLaws
 pub mod Times
