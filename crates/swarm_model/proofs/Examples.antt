@@ -5,6 +5,7 @@ pub mod Due
 pub mod Illegal
 pub mod Journals
 pub mod LawTests
+pub mod Lines
 pub mod NoMatch
 pub mod OutOfOrder
 pub mod Refusals

@@ -104,7 +104,8 @@ Audits es = (a b : Audited) → audit_from a es ≡ Some b → IsAudited a es b
 audits_next : (e : Entry) (es : List Entry) → Audits es → Audits (e ∷ es)
 audits_next e es rest a b q = go (may_follow a.world e.what) refl q
   where
-    go : (m : Bool) → may_follow a.world e.what ≡ m → fold audit_next (audit_entry a e.what m) es ≡ Some b → IsAudited a (e ∷ es) b
+    go : (m : Bool) → may_follow a.world e.what ≡ m → fold audit_next (audit_entry a e.what m) es ≡ Some b
+        → IsAudited a (e ∷ es) b
     go true m r = audit_step a e es b m (rest (with_outcome a.replies (step a.world e.what)) b r)
     go false m r = absurd (fold_none es b r)
 
@@ -113,7 +114,9 @@ audited [] = λ a b q. empty_audited a b (some_is a b q)
 audited (e ∷ es) = audits_next e es (audited es)
 
 pub played : (w : World) (journal : List Told) (after : World)
-    → audit w (entries_of journal) ≡ Some (record { world = after; replies = replies_of journal }) → IsPlayed w journal after
+    → audit w (entries_of journal) ≡ Some (record { world = after; replies = replies_of journal })
+        → IsPlayed w journal after
 played w journal after q =
-    let h = audited (entries_of journal) (record { world = w; replies = [] }) (record { world = after; replies = replies_of journal }) q in
+    let h = audited (entries_of journal) (record { world = w; replies = [] })
+        (record { world = after; replies = replies_of journal }) q in
     record { legal = h.legal; replies = sym h.replies; world = sym h.world }

@@ -28,6 +28,7 @@ use Rattle.swarm_objects.specs.declared.replies.ViewReply.TheVariants as view
 use Rattle.swarm_objects.specs.declared.services.Draft.{Draft}
 use Rattle.swarm_objects.specs.declared.services.Mode.TheVariants as mode
 use Rattle.swarm_objects.specs.declared.services.Service.{Service}
+use Rattle.swarm_objects.specs.declared.tasks.Closed.TheVariants as closed
 use Rattle.swarm_objects.specs.declared.tasks.Desired.TheVariants as desired
 use Rattle.swarm_objects.specs.declared.tasks.Note.TheVariants as note
 use Rattle.swarm_objects.specs.declared.tasks.Place.TheVariants.{Slot}
@@ -44,12 +45,16 @@ use Rattle.swarm_objects.specs.declared.watches.Verb.TheVariants as verb
 -- Transactions.
 
 -- each operation finds what the earlier ones did
-one_after_the_other : says [] (call.Txn (op.CreateNetwork (codes "lan") 167772416 29 ∷ op.CreateService (codes "web") (on_networks (codes "lan" ∷ [])) ∷ []))
+one_after_the_other : says []
+    (call.Txn
+      (op.CreateNetwork (codes "lan") 167772416 29 ∷ op.CreateService (codes "web") (on_networks (codes "lan" ∷ []))
+        ∷ []))
     ≡ reply.Txn (1 ∷ 2 ∷ [])
 one_after_the_other = refl
 
 -- all of them, or none
-none_of_them : leaves [] (call.Txn (op.CreateService (codes "web") plain_draft ∷ op.RemoveService (codes "api") ∷ [])) ≡ record empty_world { entries = 1 }
+none_of_them : leaves [] (call.Txn (op.CreateService (codes "web") plain_draft ∷ op.RemoveService (codes "api") ∷ []))
+    ≡ record empty_world { entries = 1 }
 none_of_them = refl
 
 no_operations : says [] (call.Txn []) ≡ reply.Txn []
@@ -87,8 +92,14 @@ abbrev first_node : World → Option Node
 first_node w = first_of w.tables.nodes
 
 -- labels, role and availability are given; the rest stays
-node_written : first_node (leaves (join (codes "n") ∷ []) (one (op.UpdateNode (codes "n") (Some 1) ((codes "k", codes "v") ∷ []) node_role.Manager availability.Drain)))
-    ≡ Some (record (new_node 2 1 (codes "n") plain_node) { labels = (codes "k", codes "v") ∷ []; role = node_role.Manager; availability = availability.Drain })
+node_written : first_node
+    (leaves (join (codes "n") ∷ [])
+      (one (op.UpdateNode (codes "n") (Some 1) ((codes "k", codes "v") ∷ []) node_role.Manager availability.Drain)))
+    ≡ Some (record (new_node 2 1 (codes "n") plain_node) {
+        labels = (codes "k", codes "v") ∷ [];
+        role = node_role.Manager;
+        availability = availability.Drain;
+      })
 node_written = refl
 
 -- A node that is removed: its tasks up to RUNNING are orphans, placed or not.
@@ -165,33 +176,53 @@ created : leaves [] (create (codes "web") plain_draft) ≡ record empty_world {
 created = refl
 
 -- ids of networks in a draft's template are overwritten
-networks_are_named : first_service (leaves [] (create (codes "web") (with_template (record plain_template { networks = 7 ∷ 7 ∷ [] })))) ≡ Some web
+networks_are_named : first_service
+    (leaves [] (create (codes "web") (with_template (record plain_template { networks = 7 ∷ 7 ∷ [] })))) ≡ Some web
 networks_are_named = refl
 
 -- the template stays the same, and so does its version
-scaled : first_service (leaves (create (codes "web") plain_draft ∷ []) (update (codes "web") None (draft_of (mode.Replicated 3))))
-    ≡ Some (record web { version = 2; spec = plain_spec (mode.Replicated 3); previous = Some (plain_spec (mode.Replicated 1)) })
+scaled : first_service
+    (leaves (create (codes "web") plain_draft ∷ []) (update (codes "web") None (draft_of (mode.Replicated 3))))
+    ≡ Some (record web {
+        version = 2;
+        spec = plain_spec (mode.Replicated 3);
+        previous = Some (plain_spec (mode.Replicated 1));
+      })
 scaled = refl
 
 abbrev larger : Draft
 larger = with_template (record plain_template { cpu = 200 })
 
 templated : first_service (leaves (create (codes "web") plain_draft ∷ []) (update (codes "web") None larger))
-    ≡ Some (record web { version = 2; spec = larger.spec; previous = Some (plain_spec (mode.Replicated 1)); template_version = 2 })
+    ≡ Some (record web {
+        version = 2;
+        spec = larger.spec;
+        previous = Some (plain_spec (mode.Replicated 1));
+        template_version = 2;
+      })
 templated = refl
 
 -- back to the specification before, which then is the one to come back to
-rolled_back : first_service (leaves (create (codes "web") plain_draft ∷ update (codes "web") None larger ∷ []) (one (op.RollbackService (codes "web") None)))
+rolled_back : first_service
+    (leaves (create (codes "web") plain_draft ∷ update (codes "web") None larger ∷ [])
+      (one (op.RollbackService (codes "web") None)))
     ≡ Some (record web { version = 3; previous = Some larger.spec; template_version = 3; rolling_back = true })
 rolled_back = refl
 
 -- each update of a job is one more iteration
-next_job : first_service (leaves (create (codes "web") (draft_of (mode.Job 1 1)) ∷ []) (update (codes "web") None (draft_of (mode.Job 1 1))))
-    ≡ Some (record web { version = 2; spec = plain_spec (mode.Job 1 1); previous = Some (plain_spec (mode.Job 1 1)); iteration = 1 })
+next_job : first_service
+    (leaves (create (codes "web") (draft_of (mode.Job 1 1)) ∷ []) (update (codes "web") None (draft_of (mode.Job 1 1))))
+    ≡ Some (record web {
+        version = 2;
+        spec = plain_spec (mode.Job 1 1);
+        previous = Some (plain_spec (mode.Job 1 1));
+        iteration = 1;
+      })
 next_job = refl
 
 -- its attempts go with it
-service_removed : leaves (create (codes "web") plain_draft ∷ []) (one (op.RemoveService (codes "web"))) ≡ record empty_world {
+service_removed : leaves (create (codes "web") plain_draft ∷ []) (one (op.RemoveService (codes "web")))
+    ≡ record empty_world {
   entries = 2;
   tables = record empty_tables { next_id = 2 };
 }
@@ -217,7 +248,9 @@ set = refl
 viewed : leaves [] (call.View query.Clock) ≡ record empty_world { entries = 1 }
 viewed = refl
 
-shows_id_of_gone : (call_outcome (with_tasks empty_world (task_on 6 (Some 1) state.Running ∷ [])) (call.View (query.ListTasks None))).reply
+shows_id_of_gone :
+    (call_outcome (with_tasks empty_world (task_on 6 (Some 1) state.Running ∷ []))
+      (call.View (query.ListTasks None))).reply
     ≡ reply.View (view.Tasks (record {
       id = 6;
       service = by.Id 5;
@@ -228,6 +261,41 @@ shows_id_of_gone : (call_outcome (with_tasks empty_world (task_on 6 (Some 1) sta
       note = note_shown.Empty;
     } ∷ []))
 shows_id_of_gone = refl
+
+-- live tasks that run are counted, beside those that are wanted
+running_counted : (call_outcome (with_tasks (world_after (create (codes "web") (draft_of (mode.Replicated 4)) ∷ [])) (
+  record (task_on 6 (Some 1) state.Running) { service = 1 }
+  ∷ record (task_on 7 (Some 1) state.Starting) { service = 1 }
+  ∷ record (task_on 8 (Some 1) state.Running) { service = 1; desired = desired.Shutdown }
+  ∷ task_on 9 (Some 1) state.Running
+  ∷ [])) (call.View query.ListServices)).reply
+    ≡ reply.View (view.Services (record {
+        id = 1;
+        name = codes "web";
+        mode = mode.Replicated 4;
+        running = 1;
+        wanted = 4;
+        update = None;
+      } ∷ []))
+running_counted = refl
+
+abbrev closed_one : Task
+closed_one = record (task_on 6 None state.Pending) { note = note.NoPort true; closed = Some closed.Done }
+
+-- why its place is closed stands before why it waits
+shows_cause : (call_outcome (with_tasks empty_world (closed_one ∷ [])) (call.View (query.InspectTask 6))).reply
+    ≡ reply.View (view.Task (record {
+        id = 6;
+        version = 1;
+        service = 5;
+        place = place_shown.Slot 1;
+        node = None;
+        state = state.Pending;
+        desired = desired.Running;
+        addresses = [];
+        note = note_shown.Closed closed.Done;
+      }))
+shows_cause = refl
 
 -- Watches.
 
@@ -256,16 +324,20 @@ nothing_waits : (leaves watched (call.WatchPoll 1)).events ≡ []
 nothing_waits = refl
 
 -- with its end its events go
-watch_ended : leaves watched (call.WatchFinish 1) ≡ record (world_after watched) { entries = 6; watchers = []; events = [] }
+watch_ended : leaves watched (call.WatchFinish 1)
+    ≡ record (world_after watched) { entries = 6; watchers = []; events = [] }
 watch_ended = refl
 
 -- a refused transaction makes no event
-no_event_of_refused : (leaves (call.WatchBegin all_events ∷ []) (call.Txn (op.CreateService (codes "web") plain_draft ∷ op.RemoveService (codes "api") ∷ []))).events ≡ []
+no_event_of_refused :
+    (leaves (call.WatchBegin all_events ∷ [])
+      (call.Txn (op.CreateService (codes "web") plain_draft ∷ op.RemoveService (codes "api") ∷ []))).events ≡ []
 no_event_of_refused = refl
 
 -- Time.
 
-ticked_on : leaves [] (call.Tick 1000) ≡ record empty_world { entries = 1; tables = record empty_tables { clock = 1000 } }
+ticked_on : leaves [] (call.Tick 1000)
+    ≡ record empty_world { entries = 1; tables = record empty_tables { clock = 1000 } }
 ticked_on = refl
 
 -- Faults.
@@ -294,25 +366,33 @@ abbrev in_mode : AgentMode → List Executor → List NodeAgent
 in_mode m executors = record { node = 1; mode = m; inbox = None; applied = 0; executors = executors } ∷ []
 
 -- what starts or runs fails, and what only waits stays
-node_failed : agents_after (with_executors (executor 6 state.Ready ∷ executor 7 state.Starting ∷ executor 8 state.Running ∷ executor 9 state.Complete ∷ [])) (call.NodeFail (codes "n"))
-    ≡ in_mode agent_mode.PowerOff (executor 6 state.Ready ∷ executor 7 state.Failed ∷ executor 8 state.Failed ∷ executor 9 state.Complete ∷ [])
+node_failed : agents_after
+    (with_executors
+      (executor 6 state.Ready ∷ executor 7 state.Starting ∷ executor 8 state.Running ∷ executor 9 state.Complete ∷ []))
+        (call.NodeFail (codes "n"))
+    ≡ in_mode agent_mode.PowerOff
+        (executor 6 state.Ready ∷ executor 7 state.Failed ∷ executor 8 state.Failed ∷ executor 9 state.Complete ∷ [])
 node_failed = refl
 
-node_started : agents_after (leaves (join (codes "n") ∷ []) (call.NodeFail (codes "n"))) (call.NodeStart (codes "n")) ≡ in_mode agent_mode.On []
+node_started : agents_after (leaves (join (codes "n") ∷ []) (call.NodeFail (codes "n"))) (call.NodeStart (codes "n"))
+    ≡ in_mode agent_mode.On []
 node_started = refl
 
 agent_stopped : agents_after (with_executors (executor 8 state.Running ∷ [])) (call.AgentStop (codes "n"))
     ≡ in_mode agent_mode.AgentOff (executor 8 state.Running ∷ [])
 agent_stopped = refl
 
-agent_started : agents_after (leaves (join (codes "n") ∷ []) (call.AgentStop (codes "n"))) (call.AgentStart (codes "n")) ≡ in_mode agent_mode.On []
+agent_started : agents_after (leaves (join (codes "n") ∷ []) (call.AgentStop (codes "n"))) (call.AgentStart (codes "n"))
+    ≡ in_mode agent_mode.On []
 agent_started = refl
 
 -- without power nothing starts or stops
-no_start_without_power : agents_after (leaves (join (codes "n") ∷ []) (call.NodeFail (codes "n"))) (call.AgentStart (codes "n")) ≡ in_mode agent_mode.PowerOff []
+no_start_without_power : agents_after (leaves (join (codes "n") ∷ []) (call.NodeFail (codes "n")))
+    (call.AgentStart (codes "n")) ≡ in_mode agent_mode.PowerOff []
 no_start_without_power = refl
 
-no_stop_without_power : agents_after (leaves (join (codes "n") ∷ []) (call.NodeFail (codes "n"))) (call.AgentStop (codes "n")) ≡ in_mode agent_mode.PowerOff []
+no_stop_without_power : agents_after (leaves (join (codes "n") ∷ []) (call.NodeFail (codes "n")))
+    (call.AgentStop (codes "n")) ≡ in_mode agent_mode.PowerOff []
 no_stop_without_power = refl
 
 -- Remote nodes.
@@ -351,7 +431,9 @@ remote_beaten = refl
 abbrev assigned_six : Assigned
 assigned_six = record { task = 6; desired = desired.Running; workload = plain_template.workload }
 
-remote_pulled : (call_outcome (with_tasks opened (task_on 6 (Some 1) state.Assigned ∷ [])) (call.RemotePull (codes "r") 2)).after.sent
+remote_pulled :
+    (call_outcome (with_tasks opened (task_on 6 (Some 1) state.Assigned ∷ []))
+      (call.RemotePull (codes "r") 2)).after.sent
     ≡ record { node = 1; count = 1; tasks = assigned_six ∷ [] } ∷ []
 remote_pulled = refl
 
@@ -360,7 +442,9 @@ reports old s = call_outcome (with_tasks opened (task_on 6 (Some 1) old ∷ []))
 
 status_raised : reports state.Assigned state.Running ≡ record {
   reply = reply.Status true state.Running;
-  after = record (with_tasks opened (record (task_on 6 (Some 1) state.Running) { version = 4; since = 1000 } ∷ [])) { entries = 4 };
+  after =
+      record (with_tasks opened
+        (record (task_on 6 (Some 1) state.Running) { version = 4; since = 1000 } ∷ [])) { entries = 4 };
 }
 status_raised = refl
 
@@ -373,7 +457,8 @@ status_passed = refl
 
 -- Settle and Halt.
 
-asked_settle : call_outcome empty_world (call.Settle 9) ≡ record { reply = reply.Settle 9 settle.Settled; after = record empty_world { entries = 1 } }
+asked_settle : call_outcome empty_world (call.Settle 9)
+    ≡ record { reply = reply.Settle 9 settle.Settled; after = record empty_world { entries = 1 } }
 asked_settle = refl
 
 halted : leaves [] call.Halt ≡ record empty_world { entries = 1; halted = true }

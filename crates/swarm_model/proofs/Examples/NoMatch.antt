@@ -34,7 +34,8 @@ without_task id w = with_tables w (record w.tables { tasks = drop_row task_id id
 all_there : matches_world two_replicas.world ≡ true
 all_there = refl
 
-no_executor : matches_world (with_agents (λ a. record a { executors = drop_row executor_task 3 a.executors }) two_replicas.world) ≡ false
+no_executor : matches_world
+    (with_agents (λ a. record a { executors = drop_row executor_task 3 a.executors }) two_replicas.world) ≡ false
 no_executor = refl
 
 -- an executor that runs for no task
@@ -44,10 +45,13 @@ one_executor_more = refl
 not_running : matches_world (with_task 3 (λ x. record x { state = state.Starting }) two_replicas.world) ≡ false
 not_running = refl
 
-no_place : matches_world (with_agents (λ a. record a { executors = drop_row executor_task 3 a.executors }) (without_task 3 two_replicas.world)) ≡ false
+no_place : matches_world
+    (with_agents (λ a. record a { executors = drop_row executor_task 3 a.executors })
+      (without_task 3 two_replicas.world)) ≡ false
 no_place = refl
 
-other_template : matches_world (with_task 3 (λ x. record x { template = record x.template { cpu = 1 } }) two_replicas.world) ≡ false
+other_template : matches_world
+    (with_task 3 (λ x. record x { template = record x.template { cpu = 1 } }) two_replicas.world) ≡ false
 other_template = refl
 
 on_drained_node : matches_world (record two_replicas.world {
@@ -72,7 +76,8 @@ says_why = refl
 says_nothing : matches_world (with_task 8 (λ x. record x { note = note.Empty }) full_node.world) ≡ false
 says_nothing = refl
 
-says_another : matches_world (with_task 8 (λ x. record x { note = note.Filters (2 ∷ 0 ∷ 0 ∷ 0 ∷ 0 ∷ 0 ∷ []) }) full_node.world) ≡ false
+says_another : matches_world
+    (with_task 8 (λ x. record x { note = note.Filters (2 ∷ 0 ∷ 0 ∷ 0 ∷ 0 ∷ 0 ∷ []) }) full_node.world) ≡ false
 says_another = refl
 
 no_address : matches_world (with_task 9 (λ x. record x { note = note.Empty }) full_network.world) ≡ false
@@ -90,15 +95,22 @@ no_cause = refl
 closing_of_place : closing closed_place.history 6 ≡ Some (record { entry = 76; cause = closed.Attempts 2 })
 closing_of_place = refl
 
-closings_right : list_all (are_closings_right closed_place.history closed_place.world.tables) closed_place.world.tables.services ≡ true
+closings_right : list_all
+    (are_closings_right closed_place.history closed_place.world.tables) closed_place.world.tables.services ≡ true
 closings_right = refl
 
-other_cause : list_all (are_closings_right closed_place.history (with_task 6 (λ x. record x { closed = Some closed.Condition }) closed_place.world).tables) closed_place.world.tables.services
+other_cause : list_all
+    (are_closings_right closed_place.history
+      (with_task 6
+        (λ x. record x { closed = Some closed.Condition }) closed_place.world).tables)
+        closed_place.world.tables.services
     ≡ false
 other_cause = refl
 
 -- and without a closing there is none
-never_closed : list_all (are_closings_right (take 60 closed_place.history) closed_place.world.tables) closed_place.world.tables.services ≡ false
+never_closed : list_all
+    (are_closings_right (take 60 closed_place.history) closed_place.world.tables) closed_place.world.tables.services
+      ≡ false
 never_closed = refl
 
 done_once : matches_world done_job.world ≡ true

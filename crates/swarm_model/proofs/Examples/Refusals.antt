@@ -58,11 +58,13 @@ no_task : says [] (call.View (query.InspectTask 7)) ≡ reply.Refused (refusal.N
 no_task = refl
 
 -- the first of a draft's networks that isn't there
-no_network_of_draft : says (add_network (codes "lan") ∷ []) (create (codes "web") (on_networks (codes "lan" ∷ codes "wan" ∷ codes "man" ∷ [])))
+no_network_of_draft : says (add_network (codes "lan") ∷ [])
+    (create (codes "web") (on_networks (codes "lan" ∷ codes "wan" ∷ codes "man" ∷ [])))
     ≡ no_row kind.Network (codes "wan")
 no_network_of_draft = refl
 
-no_task_of_remote : says (join_remote (codes "r") ∷ call.RemoteBegin (codes "r") None None ∷ []) (call.RemoteStatus (codes "r") 2 9 state.Running)
+no_task_of_remote : says (join_remote (codes "r") ∷ call.RemoteBegin (codes "r") None None ∷ [])
+    (call.RemoteStatus (codes "r") 2 9 state.Running)
     ≡ reply.Refused (refusal.NotFound kind.Task (wanted_by.Id 9))
 no_task_of_remote = refl
 
@@ -71,19 +73,23 @@ no_task_of_remote = refl
 node_name_taken : says (join (codes "n") ∷ []) (join (codes "n")) ≡ reply.Refused (refusal.NameTaken 1)
 node_name_taken = refl
 
-service_name_taken : says (create (codes "web") plain_draft ∷ []) (create (codes "web") plain_draft) ≡ reply.Refused (refusal.NameTaken 1)
+service_name_taken : says (create (codes "web") plain_draft ∷ []) (create (codes "web") plain_draft)
+    ≡ reply.Refused (refusal.NameTaken 1)
 service_name_taken = refl
 
-network_name_taken : says (add_network (codes "lan") ∷ []) (add_network (codes "lan")) ≡ reply.Refused (refusal.NameTaken 1)
+network_name_taken : says (add_network (codes "lan") ∷ []) (add_network (codes "lan"))
+    ≡ reply.Refused (refusal.NameTaken 1)
 network_name_taken = refl
 
 -- Versions.
 
-node_conflict : says (join (codes "n") ∷ []) (one (op.UpdateNode (codes "n") (Some 9) [] node_role.Worker availability.Pause))
+node_conflict : says (join (codes "n") ∷ [])
+    (one (op.UpdateNode (codes "n") (Some 9) [] node_role.Worker availability.Pause))
     ≡ reply.Refused (refusal.SequenceConflict 1)
 node_conflict = refl
 
-service_conflict : says (create (codes "web") plain_draft ∷ []) (update (codes "web") (Some 9) plain_draft) ≡ reply.Refused (refusal.SequenceConflict 1)
+service_conflict : says (create (codes "web") plain_draft ∷ []) (update (codes "web") (Some 9) plain_draft)
+    ≡ reply.Refused (refusal.SequenceConflict 1)
 service_conflict = refl
 
 -- the version comes before what there is to go back to
@@ -105,33 +111,45 @@ most_replicas = refl
 concurrent : says [] (create (codes "web") (draft_of (mode.Job 0 1))) ≡ breaks rule.Concurrent
 concurrent = refl
 
-time : says [] (create (codes "web") (with_template (record plain_template { workload = record { prepare = 0; start = 1; stop = 1; end = end.Never } })))
+time : says []
+    (create (codes "web")
+      (with_template
+        (record plain_template { workload = record { prepare = 0; start = 1; stop = 1; end = end.Never } })))
     ≡ breaks rule.Time
 time = refl
 
-reservation : says [] (create (codes "web") (with_template (record plain_template { cpu = 1000001 }))) ≡ breaks rule.Reservation
+reservation : says [] (create (codes "web") (with_template (record plain_template { cpu = 1000001 })))
+    ≡ breaks rule.Reservation
 reservation = refl
 
-count : says (add_network (codes "lan") ∷ []) (create (codes "web") (on_networks (codes "lan" ∷ codes "lan" ∷ []))) ≡ breaks rule.Count
+count : says (add_network (codes "lan") ∷ []) (create (codes "web") (on_networks (codes "lan" ∷ codes "lan" ∷ [])))
+    ≡ breaks rule.Count
 count = refl
 
 ports : says [] (create (codes "web") (with_ports (port 80 None ∷ port 80 (Some 9) ∷ []))) ≡ breaks rule.Ports
 ports = refl
 
 -- host ports without a number are none, so they don't clash
-host_ports_without_number : says [] (create (codes "web") (with_template (record plain_template { host_ports = port 80 None ∷ port 80 None ∷ [] }))) ≡ reply.Txn (1 ∷ [])
+host_ports_without_number : says []
+    (create (codes "web") (with_template (record plain_template { host_ports = port 80 None ∷ port 80 None ∷ [] })))
+      ≡ reply.Txn (1 ∷ [])
 host_ports_without_number = refl
 
-host_ports_with_number : says [] (create (codes "web") (with_template (record plain_template { host_ports = port 80 (Some 8) ∷ port 80 (Some 8) ∷ [] })))
+host_ports_with_number : says []
+    (create (codes "web")
+      (with_template (record plain_template { host_ports = port 80 (Some 8) ∷ port 80 (Some 8) ∷ [] })))
     ≡ breaks rule.Ports
 host_ports_with_number = refl
 
-spread : says [] (create (codes "web") (with_template (record plain_template { spread = key.Hostname ∷ [] }))) ≡ breaks rule.Spread
+spread : says [] (create (codes "web") (with_template (record plain_template { spread = key.Hostname ∷ [] })))
+    ≡ breaks rule.Spread
 spread = refl
 
 ratio : says [] (create (codes "web") (record {
   spec = record (plain_spec mode.Global) {
-    update = record { parallelism = 0; delay = 0; monitor = 0; action = action.Pause; ratio = 1001; order = order.StopFirst };
+    update =
+        record { parallelism = 0; delay = 0; monitor = 0; action = action.Pause; ratio = 1001;
+          order = order.StopFirst };
   };
   networks = [];
 })) ≡ breaks rule.Ratio
@@ -140,10 +158,12 @@ ratio = refl
 resources : says [] (one (op.CreateNode (codes "n") (record plain_node { cpu = 1000001 }))) ≡ breaks rule.Resources
 resources = refl
 
-resources_of_remote : says (join_remote (codes "r") ∷ []) (call.RemoteBegin (codes "r") (Some 1000001) None) ≡ breaks rule.Resources
+resources_of_remote : says (join_remote (codes "r") ∷ []) (call.RemoteBegin (codes "r") (Some 1000001) None)
+    ≡ breaks rule.Resources
 resources_of_remote = refl
 
-labels_of_node : says (join (codes "n") ∷ []) (one (op.UpdateNode (codes "n") None (replicate 33 (codes "k", codes "v")) node_role.Worker availability.Active))
+labels_of_node : says (join (codes "n") ∷ [])
+    (one (op.UpdateNode (codes "n") None (replicate 33 (codes "k", codes "v")) node_role.Worker availability.Active))
     ≡ breaks rule.Count
 labels_of_node = refl
 
@@ -155,7 +175,9 @@ settings : says [] (one (op.SetCluster (record { heartbeat = 999; orphan = 1; hi
 settings = refl
 
 -- the first rule in the stated order
-first_rule : says [] (create (codes "web") (record { spec = record (plain_spec (mode.Job 0 10001)) { ports = port 0 None ∷ [] }; networks = [] }))
+first_rule : says []
+    (create (codes "web")
+      (record { spec = record (plain_spec (mode.Job 0 10001)) { ports = port 0 None ∷ [] }; networks = [] }))
     ≡ breaks rule.Replicas
 first_rule = refl
 
@@ -168,35 +190,43 @@ in_use : says on_lan (one (op.RemoveNetwork (codes "lan"))) ≡ reply.Refused (r
 in_use = refl
 
 -- also by the specification that a service had before
-in_use_before : says (add_network (codes "lan") ∷ create (codes "web") (on_networks (codes "lan" ∷ [])) ∷ update (codes "web") None plain_draft ∷ [])
+in_use_before : says
+    (add_network (codes "lan") ∷ create (codes "web") (on_networks (codes "lan" ∷ []))
+      ∷ update (codes "web") None plain_draft ∷ [])
     (one (op.RemoveNetwork (codes "lan"))) ≡ reply.Refused (refusal.InUse 2)
 in_use_before = refl
 
-port_taken : says (create (codes "web") (with_ports (port 80 (Some 90) ∷ [])) ∷ []) (create (codes "api") (with_ports (port 81 (Some 90) ∷ [])))
+port_taken : says (create (codes "web") (with_ports (port 80 (Some 90) ∷ [])) ∷ [])
+    (create (codes "api") (with_ports (port 81 (Some 90) ∷ [])))
     ≡ reply.Refused (refusal.PortTaken 1)
 port_taken = refl
 
 -- not by the service itself
-port_kept : says (create (codes "web") (with_ports (port 80 (Some 90) ∷ [])) ∷ []) (update (codes "web") None (with_ports (port 81 (Some 90) ∷ [])))
+port_kept : says (create (codes "web") (with_ports (port 80 (Some 90) ∷ [])) ∷ [])
+    (update (codes "web") None (with_ports (port 81 (Some 90) ∷ [])))
     ≡ reply.Txn (1 ∷ [])
 port_kept = refl
 
 -- What can't be done as things are.
 
-node_not_down : says (join (codes "n") ∷ []) (one (op.RemoveNode (codes "n") false)) ≡ reply.Refused (refusal.NodeNotDown node_state.Unknown)
+node_not_down : says (join (codes "n") ∷ []) (one (op.RemoveNode (codes "n") false))
+    ≡ reply.Refused (refusal.NodeNotDown node_state.Unknown)
 node_not_down = refl
 
-mode_change : says (create (codes "web") plain_draft ∷ []) (update (codes "web") None (draft_of mode.Global)) ≡ reply.Refused refusal.ModeChange
+mode_change : says (create (codes "web") plain_draft ∷ []) (update (codes "web") None (draft_of mode.Global))
+    ≡ reply.Refused refusal.ModeChange
 mode_change = refl
 
-too_many_ops : says [] (call.Txn (replicate 201 (op.RemoveService (codes "web")))) ≡ reply.Refused (refusal.TooManyOps 201)
+too_many_ops : says [] (call.Txn (replicate 201 (op.RemoveService (codes "web"))))
+    ≡ reply.Refused (refusal.TooManyOps 201)
 too_many_ops = refl
 
 -- so many are done one after the other
 as_many_ops : says [] (call.Txn (replicate 200 (op.RemoveService (codes "web")))) ≡ no_row kind.Service (codes "web")
 as_many_ops = refl
 
-no_previous : says (create (codes "web") plain_draft ∷ []) (one (op.RollbackService (codes "web") None)) ≡ reply.Refused refusal.NoPrevious
+no_previous : says (create (codes "web") plain_draft ∷ []) (one (op.RollbackService (codes "web") None))
+    ≡ reply.Refused refusal.NoPrevious
 no_previous = refl
 
 no_tick : says [] (call.Tick 0) ≡ reply.Refused (refusal.BadTick 0)
@@ -214,7 +244,8 @@ far_tick = refl
 abbrev open_remote : List Call
 open_remote = join_remote (codes "r") ∷ call.RemoteBegin (codes "r") None None ∷ []
 
-no_session : says (join_remote (codes "r") ∷ []) (call.RemoteBeat (codes "r") 2) ≡ reply.Refused (refusal.InvalidSession None)
+no_session : says (join_remote (codes "r") ∷ []) (call.RemoteBeat (codes "r") 2)
+    ≡ reply.Refused (refusal.InvalidSession None)
 no_session = refl
 
 other_session : says open_remote (call.RemotePull (codes "r") 9) ≡ reply.Refused (refusal.InvalidSession (Some 2))
@@ -223,7 +254,8 @@ other_session = refl
 abbrev at_deadline : World
 at_deadline = with_tables (world_after open_remote) (record (world_after open_remote).tables { clock = 15000 })
 
-expired_session : (call_outcome at_deadline (call.RemoteBeat (codes "r") 2)).reply ≡ reply.Refused (refusal.SessionExpired 15000)
+expired_session : (call_outcome at_deadline (call.RemoteBeat (codes "r") 2)).reply
+    ≡ reply.Refused (refusal.SessionExpired 15000)
 expired_session = refl
 
 abbrev with_task : TaskState → List Task
@@ -251,21 +283,24 @@ abbrev remote_with : TaskState → World
 remote_with s = with_tables (world_after open_remote) (record (world_after open_remote).tables { tasks = with_task s })
 
 -- bound to the node, and not assigned to it yet
-not_its_task : (call_outcome (remote_with state.Pending) (call.RemoteStatus (codes "r") 2 9 state.Running)).reply ≡ reply.Refused (refusal.NotThisNode 9)
+not_its_task : (call_outcome (remote_with state.Pending) (call.RemoteStatus (codes "r") 2 9 state.Running)).reply
+    ≡ reply.Refused (refusal.NotThisNode 9)
 not_its_task = refl
 
 no_report : (call_outcome (remote_with state.Assigned) (call.RemoteStatus (codes "r") 2 9 state.Assigned)).reply
     ≡ reply.Refused (refusal.BadState state.Assigned)
 no_report = refl
 
-no_report_of_orphan : (call_outcome (remote_with state.Assigned) (call.RemoteStatus (codes "r") 2 9 state.Orphaned)).reply
+no_report_of_orphan :
+    (call_outcome (remote_with state.Assigned) (call.RemoteStatus (codes "r") 2 9 state.Orphaned)).reply
     ≡ reply.Refused (refusal.BadState state.Orphaned)
 no_report_of_orphan = refl
 
 remote_has_no_agent : says open_remote (call.AgentStop (codes "r")) ≡ reply.Refused (refusal.WrongKind 1)
 remote_has_no_agent = refl
 
-node_is_inside : says (join (codes "n") ∷ []) (call.RemoteBegin (codes "n") None None) ≡ reply.Refused (refusal.WrongKind 1)
+node_is_inside : says (join (codes "n") ∷ []) (call.RemoteBegin (codes "n") None None)
+    ≡ reply.Refused (refusal.WrongKind 1)
 node_is_inside = refl
 
 -- Watchers.
@@ -280,7 +315,8 @@ abbrev some_event : Event
 some_event = record { entry = 3; verb = verb.Created; kind = kind.Node; id = 1 }
 
 -- 10,000 events are told, and one more takes the watcher away
-lagged : polled 5 (record empty_world { watchers = record { id = 1; filter = all_events; cursor = 0 } ∷ [] }) 1 (replicate 10001 some_event)
+lagged : polled 5 (record empty_world { watchers = record { id = 1; filter = all_events; cursor = 0 } ∷ [] }) 1
+    (replicate 10001 some_event)
     ≡ (reply.Refused (refusal.Lagged 10001), empty_world)
 lagged = refl
 
@@ -290,25 +326,34 @@ told = refl
 -- Numbers of rows.
 
 abbrev same_nodes : ℕ → World
-same_nodes k = with_tables empty_world (record empty_tables { nodes = replicate k (new_node 1 1 (codes "x") plain_node) })
+same_nodes k =
+    with_tables empty_world (record empty_tables { nodes = replicate k (new_node 1 1 (codes "x") plain_node) })
 
-too_many_nodes : (call_outcome (same_nodes 1000) (join (codes "n"))).reply ≡ reply.Refused (refusal.TooMany kind.Node 1000)
+too_many_nodes : (call_outcome (same_nodes 1000) (join (codes "n"))).reply
+    ≡ reply.Refused (refusal.TooMany kind.Node 1000)
 too_many_nodes = refl
 
 as_many_nodes : (call_outcome (same_nodes 999) (join (codes "n"))).reply ≡ reply.Txn (1 ∷ [])
 as_many_nodes = refl
 
 abbrev same_services : ℕ → World
-same_services k = with_tables empty_world (record empty_tables { services = replicate k (new_service 1 empty_tables (codes "x") plain_draft) })
+same_services k =
+    with_tables empty_world
+      (record empty_tables { services = replicate k (new_service 1 empty_tables (codes "x") plain_draft) })
 
-too_many_services : (call_outcome (same_services 1000) (create (codes "web") plain_draft)).reply ≡ reply.Refused (refusal.TooMany kind.Service 1000)
+too_many_services : (call_outcome (same_services 1000) (create (codes "web") plain_draft)).reply
+    ≡ reply.Refused (refusal.TooMany kind.Service 1000)
 too_many_services = refl
 
-too_many_networks : (call_outcome (with_tables empty_world (record empty_tables { networks = replicate 100 (new_network 1 1 (codes "x") 0 29) })) (add_network (codes "lan"))).reply
+too_many_networks :
+    (call_outcome
+      (with_tables empty_world (record empty_tables { networks = replicate 100 (new_network 1 1 (codes "x") 0 29) }))
+        (add_network (codes "lan"))).reply
     ≡ reply.Refused (refusal.TooMany kind.Network 100)
 too_many_networks = refl
 
-too_many_watchers : says (replicate 100 (call.WatchBegin all_events)) (call.WatchBegin all_events) ≡ reply.Refused (refusal.TooMany kind.Watcher 100)
+too_many_watchers : says (replicate 100 (call.WatchBegin all_events)) (call.WatchBegin all_events)
+    ≡ reply.Refused (refusal.TooMany kind.Watcher 100)
 too_many_watchers = refl
 
 -- The end.
@@ -326,8 +371,10 @@ full = refl
 halt_when_full : (outcome long_history call.Halt).reply ≡ reply.HaltDone
 halt_when_full = refl
 
-no_duty_when_full : may_follow (record (leaves [] (join (codes "n"))) { entries = 300000 }) (what.Duty (duty.Register 1)) ≡ false
+no_duty_when_full : may_follow (record (leaves [] (join (codes "n"))) { entries = 300000 })
+    (what.Duty (duty.Register 1)) ≡ false
 no_duty_when_full = refl
 
-duty_before : may_follow (record (leaves [] (join (codes "n"))) { entries = 299999 }) (what.Duty (duty.Register 1)) ≡ true
+duty_before : may_follow (record (leaves [] (join (codes "n"))) { entries = 299999 }) (what.Duty (duty.Register 1))
+    ≡ true
 duty_before = refl

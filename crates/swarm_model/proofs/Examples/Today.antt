@@ -25,21 +25,27 @@ begun = tables 3 (node 1 node_state.Unknown 1 ∷ []) (service 2 ∷ []) [] []
 create_first : replicated begun ≡ duty.ReplicatedCreate 2 1 ∷ []
 create_first = refl
 
-created_first : after_duty 3 begun (duty.ReplicatedCreate 2 1) ≡ tables 4 (node 1 node_state.Unknown 1 ∷ []) (service 2 ∷ []) (new 3 1 3 ∷ []) []
+created_first : after_duty 3 begun (duty.ReplicatedCreate 2 1)
+    ≡ tables 4 (node 1 node_state.Unknown 1 ∷ []) (service 2 ∷ []) (new 3 1 3 ∷ []) []
 created_first = refl
 
 -- the least slot that isn't held
 create_second : replicated (tables 4 [] (service 2 ∷ []) (new 3 1 3 ∷ []) []) ≡ duty.ReplicatedCreate 2 2 ∷ []
 create_second = refl
 
-create_between : replicated (tables 6 [] (service 3 ∷ []) (new 3 1 3 ∷ new 4 3 4 ∷ []) []) ≡ duty.ReplicatedCreate 2 2 ∷ []
+create_between : replicated (tables 6 [] (service 3 ∷ []) (new 3 1 3 ∷ new 4 3 4 ∷ []) [])
+    ≡ duty.ReplicatedCreate 2 2 ∷ []
 create_between = refl
 
 -- a task that is to go holds its slot no longer, unless it closes it
-create_again : replicated (tables 5 [] (service 2 ∷ []) (record (new 3 1 3) { desired = desired.Shutdown } ∷ new 4 2 4 ∷ []) []) ≡ duty.ReplicatedCreate 2 1 ∷ []
+create_again : replicated
+    (tables 5 [] (service 2 ∷ []) (record (new 3 1 3) { desired = desired.Shutdown } ∷ new 4 2 4 ∷ []) [])
+      ≡ duty.ReplicatedCreate 2 1 ∷ []
 create_again = refl
 
-create_none : replicated (tables 5 [] (service 2 ∷ []) (record (new 3 1 3) { desired = desired.Shutdown; closed = Some closed.Condition } ∷ new 4 2 4 ∷ []) []) ≡ []
+create_none : replicated
+    (tables 5 [] (service 2 ∷ [])
+      (record (new 3 1 3) { desired = desired.Shutdown; closed = Some closed.Condition } ∷ new 4 2 4 ∷ []) []) ≡ []
 create_none = refl
 
 -- Both tasks are there.
@@ -50,24 +56,31 @@ created = tables 5 (node 1 node_state.Unknown 1 ∷ []) (service 2 ∷ []) (new 
 address_both : allocator created ≡ duty.Address 3 ∷ duty.Address 4 ∷ []
 address_both = refl
 
-addressed_first : after_duty 5 created (duty.Address 3) ≡ record created { tasks = later 5 None state.Pending note.Empty (new 3 1 3) ∷ new 4 2 4 ∷ [] }
+addressed_first : after_duty 5 created (duty.Address 3)
+    ≡ record created { tasks = later 5 None state.Pending note.Empty (new 3 1 3) ∷ new 4 2 4 ∷ [] }
 addressed_first = refl
 
 -- No node is ready.
 
 abbrev waiting : Tables
-waiting = record created { tasks = later 5 None state.Pending note.Empty (new 3 1 3) ∷ later 6 None state.Pending note.Empty (new 4 2 4) ∷ [] }
+waiting =
+    record created { tasks = later 5 None state.Pending note.Empty (new 3 1 3)
+      ∷ later 6 None state.Pending note.Empty (new 4 2 4) ∷ [] }
 
 explain_both : scheduler waiting ≡ duty.Explain 3 ∷ duty.Explain 4 ∷ []
 explain_both = refl
 
-explained_first : after_duty 7 waiting (duty.Explain 3) ≡ record waiting { tasks = later 7 None state.Pending not_ready (new 3 1 3) ∷ later 6 None state.Pending note.Empty (new 4 2 4) ∷ [] }
+explained_first : after_duty 7 waiting (duty.Explain 3)
+    ≡ record waiting { tasks = later 7 None state.Pending not_ready (new 3 1 3)
+      ∷ later 6 None state.Pending note.Empty (new 4 2 4) ∷ [] }
 explained_first = refl
 
 -- The agent opens a session.
 
 abbrev noted : Tables
-noted = record created { tasks = later 7 None state.Pending not_ready (new 3 1 3) ∷ later 8 None state.Pending not_ready (new 4 2 4) ∷ [] }
+noted =
+    record created { tasks = later 7 None state.Pending not_ready (new 3 1 3)
+      ∷ later 8 None state.Pending not_ready (new 4 2 4) ∷ [] }
 
 explain_none : scheduler noted ≡ []
 explain_none = refl
@@ -89,11 +102,16 @@ register_none = refl
 place_both : scheduler ready ≡ duty.Place 3 1 ∷ duty.Place 4 1 ∷ []
 place_both = refl
 
-placed_first : after_duty 10 ready (duty.Place 3 1) ≡ record ready { tasks = later 10 (Some 1) state.Assigned note.Empty (new 3 1 3) ∷ later 8 None state.Pending not_ready (new 4 2 4) ∷ [] }
+placed_first : after_duty 10 ready (duty.Place 3 1)
+    ≡ record ready { tasks = later 10 (Some 1) state.Assigned note.Empty (new 3 1 3)
+      ∷ later 8 None state.Pending not_ready (new 4 2 4) ∷ [] }
 placed_first = refl
 
 -- the other node has fewer tasks
-place_beside : scheduler (tables 9 (node 1 node_state.Ready 9 ∷ node 6 node_state.Ready 9 ∷ []) (service 2 ∷ []) (later 10 (Some 1) state.Assigned note.Empty (new 3 1 3) ∷ later 8 None state.Pending not_ready (new 4 2 4) ∷ []) (session 1 5 ∷ session 6 7 ∷ [])) ≡ duty.Place 4 6 ∷ []
+place_beside : scheduler
+    (tables 9 (node 1 node_state.Ready 9 ∷ node 6 node_state.Ready 9 ∷ []) (service 2 ∷ [])
+      (later 10 (Some 1) state.Assigned note.Empty (new 3 1 3) ∷ later 8 None state.Pending not_ready (new 4 2 4) ∷ [])
+        (session 1 5 ∷ session 6 7 ∷ [])) ≡ duty.Place 4 6 ∷ []
 place_beside = refl
 
 -- The settle test, from the first duty to the last.
@@ -106,7 +124,9 @@ settle_waiting = refl
 
 settle_placed : settle_answer (record empty_world {
   entries = 11;
-  tables = record ready { tasks = later 10 (Some 1) state.Assigned note.Empty (new 3 1 3) ∷ later 11 (Some 1) state.Assigned note.Empty (new 4 2 4) ∷ [] };
+  tables =
+      record ready { tasks = later 10 (Some 1) state.Assigned note.Empty (new 3 1 3)
+        ∷ later 11 (Some 1) state.Assigned note.Empty (new 4 2 4) ∷ [] };
 }) ≡ Settled
 settle_placed = refl
 

@@ -81,7 +81,8 @@ plain_spec m = record {
   mode = m;
   template = plain_template;
   ports = [];
-  update = record { parallelism = 1; delay = 0; monitor = 5000; action = action.Pause; ratio = 0; order = order.StopFirst };
+  update =
+      record { parallelism = 1; delay = 0; monitor = 5000; action = action.Pause; ratio = 0; order = order.StopFirst };
 }
 
 abbrev pub plain_draft : Draft

@@ -71,23 +71,27 @@ registers = at_time 6000 (calm (executor state.Running))
 register_after_deadline : agents registers ≡ duty.Register 1 ∷ []
 register_after_deadline = refl
 
-no_register_when_off : agents (record registers { agents = record (agent None []) { mode = agent_mode.AgentOff } ∷ [] }) ≡ []
+no_register_when_off : agents (record registers { agents = record (agent None []) { mode = agent_mode.AgentOff } ∷ [] })
+    ≡ []
 no_register_when_off = refl
 
 abbrev a_message : Message
-a_message = record { complete = false; applies_to = 3; results_in = 4; changes = assign.Update (assigned_three desired.Shutdown) ∷ [] }
+a_message =
+    record { complete = false; applies_to = 3; results_in = 4; changes = assign.Update (assigned_three desired.Shutdown)
+      ∷ [] }
 
 -- a new session: nothing was sent in it, and the inbox is emptied
-registered_anew : after_register 7 (record registers { agents = agent (Some a_message) (executor state.Running ∷ []) ∷ [] }) 1
+registered_anew : after_register 7
+    (record registers { agents = agent (Some a_message) (executor state.Running ∷ []) ∷ [] }) 1
     ≡ record registers {
-      tables = record registers.tables {
-        next_id = 51;
-        nodes = record (node 1) { version = 7 } ∷ [];
-        sessions = record { node = 1; session = record { id = 50; deadline = 21000; beat = 6000 } } ∷ [];
-      };
-      sent = [];
-      agents = record (agent None (executor state.Running ∷ [])) { applied = 0 } ∷ [];
-    }
+        tables = record registers.tables {
+          next_id = 51;
+          nodes = record (node 1) { version = 7 } ∷ [];
+          sessions = record { node = 1; session = record { id = 50; deadline = 21000; beat = 6000 } } ∷ [];
+        };
+        sent = [];
+        agents = record (agent None (executor state.Running ∷ [])) { applied = 0 } ∷ [];
+      }
 registered_anew = refl
 
 -- Beat.
@@ -99,7 +103,8 @@ no_beat_before : agents (at_time 4999 (calm (executor state.Running))) ≡ []
 no_beat_before = refl
 
 beaten_at : after_beat (record calm_tables { clock = 5000 }) 1
-    ≡ record calm_tables { clock = 5000; sessions = record { node = 1; session = record { id = 41; deadline = 20000; beat = 5000 } } ∷ [] }
+    ≡ record calm_tables { clock = 5000;
+        sessions = record { node = 1; session = record { id = 41; deadline = 20000; beat = 5000 } } ∷ [] }
 beaten_at = refl
 
 -- Pull and apply.
@@ -115,12 +120,18 @@ abbrev raise_message : Message
 raise_message = record a_message { changes = assign.Update (assigned_three desired.Running) ∷ [] }
 
 pulled : after_pull unsent 1 (message_for unsent 1)
-    ≡ record unsent { sent = record (sent_so desired.Running) { count = 4 } ∷ []; agents = agent (Some raise_message) (executor state.Running ∷ []) ∷ [] }
+    ≡ record unsent { sent = record (sent_so desired.Running) { count = 4 }
+        ∷ []; agents = agent (Some raise_message) (executor state.Running ∷ []) ∷ [] }
 pulled = refl
 
 -- the first message of a session has all
 first_message : message_for (record unsent { sent = [] }) 1
-    ≡ Some (record { complete = true; applies_to = 0; results_in = 1; changes = assign.Update (assigned_three desired.Running) ∷ [] })
+    ≡ Some (record {
+        complete = true;
+        applies_to = 0;
+        results_in = 1;
+        changes = assign.Update (assigned_three desired.Running) ∷ [];
+      })
 first_message = refl
 
 -- a task that isn't the node's any more
@@ -136,16 +147,23 @@ apply_inbox = refl
 
 applied_update : after_apply (received_one a_message) 1
     ≡ record (calm (executor state.Running)) {
-      agents = record (agent None (record (executor state.Running) { desired = desired.Shutdown } ∷ [])) { applied = 4 } ∷ [];
-    }
+        agents =
+            record (agent None (record (executor state.Running) { desired = desired.Shutdown } ∷ [])) { applied = 4 }
+              ∷ [];
+      }
 applied_update = refl
 
 -- a complete message without the task takes its executor, and brings others
-applied_complete : (after_apply (received_one (record { complete = true; applies_to = 0; results_in = 1; changes = assign.Update (record (assigned_three desired.Ready) { task = 4 }) ∷ [] })) 1).agents
+applied_complete :
+    (after_apply
+      (received_one
+        (record { complete = true; applies_to = 0; results_in = 1; changes = assign.Update
+          (record (assigned_three desired.Ready) { task = 4 }) ∷ [] })) 1).agents
     ≡ record (agent None (
-    record (executor state.Running) { gone = true }
-    ∷ record { task = 4; desired = desired.Ready; workload = workload; state = state.Accepted; since = 1000; stopping = None; reported = None; gone = false }
-    ∷ [])) { applied = 1 } ∷ []
+        record (executor state.Running) { gone = true }
+        ∷ record { task = 4; desired = desired.Ready; workload = workload; state = state.Accepted; since = 1000;
+            stopping = None; reported = None; gone = false }
+        ∷ [])) { applied = 1 } ∷ []
 applied_complete = refl
 
 -- Executors.
@@ -153,11 +171,13 @@ applied_complete = refl
 abbrev exec_at : ℕ → Executor → List Duty
 exec_at clock e = agents (record (at_time clock (calm e)) { tables = record calm_tables { clock = clock } })
 
-exec_accepted : executor_step 1000 (executor state.Accepted) ≡ Some (record (executor state.Preparing) { since = 1000; reported = Some state.Accepted })
+exec_accepted : executor_step 1000 (executor state.Accepted)
+    ≡ Some (record (executor state.Preparing) { since = 1000; reported = Some state.Accepted })
 exec_accepted = refl
 
 -- prepared for 10
-exec_prepared : executor_step 1000 (executor state.Preparing) ≡ Some (record (executor state.Ready) { since = 1000; reported = Some state.Preparing })
+exec_prepared : executor_step 1000 (executor state.Preparing)
+    ≡ Some (record (executor state.Ready) { since = 1000; reported = Some state.Preparing })
 exec_prepared = refl
 
 no_exec_unprepared : executor_step 999 (executor state.Preparing) ≡ None
@@ -169,7 +189,8 @@ exec_ready = refl
 no_exec_waiting : executor_step 1000 (record (executor state.Ready) { desired = desired.Ready }) ≡ None
 no_exec_waiting = refl
 
-exec_started : executor_step 1010 (executor state.Starting) ≡ Some (record (executor state.Running) { since = 1010; reported = Some state.Starting })
+exec_started : executor_step 1010 (executor state.Starting)
+    ≡ Some (record (executor state.Running) { since = 1010; reported = Some state.Starting })
 exec_started = refl
 
 no_exec_starting : executor_step 1009 (executor state.Starting) ≡ None
@@ -210,21 +231,26 @@ unreported = calm (record (executor state.Running) { reported = Some state.Start
 report_news : agents unreported ≡ duty.Report 1 3 ∷ []
 report_news = refl
 
-no_report_of_gone : agents (calm (record (executor state.Failed) { reported = None; gone = true })) ≡ duty.Forget 1 3 ∷ []
+no_report_of_gone : agents (calm (record (executor state.Failed) { reported = None; gone = true }))
+    ≡ duty.Forget 1 3 ∷ []
 no_report_of_gone = refl
 
-no_report_without_task : agents (record unreported { tables = tables (node 1 ∷ []) (replicas 1 ∷ []) []; sent = record (sent_so desired.Running) { tasks = [] } ∷ [] }) ≡ []
+no_report_without_task : agents
+    (record unreported { tables = tables (node 1 ∷ [])
+      (replicas 1 ∷ []) []; sent = record (sent_so desired.Running) { tasks = [] } ∷ [] }) ≡ []
 no_report_without_task = refl
 
 abbrev starting : Tables
 starting = tables (node 1 ∷ []) (replicas 1 ∷ []) (placed_task 3 1 1 state.Starting ∷ [])
 
 reported_up : after_report 7 (record unreported { tables = starting }) 1 3
-    ≡ record (calm (executor state.Running)) { tables = tables (node 1 ∷ []) (replicas 1 ∷ []) (record running { version = 7; since = 1000 } ∷ []) }
+    ≡ record (calm (executor state.Running)) { tables = tables (node 1 ∷ []) (replicas 1 ∷ [])
+        (record running { version = 7; since = 1000 } ∷ []) }
 reported_up = refl
 
 -- a state that isn't above the task's is told, and changes nothing
-reported_behind : after_report 7 (calm (record (executor state.Starting) { reported = None })) 1 3 ≡ calm (executor state.Starting)
+reported_behind : after_report 7 (calm (record (executor state.Starting) { reported = None })) 1 3
+    ≡ calm (executor state.Starting)
 reported_behind = refl
 
 -- Forget.
@@ -232,7 +258,8 @@ reported_behind = refl
 no_forget_of_running : agents (calm (record (executor state.Running) { gone = true; stopping = Some 2000 })) ≡ []
 no_forget_of_running = refl
 
-forgotten : after_forget (calm (executor state.Running)) 1 3 ≡ world (sent_so desired.Running ∷ []) (agent None []) calm_tables
+forgotten : after_forget (calm (executor state.Running)) 1 3
+    ≡ world (sent_so desired.Running ∷ []) (agent None []) calm_tables
 forgotten = refl
 
 -- Sessions first, then the inbox, then executors, reports and what is forgotten.
@@ -243,9 +270,9 @@ other task e = record e { task = task }
 in_order : agents (record (at_time 5000 (calm (executor state.Running))) {
   sent = sent_so desired.Ready ∷ [];
   agents = agent None (
-      record (executor state.Running) { reported = None }
-      ∷ other 4 (executor state.Accepted)
-      ∷ record (other 5 (executor state.Failed)) { gone = true }
-      ∷ []) ∷ [];
+    record (executor state.Running) { reported = None }
+    ∷ other 4 (executor state.Accepted)
+    ∷ record (other 5 (executor state.Failed)) { gone = true }
+    ∷ []) ∷ [];
 }) ≡ duty.Beat 1 ∷ duty.Pull 1 ∷ duty.Exec 1 4 ∷ duty.Report 1 3 ∷ duty.Forget 1 5 ∷ []
 in_order = refl

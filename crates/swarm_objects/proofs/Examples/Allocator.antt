@@ -52,7 +52,8 @@ given number s = record s { version = 7; numbers = record { target = 80; udp = f
 no_port_twice : allocator (world_of (given 30000 (with_ports (port 80 None ∷ []))) []) ≡ []
 no_port_twice = refl
 
-port_given : after_port 7 (world_of (with_ports (port 80 None ∷ [])) []) 2 80 false ≡ world_of (given 30000 (with_ports (port 80 None ∷ []))) []
+port_given : after_port 7 (world_of (with_ports (port 80 None ∷ [])) []) 2 80 false
+    ≡ world_of (given 30000 (with_ports (port 80 None ∷ []))) []
 port_given = refl
 
 -- a number that the specification or the one before it names is held
@@ -84,10 +85,12 @@ addressed_first : after_address 7 (world_of (replicas 1) (on_lan fresh ∷ [])) 
 addressed_first = refl
 
 -- a task that runs keeps its address, one that ended doesn't
-address_held : free_address (world_of (replicas 1) (addressed_at 1002 (task 3 (Slot 1) state.Running) ∷ [])) 8 ≡ Some 1003
+address_held : free_address (world_of (replicas 1) (addressed_at 1002 (task 3 (Slot 1) state.Running) ∷ [])) 8
+    ≡ Some 1003
 address_held = refl
 
-address_free_again : free_address (world_of (replicas 1) (addressed_at 1002 (task 3 (Slot 1) state.Failed) ∷ [])) 8 ≡ Some 1002
+address_free_again : free_address (world_of (replicas 1) (addressed_at 1002 (task 3 (Slot 1) state.Failed) ∷ [])) 8
+    ≡ Some 1002
 address_free_again = refl
 
 -- Why there is none.
@@ -96,19 +99,22 @@ abbrev holder : ℕ → ℕ → Task
 holder id number = addressed_at number (task id (Slot id) state.Running)
 
 abbrev full : List Task → Tables
-full tasks = world_of (replicas 9) (holder 10 1002 ∷ holder 11 1003 ∷ holder 12 1004 ∷ holder 13 1005 ∷ holder 14 1006 ∷ tasks)
+full tasks =
+    world_of (replicas 9) (holder 10 1002 ∷ holder 11 1003 ∷ holder 12 1004 ∷ holder 13 1005 ∷ holder 14 1006 ∷ tasks)
 
 -- the last address is none
 note_where_full : allocator (full (on_lan fresh ∷ [])) ≡ duty.Note 3 ∷ []
 note_where_full = refl
 
-noted_full : after_note 7 (full (on_lan fresh ∷ [])) 3 ≡ full (record (on_lan fresh) { version = 7; note = note.NoAddress 8 } ∷ [])
+noted_full : after_note 7 (full (on_lan fresh ∷ [])) 3
+    ≡ full (record (on_lan fresh) { version = 7; note = note.NoAddress 8 } ∷ [])
 noted_full = refl
 
 no_note_twice : allocator (full (record (on_lan fresh) { note = note.NoAddress 8 } ∷ [])) ≡ []
 no_note_twice = refl
 
-note_where_network_is_gone : allocator (record (world_of (replicas 1) (on_lan fresh ∷ [])) { networks = [] }) ≡ duty.Note 3 ∷ []
+note_where_network_is_gone : allocator (record (world_of (replicas 1) (on_lan fresh ∷ [])) { networks = [] })
+    ≡ duty.Note 3 ∷ []
 note_where_network_is_gone = refl
 
 -- Ports come before addresses, and these before notes.

@@ -25,7 +25,8 @@ expire_without_session = refl
 no_expire_of_down : dispatcher (record (one_node 6000) { nodes = down_node 1 6000 ∷ [] }) ≡ []
 no_expire_of_down = refl
 
-expired : after_expire 7 (one_node 6000) 1 ≡ record (one_node 6000) { nodes = record (down_node 1 6000) { version = 7 } ∷ [] }
+expired : after_expire 7 (one_node 6000) 1
+    ≡ record (one_node 6000) { nodes = record (down_node 1 6000) { version = 7 } ∷ [] }
 expired = refl
 
 -- A task of a node that is down for the orphan time, which is 600 here.
@@ -57,5 +58,6 @@ orphaned = refl
 
 -- Nodes come before tasks.
 
-nodes_first : dispatcher (record (long_down 1000 lost) { nodes = down_node 1 400 ∷ node 4 ∷ [] }) ≡ duty.Expire 4 ∷ duty.Orphan 3 ∷ []
+nodes_first : dispatcher (record (long_down 1000 lost) { nodes = down_node 1 400 ∷ node 4 ∷ [] })
+    ≡ duty.Expire 4 ∷ duty.Orphan 3 ∷ []
 nodes_first = refl

@@ -52,7 +52,8 @@ no_leave_where_right : global (with_task_of (node 1)) ≡ []
 no_leave_where_right = refl
 
 left : after_leave 7 (with_task_of elsewhere) 2 1
-    ≡ tables (elsewhere ∷ []) (in_zone_a ∷ []) (record (of_node state.Running) { version = 7; desired = desired.Remove } ∷ [])
+    ≡ tables (elsewhere ∷ []) (in_zone_a ∷ [])
+        (record (of_node state.Running) { version = 7; desired = desired.Remove } ∷ [])
 left = refl
 
 -- A node that is to have one.
@@ -87,6 +88,8 @@ came = refl
 
 -- Leaving comes first.
 
-leaves_first : global (tables (node 1 ∷ down_node 4 0 ∷ []) (in_zone_a ∷ []) (record (task 3 (On 4) state.Running) { node = Some 4 } ∷ []))
+leaves_first : global
+    (tables (node 1 ∷ down_node 4 0 ∷ []) (in_zone_a ∷ [])
+      (record (task 3 (On 4) state.Running) { node = Some 4 } ∷ []))
     ≡ duty.Leave 2 4 ∷ duty.GlobalCreate 2 1 ∷ []
 leaves_first = refl

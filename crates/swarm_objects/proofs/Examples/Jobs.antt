@@ -22,7 +22,8 @@ with_job iteration tasks = tables (node 1 ∷ []) (record (job 2 3) { iteration 
 old_of_earlier : jobs (with_job 1 (of_job 3 0 state.Running ∷ [])) ≡ duty.Old 3 ∷ []
 old_of_earlier = refl
 
-not_old_twice : jobs (with_job 1 (with_desired desired.Remove (of_job 3 0 state.Running) ∷ [])) ≡ duty.JobCreate 2 0 ∷ []
+not_old_twice : jobs (with_job 1 (with_desired desired.Remove (of_job 3 0 state.Running) ∷ []))
+    ≡ duty.JobCreate 2 0 ∷ []
 not_old_twice = refl
 
 not_old_of_this : jobs (with_job 0 (of_job 3 0 state.Running ∷ of_job 4 1 state.Running ∷ [])) ≡ []

@@ -27,7 +27,8 @@ delete_pending = refl
 no_delete_of_running : reaper (with_task_in state.Running) ≡ []
 no_delete_of_running = refl
 
-no_delete_of_kept : reaper (tables (node 1 ∷ []) (replicas 1 ∷ []) (with_desired desired.Shutdown (placed_task 3 1 1 state.Failed) ∷ [])) ≡ []
+no_delete_of_kept : reaper
+    (tables (node 1 ∷ []) (replicas 1 ∷ []) (with_desired desired.Shutdown (placed_task 3 1 1 state.Failed) ∷ [])) ≡ []
 no_delete_of_kept = refl
 
 deleted : after_delete (with_task_in state.Shutdown) 3 ≡ tables (node 1 ∷ []) (replicas 1 ∷ []) []
@@ -41,20 +42,25 @@ past id = with_desired desired.Shutdown (placed_task id 1 1 state.Failed)
 abbrev with_past : Service → List Task → Tables
 with_past s tasks = record (tables (node 1 ∷ []) (s ∷ []) tasks) { settings = record usual_settings { history = 1 } }
 
-trim_oldest : reaper (with_past (replicas 1) (past 3 ∷ past 4 ∷ placed_task 5 1 1 state.Running ∷ [])) ≡ duty.Trim 3 ∷ []
+trim_oldest : reaper (with_past (replicas 1) (past 3 ∷ past 4 ∷ placed_task 5 1 1 state.Running ∷ []))
+    ≡ duty.Trim 3 ∷ []
 trim_oldest = refl
 
 no_trim_of_so_many : reaper (with_past (replicas 1) (past 3 ∷ placed_task 5 1 1 state.Running ∷ [])) ≡ []
 no_trim_of_so_many = refl
 
 -- the newest one stays, even where none is kept
-no_trim_of_newest : reaper (record (with_past (replicas 1) (past 3 ∷ [])) { settings = record usual_settings { history = 0 } }) ≡ []
+no_trim_of_newest : reaper
+    (record (with_past (replicas 1) (past 3 ∷ [])) { settings = record usual_settings { history = 0 } }) ≡ []
 no_trim_of_newest = refl
 
 no_trim_of_other_places : reaper (with_past (replicas 2) (past 3 ∷ record (past 4) { place = Slot 2 } ∷ [])) ≡ []
 no_trim_of_other_places = refl
 
-no_trim_during_update : reaper (with_past (record (replicas 1) { run = Some (record { status = status.Updating; version = 2; total = 1; replaced = [] }) }) (past 3 ∷ past 4 ∷ placed_task 5 1 1 state.Running ∷ []))
+no_trim_during_update : reaper
+    (with_past
+      (record (replicas 1) { run = Some (record { status = status.Updating; version = 2; total = 1; replaced = [] }) })
+        (past 3 ∷ past 4 ∷ placed_task 5 1 1 state.Running ∷ []))
     ≡ []
 no_trim_during_update = refl
 
@@ -63,6 +69,9 @@ trimmed = refl
 
 -- Deletes come first.
 
-deletes_first : reaper (with_past (replicas 1) (past 3 ∷ past 4 ∷ with_desired desired.Remove (placed_task 5 2 1 state.Failed) ∷ placed_task 6 1 1 state.Running ∷ []))
+deletes_first : reaper
+    (with_past (replicas 1)
+      (past 3 ∷ past 4 ∷ with_desired desired.Remove (placed_task 5 2 1 state.Failed) ∷ placed_task 6 1 1 state.Running
+        ∷ []))
     ≡ duty.Delete 5 ∷ duty.Trim 3 ∷ []
 deletes_first = refl

@@ -31,7 +31,8 @@ not_gone_twice = refl
 not_gone_with_service : replicated (with_tasks 1 (up 3 1 1 ∷ [])) ≡ []
 not_gone_with_service = refl
 
-gone : after_gone 7 (without_service (up 3 1 1)) 3 ≡ without_service (record (up 3 1 1) { version = 7; desired = desired.Remove })
+gone : after_gone 7 (without_service (up 3 1 1)) 3
+    ≡ without_service (record (up 3 1 1) { version = 7; desired = desired.Remove })
 gone = refl
 
 -- Places that are too many.
@@ -49,7 +50,8 @@ down_the_crowded : replicated (with_tasks 2 (up 3 1 1 ∷ up 4 2 1 ∷ up 5 3 10
 down_the_crowded = refl
 
 -- a live task that has ended, and isn't made anew yet, counts for its node
-down_where_one_ended : replicated (with_tasks 1 (up 3 1 1 ∷ placed_task 4 1 1 state.Failed ∷ up 5 2 10 ∷ [])) ≡ duty.Down 2 1 ∷ []
+down_where_one_ended : replicated (with_tasks 1 (up 3 1 1 ∷ placed_task 4 1 1 state.Failed ∷ up 5 2 10 ∷ []))
+    ≡ duty.Down 2 1 ∷ []
 down_where_one_ended = refl
 
 no_down_at_the_number : replicated (with_tasks 2 (up 3 1 1 ∷ up 4 2 10 ∷ [])) ≡ []
@@ -57,7 +59,9 @@ no_down_at_the_number = refl
 
 -- every task of the slot that isn't to be removed
 downed : after_down 7 (with_tasks 0 (with_desired desired.Shutdown (up 3 1 1) ∷ up 4 1 1 ∷ up 5 2 1 ∷ [])) 2 1
-    ≡ with_tasks 0 (record (up 3 1 1) { version = 7; desired = desired.Remove } ∷ record (up 4 1 1) { version = 7; desired = desired.Remove } ∷ up 5 2 1 ∷ [])
+    ≡ with_tasks 0
+        (record (up 3 1 1) { version = 7; desired = desired.Remove }
+          ∷ record (up 4 1 1) { version = 7; desired = desired.Remove } ∷ up 5 2 1 ∷ [])
 downed = refl
 
 -- Places that are too few.
@@ -69,17 +73,24 @@ create_behind : replicated (with_tasks 2 (up 3 1 1 ∷ [])) ≡ duty.ReplicatedC
 create_behind = refl
 
 -- a closed slot is held
-no_create_where_closed : replicated (with_tasks 1 (record (up 3 1 1) { state = state.Failed; desired = desired.Shutdown; closed = Some closed.Condition } ∷ [])) ≡ []
+no_create_where_closed : replicated
+    (with_tasks 1
+      (record (up 3 1 1) { state = state.Failed; desired = desired.Shutdown; closed = Some closed.Condition } ∷ []))
+        ≡ []
 no_create_where_closed = refl
 
-create_where_stopped : replicated (with_tasks 1 (with_desired desired.Shutdown (up 3 1 1) ∷ [])) ≡ duty.ReplicatedCreate 2 1 ∷ []
+create_where_stopped : replicated (with_tasks 1 (with_desired desired.Shutdown (up 3 1 1) ∷ []))
+    ≡ duty.ReplicatedCreate 2 1 ∷ []
 create_where_stopped = refl
 
 created : after_replicated_create 7 (with_tasks 1 []) 2 1
-    ≡ record (with_tasks 1 (record (task 50 (Slot 1) state.New) { version = 7; since = 1000; created = 1000; raise_at = 1000 } ∷ [])) { next_id = 51 }
+    ≡ record (with_tasks 1
+        (record (task 50 (Slot 1) state.New) { version = 7; since = 1000; created = 1000; raise_at = 1000 }
+          ∷ [])) { next_id = 51 }
 created = refl
 
 -- Gone ones come first.
 
-gone_first : replicated (with_tasks 2 (record (up 3 1 1) { service = 8 } ∷ [])) ≡ duty.Gone 3 ∷ duty.ReplicatedCreate 2 1 ∷ []
+gone_first : replicated (with_tasks 2 (record (up 3 1 1) { service = 8 } ∷ []))
+    ≡ duty.Gone 3 ∷ duty.ReplicatedCreate 2 1 ∷ []
 gone_first = refl

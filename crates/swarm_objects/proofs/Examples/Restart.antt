@@ -37,7 +37,8 @@ no_restart_without_service : restart (record (with_tasks (failed ∷ [])) { serv
 no_restart_without_service = refl
 
 -- on a node that is down
-restart_astray : restart (record (with_tasks (placed_task 3 1 1 state.Running ∷ [])) { nodes = down_node 1 0 ∷ [] }) ≡ duty.Restart 3 ∷ []
+restart_astray : restart (record (with_tasks (placed_task 3 1 1 state.Running ∷ [])) { nodes = down_node 1 0 ∷ [] })
+    ≡ duty.Restart 3 ∷ []
 restart_astray = refl
 
 restart_drained : restart (record (with_tasks (placed_task 3 1 1 state.Running ∷ [])) {
@@ -113,20 +114,28 @@ again_on_failure : length (after_restart 7 (with_policy condition.OnFailure 0 0 
 again_on_failure = refl
 
 -- two attempts within the window of 100 are the most
-closed_by_attempts : (after_restart 7 (with_policy condition.Any 2 100 (attempt_at 901 ∷ attempt_at 950 ∷ []) (failed ∷ [])) 3).tasks
+closed_by_attempts :
+    (after_restart 7 (with_policy condition.Any 2 100 (attempt_at 901 ∷ attempt_at 950 ∷ []) (failed ∷ [])) 3).tasks
     ≡ record stopped { closed = Some (closed.Attempts 2) } ∷ []
 closed_by_attempts = refl
 
 -- the first of them is as old as the window
-again_after_window : length (after_restart 7 (with_policy condition.Any 2 100 (attempt_at 900 ∷ attempt_at 950 ∷ []) (failed ∷ [])) 3).tasks ≡ 2
+again_after_window : length
+    (after_restart 7 (with_policy condition.Any 2 100 (attempt_at 900 ∷ attempt_at 950 ∷ []) (failed ∷ [])) 3).tasks ≡ 2
 again_after_window = refl
 
 -- the cause stands on the place's newest task
-cause_on_newest : (after_restart 7 (with_policy condition.Never 0 0 [] (failed ∷ with_desired desired.Shutdown (placed_task 4 1 1 state.Running) ∷ [])) 3).tasks
-    ≡ stopped ∷ record (with_desired desired.Shutdown (placed_task 4 1 1 state.Running)) { version = 7; closed = Some closed.Condition } ∷ []
+cause_on_newest :
+    (after_restart 7
+      (with_policy condition.Never 0 0 []
+        (failed ∷ with_desired desired.Shutdown (placed_task 4 1 1 state.Running) ∷ [])) 3).tasks
+    ≡ stopped
+        ∷ record (with_desired desired.Shutdown
+          (placed_task 4 1 1 state.Running)) { version = 7; closed = Some closed.Condition } ∷ []
 cause_on_newest = refl
 
-job_task_is_done : (after_restart 7 (with_job_task 0) 3).tasks ≡ record done { version = 7; desired = desired.Shutdown; closed = Some closed.Done } ∷ []
+job_task_is_done : (after_restart 7 (with_job_task 0) 3).tasks
+    ≡ record done { version = 7; desired = desired.Shutdown; closed = Some closed.Done } ∷ []
 job_task_is_done = refl
 
 -- Tasks that wait.
@@ -149,7 +158,8 @@ no_raise_while_held_up = refl
 raise_after_end : restart (with_tasks (unwanted state.Shutdown ∷ waiting ∷ [])) ≡ duty.Raise 4 ∷ []
 raise_after_end = refl
 
-raise_beside_astray : restart (record (with_tasks (unwanted state.Running ∷ waiting ∷ [])) { nodes = down_node 1 0 ∷ [] }) ≡ duty.Raise 4 ∷ []
+raise_beside_astray : restart
+    (record (with_tasks (unwanted state.Running ∷ waiting ∷ [])) { nodes = down_node 1 0 ∷ [] }) ≡ duty.Raise 4 ∷ []
 raise_beside_astray = refl
 
 -- a job's task of an earlier iteration holds it up as well
@@ -159,10 +169,12 @@ no_raise_beside_earlier : restart (tables (node 1 ∷ []) (record (job 1 1) { it
     ∷ [])) ≡ []
 no_raise_beside_earlier = refl
 
-raised_to_goal : after_raise 7 (with_tasks (waiting ∷ [])) 4 ≡ with_tasks (record waiting { version = 7; desired = desired.Running } ∷ [])
+raised_to_goal : after_raise 7 (with_tasks (waiting ∷ [])) 4
+    ≡ with_tasks (record waiting { version = 7; desired = desired.Running } ∷ [])
 raised_to_goal = refl
 
 -- Restarts come before raises.
 
-restarts_first : restart (with_tasks (record waiting { id = 3; place = Slot 2 } ∷ record failed { id = 4 } ∷ [])) ≡ duty.Restart 4 ∷ duty.Raise 3 ∷ []
+restarts_first : restart (with_tasks (record waiting { id = 3; place = Slot 2 } ∷ record failed { id = 4 } ∷ []))
+    ≡ duty.Restart 4 ∷ duty.Raise 3 ∷ []
 restarts_first = refl

@@ -54,7 +54,8 @@ abbrev pub in_zone : List ℕ → Constraint
 in_zone zone = record { key = key.Label (codes "zone"); equal = true; value = zone }
 
 abbrev pub update_config : UpdateConfig
-update_config = record { parallelism = 1; delay = 0; monitor = 30; action = action.Pause; ratio = 0; order = order.StopFirst }
+update_config =
+    record { parallelism = 1; delay = 0; monitor = 30; action = action.Pause; ratio = 0; order = order.StopFirst }
 
 abbrev pub spec : Mode → ServiceSpec
 spec m = record { mode = m; template = template; ports = []; update = update_config }

@@ -26,11 +26,13 @@ on_nodes nodes tasks = tables nodes (replicas 9 ∷ []) tasks
 drop_unwanted : scheduler (on_nodes [] (with_desired desired.Shutdown waiting ∷ [])) ≡ duty.Drop 3 ∷ []
 drop_unwanted = refl
 
-no_drop_once_assigned : scheduler (on_nodes [] (with_desired desired.Shutdown (placed_task 3 1 1 state.Assigned) ∷ [])) ≡ []
+no_drop_once_assigned : scheduler (on_nodes [] (with_desired desired.Shutdown (placed_task 3 1 1 state.Assigned) ∷ []))
+    ≡ []
 no_drop_once_assigned = refl
 
 dropped : after_drop 7 (on_nodes [] (with_desired desired.Shutdown waiting ∷ [])) 3
-    ≡ on_nodes [] (record (with_desired desired.Shutdown waiting) { version = 7; state = state.Shutdown; since = 1000 } ∷ [])
+    ≡ on_nodes []
+        (record (with_desired desired.Shutdown waiting) { version = 7; state = state.Shutdown; since = 1000 } ∷ [])
 dropped = refl
 
 -- Placing.
@@ -41,7 +43,8 @@ place_pending = refl
 no_place_of_new : scheduler (on_nodes (node 1 ∷ []) (task 3 (Slot 1) state.New ∷ [])) ≡ []
 no_place_of_new = refl
 
-placed_there : after_place 7 (on_nodes (node 1 ∷ []) (record waiting { note = note.Filters (1 ∷ 0 ∷ 0 ∷ 0 ∷ 0 ∷ 0 ∷ []) } ∷ [])) 3 1
+placed_there : after_place 7
+    (on_nodes (node 1 ∷ []) (record waiting { note = note.Filters (1 ∷ 0 ∷ 0 ∷ 0 ∷ 0 ∷ 0 ∷ []) } ∷ [])) 3 1
     ≡ on_nodes (node 1 ∷ []) (record waiting { version = 7; node = Some 1; state = state.Assigned; since = 1000 } ∷ [])
 placed_there = refl
 
@@ -55,7 +58,8 @@ best_is_least_loaded : scheduler (on_nodes (node 1 ∷ node 10 ∷ []) (other 2 
 best_is_least_loaded = refl
 
 -- the service's own tasks on a node come before its whole load
-best_has_fewer_of_its_own : scheduler (on_nodes (node 1 ∷ node 10 ∷ []) (placed_task 2 2 1 state.Running ∷ waiting ∷ other 4 10 ∷ other 5 10 ∷ []))
+best_has_fewer_of_its_own : scheduler
+    (on_nodes (node 1 ∷ node 10 ∷ []) (placed_task 2 2 1 state.Running ∷ waiting ∷ other 4 10 ∷ other 5 10 ∷ []))
     ≡ duty.Place 3 10 ∷ []
 best_has_fewer_of_its_own = refl
 
@@ -66,7 +70,9 @@ abbrev spread_over_zones : Task → Task
 spread_over_zones x = record x { template = record template { spread = key.Label (codes "zone") ∷ [] } }
 
 -- zone a has the service's task, so zone b is next, however loaded
-best_by_zone : scheduler (on_nodes (node 1 ∷ node 10 ∷ in_b 11 ∷ []) (placed_task 2 2 1 state.Running ∷ spread_over_zones waiting ∷ other 4 11 ∷ []))
+best_by_zone : scheduler
+    (on_nodes (node 1 ∷ node 10 ∷ in_b 11 ∷ [])
+      (placed_task 2 2 1 state.Running ∷ spread_over_zones waiting ∷ other 4 11 ∷ []))
     ≡ duty.Place 3 11 ∷ []
 best_by_zone = refl
 
@@ -75,7 +81,8 @@ best_by_zone = refl
 abbrev refusing : Node → Task → List ℕ
 refusing n x = refusal_counts (on_nodes (n ∷ []) (placed_task 2 2 1 state.Running ∷ x ∷ [])) x
 
-refused_for_pause : refusing (record (node 1) { availability = availability.Pause }) waiting ≡ 1 ∷ 0 ∷ 0 ∷ 0 ∷ 0 ∷ 0 ∷ []
+refused_for_pause : refusing (record (node 1) { availability = availability.Pause }) waiting
+    ≡ 1 ∷ 0 ∷ 0 ∷ 0 ∷ 0 ∷ 0 ∷ []
 refused_for_pause = refl
 
 refused_for_resources : refusing (record (node 1) { cpu = 199 }) waiting ≡ 0 ∷ 1 ∷ 0 ∷ 0 ∷ 0 ∷ 0 ∷ []
@@ -84,25 +91,31 @@ refused_for_resources = refl
 fits_in_resources : refusing (record (node 1) { cpu = 200 }) waiting ≡ 0 ∷ 0 ∷ 0 ∷ 0 ∷ 0 ∷ 0 ∷ []
 fits_in_resources = refl
 
-refused_for_constraints : refusing (in_b 1) (with_template (record template { constraints = in_zone (codes "a") ∷ [] }) waiting) ≡ 0 ∷ 0 ∷ 1 ∷ 0 ∷ 0 ∷ 0 ∷ []
+refused_for_constraints : refusing (in_b 1)
+    (with_template (record template { constraints = in_zone (codes "a") ∷ [] }) waiting) ≡ 0 ∷ 0 ∷ 1 ∷ 0 ∷ 0 ∷ 0 ∷ []
 refused_for_constraints = refl
 
-refused_for_platform : refusing (node 1) (with_template (record template { platforms = record { os = codes "linux"; arch = codes "arm64" } ∷ [] }) waiting)
+refused_for_platform : refusing (node 1)
+    (with_template (record template { platforms = record { os = codes "linux"; arch = codes "arm64" } ∷ [] }) waiting)
     ≡ 0 ∷ 0 ∷ 0 ∷ 1 ∷ 0 ∷ 0 ∷ []
 refused_for_platform = refl
 
 abbrev publishing : Template
 publishing = record template { host_ports = record { target = 80; number = Some 80; udp = false } ∷ [] }
 
-refused_for_host_port : refusal_counts (on_nodes (node 1 ∷ []) (with_template publishing (placed_task 2 2 1 state.Running) ∷ [])) (with_template publishing waiting)
+refused_for_host_port : refusal_counts
+    (on_nodes (node 1 ∷ []) (with_template publishing (placed_task 2 2 1 state.Running) ∷ []))
+      (with_template publishing waiting)
     ≡ 0 ∷ 0 ∷ 0 ∷ 0 ∷ 1 ∷ 0 ∷ []
 refused_for_host_port = refl
 
-refused_for_most : refusing (node 1) (with_template (record template { max_replicas = 1 }) waiting) ≡ 0 ∷ 0 ∷ 0 ∷ 0 ∷ 0 ∷ 1 ∷ []
+refused_for_most : refusing (node 1) (with_template (record template { max_replicas = 1 }) waiting)
+    ≡ 0 ∷ 0 ∷ 0 ∷ 0 ∷ 0 ∷ 1 ∷ []
 refused_for_most = refl
 
 -- the session is dead, though the node is still READY
-refused_without_session : scheduler (record (on_nodes (node 1 ∷ []) (waiting ∷ [])) { clock = 6000 }) ≡ duty.Explain 3 ∷ []
+refused_without_session : scheduler (record (on_nodes (node 1 ∷ []) (waiting ∷ [])) { clock = 6000 })
+    ≡ duty.Explain 3 ∷ []
 refused_without_session = refl
 
 -- Explaining.
@@ -113,19 +126,25 @@ explain_where_none = refl
 abbrev says : List ℕ → Task → Task
 says counts x = record x { note = note.Filters counts }
 
-no_explain_twice : scheduler (on_nodes (record (node 1) { cpu = 0 } ∷ []) (says (0 ∷ 1 ∷ 0 ∷ 0 ∷ 0 ∷ 0 ∷ []) waiting ∷ [])) ≡ []
+no_explain_twice : scheduler
+    (on_nodes (record (node 1) { cpu = 0 } ∷ []) (says (0 ∷ 1 ∷ 0 ∷ 0 ∷ 0 ∷ 0 ∷ []) waiting ∷ [])) ≡ []
 no_explain_twice = refl
 
 explained_there : after_explain 7 (on_nodes (record (node 1) { cpu = 0 } ∷ []) (waiting ∷ [])) 3
-    ≡ on_nodes (record (node 1) { cpu = 0 } ∷ []) (record (says (0 ∷ 1 ∷ 0 ∷ 0 ∷ 0 ∷ 0 ∷ []) waiting) { version = 7 } ∷ [])
+    ≡ on_nodes (record (node 1) { cpu = 0 } ∷ [])
+        (record (says (0 ∷ 1 ∷ 0 ∷ 0 ∷ 0 ∷ 0 ∷ []) waiting) { version = 7 } ∷ [])
 explained_there = refl
 
 -- a task whose place is a node is tested there alone
-place_bound : scheduler (tables (node 1 ∷ node 10 ∷ []) (global_service ∷ []) (other 2 10 ∷ record (task 3 (On 10) state.Pending) { node = Some 10 } ∷ [])) ≡ duty.Place 3 10 ∷ []
+place_bound : scheduler
+    (tables (node 1 ∷ node 10 ∷ []) (global_service ∷ [])
+      (other 2 10 ∷ record (task 3 (On 10) state.Pending) { node = Some 10 } ∷ [])) ≡ duty.Place 3 10 ∷ []
 place_bound = refl
 
 -- By task, whatever the kind.
 
-by_task : scheduler (on_nodes (node 1 ∷ []) (waiting ∷ with_desired desired.Shutdown (record waiting { id = 4 }) ∷ record waiting { id = 5 } ∷ []))
+by_task : scheduler
+    (on_nodes (node 1 ∷ [])
+      (waiting ∷ with_desired desired.Shutdown (record waiting { id = 4 }) ∷ record waiting { id = 5 } ∷ []))
     ≡ duty.Place 3 1 ∷ duty.Drop 4 ∷ duty.Place 5 1 ∷ []
 by_task = refl

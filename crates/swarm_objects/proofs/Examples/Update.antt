@@ -57,18 +57,24 @@ no_start_of_job : update (with_tasks (job 1 1) (record (dirty 3 state.Running) {
 no_start_of_job = refl
 
 -- a run to an earlier template doesn't go on
-start_beside_earlier : update (with_tasks (record (running_update (run status.Updating [])) { template_version = 9 }) (dirty 3 state.Running ∷ [])) ≡ duty.Start 2 ∷ []
+start_beside_earlier : update
+    (with_tasks (record (running_update (run status.Updating [])) { template_version = 9 })
+      (dirty 3 state.Running ∷ [])) ≡ duty.Start 2 ∷ []
 start_beside_earlier = refl
 
 -- a place that is closed with a dirty task is dirty
-start_where_closed : update (with_tasks (replicas 1) (record (dirty 3 state.Failed) { desired = desired.Shutdown; closed = Some closed.Condition } ∷ [])) ≡ duty.Start 2 ∷ []
+start_where_closed : update
+    (with_tasks (replicas 1)
+      (record (dirty 3 state.Failed) { desired = desired.Shutdown; closed = Some closed.Condition } ∷ []))
+        ≡ duty.Start 2 ∷ []
 start_where_closed = refl
 
 started : after_start 7 (with_tasks (replicas 1) (dirty 3 state.Running ∷ [])) 2
     ≡ with_tasks (record (replicas 1) { version = 7; run = Some (run status.Updating []) }) (dirty 3 state.Running ∷ [])
 started = refl
 
-started_back : (after_start 7 (with_tasks (record (replicas 1) { rolling_back = true }) (dirty 3 state.Running ∷ [])) 2).services
+started_back :
+    (after_start 7 (with_tasks (record (replicas 1) { rolling_back = true }) (dirty 3 state.Running ∷ [])) 2).services
     ≡ record (replicas 1) { version = 7; rolling_back = true; run = Some (run status.RollbackStarted []) } ∷ []
 started_back = refl
 
@@ -91,15 +97,20 @@ no_fail_after_monitor = refl
 no_fail_by_shutdown : first_of (update (failing (broken state.Shutdown 910 ∷ []))) ≡ Some (duty.Replace 2 1)
 no_fail_by_shutdown = refl
 
-no_fail_by_other_version : first_of (update (failing (record (broken state.Failed 910) { born = 1 } ∷ []))) ≡ Some (duty.Replace 2 1)
+no_fail_by_other_version : first_of (update (failing (record (broken state.Failed 910) { born = 1 } ∷ [])))
+    ≡ Some (duty.Replace 2 1)
 no_fail_by_other_version = refl
 
-no_fail_where_it_goes_on : first_of (update (with_tasks (with_update (record update_config { action = action.Continue }) (running_update (run status.Updating [])))
+no_fail_where_it_goes_on : first_of
+    (update
+      (with_tasks
+        (with_update (record update_config { action = action.Continue }) (running_update (run status.Updating [])))
     (dirty 3 state.Running ∷ broken state.Failed 910 ∷ []))) ≡ Some (duty.Replace 2 1)
 no_fail_where_it_goes_on = refl
 
 -- one failure of one is the whole ratio
-no_fail_at_ratio : first_of (update (with_tasks (with_update (record update_config { ratio = 1000 }) (running_update (run status.Updating [])))
+no_fail_at_ratio : first_of
+    (update (with_tasks (with_update (record update_config { ratio = 1000 }) (running_update (run status.Updating [])))
     (dirty 3 state.Running ∷ broken state.Failed 910 ∷ []))) ≡ Some (duty.Replace 2 1)
 no_fail_at_ratio = refl
 
@@ -139,11 +150,13 @@ swap_once_new_runs = refl
 no_swap_before : update (beside state.Starting) ≡ []
 no_swap_before = refl
 
-no_swap_where_paused : update (with_tasks (running_update (run status.Paused [])) (dirty 3 state.Running ∷ at_two 4 state.Running ∷ [])) ≡ []
+no_swap_where_paused : update
+    (with_tasks (running_update (run status.Paused [])) (dirty 3 state.Running ∷ at_two 4 state.Running ∷ [])) ≡ []
 no_swap_where_paused = refl
 
 swapped : after_swap 7 (beside state.Running) 2 1
-    ≡ record (beside state.Running) { tasks = record (dirty 3 state.Running) { version = 7; desired = desired.Shutdown } ∷ at_two 4 state.Running ∷ [] }
+    ≡ record (beside state.Running) { tasks = record (dirty 3 state.Running) { version = 7; desired = desired.Shutdown }
+        ∷ at_two 4 state.Running ∷ [] }
 swapped = refl
 
 -- Replace.
@@ -153,7 +166,10 @@ slot_two x = record x { place = Slot 2 }
 
 -- slot 1 is in flight or not, and slot 2 is dirty; one place may be in flight
 abbrev flight : ℕ → Task → Tables
-flight delay x = with_tasks (with_update (record update_config { delay = delay }) (record (running_update (run status.Updating (item 900 ∷ []))) { version = 2 }))
+flight delay x =
+    with_tasks
+      (with_update (record update_config { delay = delay })
+        (record (running_update (run status.Updating (item 900 ∷ []))) { version = 2 }))
     (slot_two (dirty 3 state.Running) ∷ x ∷ [])
 
 replace_where_dirty : update (flight 0 (at_two 4 state.Running)) ≡ duty.Replace 2 2 ∷ []
@@ -170,20 +186,28 @@ no_replace_within_delay : update (flight 50 (record (at_two 4 state.Running) { s
 no_replace_within_delay = refl
 
 abbrev new_one : Desired → Task
-new_one d = record (task 50 (Slot 1) state.New) { version = 7; since = 1000; desired = d; created = 1000; raise_at = 1000 }
+new_one d =
+    record (task 50 (Slot 1) state.New) { version = 7; since = 1000; desired = d; created = 1000; raise_at = 1000 }
 
 abbrev to_replace : UpdateOrder → Tables
-to_replace o = with_tasks (with_update (record update_config { order = o }) (running_update (run status.Updating (item 900 ∷ [])))) (dirty 3 state.Running ∷ [])
+to_replace o =
+    with_tasks (with_update (record update_config { order = o }) (running_update (run status.Updating (item 900 ∷ []))))
+      (dirty 3 state.Running ∷ [])
 
 abbrev replaced_by : UpdateOrder → Task → Task → Tables
-replaced_by o old new = record (with_tasks (record (with_update (record update_config { order = o }) (running_update (run status.Updating (record (item 1000) { task = 50 } ∷ [])))) { version = 7 })
+replaced_by o old new =
+    record (with_tasks
+      (record (with_update (record update_config { order = o })
+        (running_update (run status.Updating (record (item 1000) { task = 50 } ∷ [])))) { version = 7 })
     (old ∷ new ∷ [])) { next_id = 51 }
 
 replaced_after_stop : after_replace 7 (to_replace order.StopFirst) 2 1
-    ≡ replaced_by order.StopFirst (record (dirty 3 state.Running) { version = 7; desired = desired.Shutdown }) (new_one desired.Ready)
+    ≡ replaced_by order.StopFirst (record (dirty 3 state.Running) { version = 7; desired = desired.Shutdown })
+        (new_one desired.Ready)
 replaced_after_stop = refl
 
-replaced_at_once : after_replace 7 (to_replace order.StartFirst) 2 1 ≡ replaced_by order.StartFirst (dirty 3 state.Running) (new_one desired.Running)
+replaced_at_once : after_replace 7 (to_replace order.StartFirst) 2 1
+    ≡ replaced_by order.StartFirst (dirty 3 state.Running) (new_one desired.Running)
 replaced_at_once = refl
 
 -- Finish.
@@ -191,20 +215,24 @@ replaced_at_once = refl
 abbrev watched : ℕ → Service → Tables
 watched clock s = record (with_tasks s (at_two 4 state.Running ∷ [])) { clock = clock }
 
-finish_after_monitor : update (watched 1030 (running_update (run status.Updating (item 1000 ∷ [])))) ≡ duty.Finish 2 ∷ []
+finish_after_monitor : update (watched 1030 (running_update (run status.Updating (item 1000 ∷ []))))
+    ≡ duty.Finish 2 ∷ []
 finish_after_monitor = refl
 
 no_finish_within_monitor : update (watched 1029 (running_update (run status.Updating (item 1000 ∷ [])))) ≡ []
 no_finish_within_monitor = refl
 
 -- a run to an earlier template ends too, where no place is dirty
-finish_of_earlier : update (watched 1030 (record (running_update (run status.Updating (item 1000 ∷ []))) { template_version = 9 })) ≡ duty.Finish 2 ∷ []
+finish_of_earlier : update
+    (watched 1030 (record (running_update (run status.Updating (item 1000 ∷ []))) { template_version = 9 }))
+      ≡ duty.Finish 2 ∷ []
 finish_of_earlier = refl
 
 no_finish_again : update (watched 1030 (running_update (run status.Completed (item 1000 ∷ [])))) ≡ []
 no_finish_again = refl
 
-finished : after_finish 7 (watched 1030 (running_update (run status.Updating []))) 2 ≡ watched 1030 (record (running_update (run status.Completed [])) { version = 7 })
+finished : after_finish 7 (watched 1030 (running_update (run status.Updating []))) 2
+    ≡ watched 1030 (record (running_update (run status.Completed [])) { version = 7 })
 finished = refl
 
 finished_back : (after_finish 7 (watched 1030 (running_update (run status.RollbackStarted []))) 2).services
