@@ -142,22 +142,25 @@ create_node_fails version w n =
     let name = name_taken (option_map node_id (node_by w.tables n.name)) in
     let many = too_many kind.Node most_nodes (length w.tables.nodes) in
     unless_fails (first_refusal (broken_node n ∷ name ∷ many ∷ [])) (with_node w n, n.id)
-    (first_usual (broken_node n ∷ name ∷ many ∷ [])
-      (spec_usual (find (node_breaks n) node_rules),
-        (name_usual (option_map node_id (node_by w.tables n.name)),
-            (many_usual kind.Node most_nodes (length w.tables.nodes), tt))))
+    (first_usual (broken_node n ∷ name ∷ many ∷ []) (
+      spec_usual (find (node_breaks n) node_rules),
+      (
+        name_usual (option_map node_id (node_by w.tables n.name)),
+        (many_usual kind.Node most_nodes (length w.tables.nodes), tt),
+      ),
+    ))
 
 update_node_fails : (w : World) (asked : Option ℕ) (old new : Node) → FailsSo (update_node w asked old new)
 update_node_fails w asked old new =
     unless_fails (first_refusal (conflict asked old.version ∷ broken_node new ∷ []))
-        (with_tables w (change_node old.id (λ n. new) w.tables), old.id)
+    (with_tables w (change_node old.id (λ n. new) w.tables), old.id)
     (first_usual (conflict asked old.version ∷ broken_node new ∷ [])
-        (conflict_usual asked old.version, (spec_usual (find (node_breaks new) node_rules), tt)))
+    (conflict_usual asked old.version, (spec_usual (find (node_breaks new) node_rules), tt)))
 
 remove_node_fails : (version : ℕ) (w : World) (force : Bool) (n : Node) → FailsSo (remove_node version w force n)
 remove_node_fails version w force n =
     unless_fails (refuse (not force && not (is_down n.state)) (refusal.NodeNotDown n.state))
-        (without_node version w n.id, n.id)
+    (without_node version w n.id, n.id)
     (refuse_usual (not force && not (is_down n.state)) (refusal.NodeNotDown n.state) refl)
 
 create_service_fails : (version : ℕ) (w : World) (name : List ℕ) (d : Draft) → FailsSo (create_service version w name d)
@@ -165,26 +168,40 @@ create_service_fails version w name d =
     let taken = name_taken (option_map service_id (service_by w.tables name)) in
     let many = too_many kind.Service most_services (length w.tables.services) in
     let tests = broken_draft d ∷ taken ∷ missing_network w.tables d.networks ∷ port_taken w.tables None d.spec.ports
-        ∷ many ∷ [] in
+    ∷ many ∷ [] in
     unless_fails (first_refusal tests)
-        (with_tables w (with_service w.tables (new_service version w.tables name d)), w.tables.next_id)
-    (first_usual tests
-      (spec_usual (find (service_breaks d) service_rules),
-          (name_usual (option_map service_id (service_by w.tables name)), (network_usual w.tables d.networks,
-        (port_usual w.tables None d.spec.ports,
-            (many_usual kind.Service most_services (length w.tables.services), tt))))))
+    (with_tables w (with_service w.tables (new_service version w.tables name d)), w.tables.next_id)
+    (first_usual tests (
+      spec_usual (find (service_breaks d) service_rules),
+      (
+        name_usual (option_map service_id (service_by w.tables name)),
+        (
+          network_usual w.tables d.networks,
+          (
+            port_usual w.tables None d.spec.ports,
+            (many_usual kind.Service most_services (length w.tables.services), tt),
+          ),
+        ),
+      ),
+    ))
 
 update_service_fails : (version : ℕ) (w : World) (asked : Option ℕ) (d : Draft) (s : Service)
     → FailsSo (update_service version w asked d s)
 update_service_fails version w asked d s =
     let mode_change = refuse (not (same_mode d.spec.mode s.spec.mode)) refusal.ModeChange in
     let tests = conflict asked s.version ∷ broken_draft d ∷ mode_change ∷ missing_network w.tables d.networks
-        ∷ port_taken w.tables (Some s.id) d.spec.ports ∷ [] in
+    ∷ port_taken w.tables (Some s.id) d.spec.ports ∷ [] in
     unless_fails (first_refusal tests) (put_service w (respecified version false (filled w.tables d) s), s.id)
-    (first_usual tests
-      (conflict_usual asked s.version, (spec_usual (find (service_breaks d) service_rules),
-        (refuse_usual (not (same_mode d.spec.mode s.spec.mode)) refusal.ModeChange refl,
-            (network_usual w.tables d.networks, (port_usual w.tables (Some s.id) d.spec.ports, tt))))))
+    (first_usual tests (
+      conflict_usual asked s.version,
+      (
+        spec_usual (find (service_breaks d) service_rules),
+        (
+          refuse_usual (not (same_mode d.spec.mode s.spec.mode)) refusal.ModeChange refl,
+          (network_usual w.tables d.networks, (port_usual w.tables (Some s.id) d.spec.ports, tt)),
+        ),
+      ),
+    ))
 
 go_back_fails : (version : ℕ) (w : World) (s : Service) (o : Option ServiceSpec) → FailsSo (go_back version w s o)
 go_back_fails version w s None = refl
@@ -205,40 +222,43 @@ create_network_fails w n =
     let many = too_many kind.Network most_networks (length w.tables.networks) in
     let tests = bad_spec (find (subnet_breaks n.base n.length) subnet_rules) ∷ name ∷ many ∷ [] in
     unless_fails (first_refusal tests) (with_tables w (with_network w.tables n), n.id)
-    (first_usual tests
-      (spec_usual (find (subnet_breaks n.base n.length) subnet_rules),
-        (name_usual (option_map network_id (network_by w.tables n.name)),
-            (many_usual kind.Network most_networks (length w.tables.networks), tt))))
+    (first_usual tests (
+      spec_usual (find (subnet_breaks n.base n.length) subnet_rules),
+      (
+        name_usual (option_map network_id (network_by w.tables n.name)),
+        (many_usual kind.Network most_networks (length w.tables.networks), tt),
+      ),
+    ))
 
 op_fails : (version : ℕ) (w : World) (o : Op) → FailsSo (apply_op version w o)
 op_fails version w (op.CreateNode name draft) =
     create_node_fails version w (new_node version w.tables.next_id name draft)
 op_fails version w (op.UpdateNode name asked labels r a) =
     found_fails kind.Node (wanted_by.Name name) (node_by w.tables name)
-        (λ n. update_node w asked n (respecified_node version labels r a n))
+    (λ n. update_node w asked n (respecified_node version labels r a n))
     (λ n. update_node_fails w asked n (respecified_node version labels r a n))
 op_fails version w (op.RemoveNode name force) =
     found_fails kind.Node (wanted_by.Name name) (node_by w.tables name) (remove_node version w force)
-        (remove_node_fails version w force)
+    (remove_node_fails version w force)
 op_fails version w (op.CreateService name d) = create_service_fails version w name d
 op_fails version w (op.UpdateService name asked d) =
     found_fails kind.Service (wanted_by.Name name) (service_by w.tables name) (update_service version w asked d)
-        (update_service_fails version w asked d)
+    (update_service_fails version w asked d)
 op_fails version w (op.RemoveService name) =
     found_fails kind.Service (wanted_by.Name name) (service_by w.tables name) (remove_service w) (λ s. tt)
 op_fails version w (op.RollbackService name asked) =
     found_fails kind.Service (wanted_by.Name name) (service_by w.tables name) (rollback_service version w asked)
-        (rollback_fails version w asked)
+    (rollback_fails version w asked)
 op_fails version w (op.CreateNetwork name base bits) =
     create_network_fails w (new_network version w.tables.next_id name base bits)
 op_fails version w (op.RemoveNetwork name) =
     found_fails kind.Network (wanted_by.Name name) (network_by w.tables name) (remove_network w)
     (λ n. unless_fails (in_use w.tables n.id)
-        (with_tables w (record w.tables { networks = drop_row network_id n.id w.tables.networks }), n.id)
-          (use_usual w.tables n.id))
+    (with_tables w (record w.tables { networks = drop_row network_id n.id w.tables.networks }), n.id)
+    (use_usual w.tables n.id))
 op_fails version w (op.SetCluster s) =
     unless_fails (bad_spec (find (settings_break s) settings_rules))
-        (with_tables w (record w.tables { settings = s }), 0)
+    (with_tables w (record w.tables { settings = s }), 0)
     (spec_usual (find (settings_break s) settings_rules))
 
 ops_fail : (version : ℕ) (ops : List Op) (w : World) (ids : List ℕ) → FailsSo (apply_ops version ops w ids)
@@ -248,7 +268,7 @@ ops_fail version (o ∷ ops) w ids =
   where
     go : (r : Done) → FailsSo r → ((v : World) (more : List ℕ) → FailsSo (apply_ops version ops v more))
         → FailsSo {X = World × List ℕ}
-            (elim r [ Ok done ↦ apply_ops version ops done.0 (ids ++ done.1 ∷ []) | Err e ↦ Err e ])
+        (elim r [ Ok done ↦ apply_ops version ops done.0 (ids ++ done.1 ∷ []) | Err e ↦ Err e ])
     go (Ok done) f rest = rest done.0 (ids ++ done.1 ∷ [])
     go (Err e) f rest = f
 
@@ -274,18 +294,18 @@ shows_fails t query.ListNetworks = tt
 shows_fails t (query.ListTasks None) = tt
 shows_fails t (query.ListTasks (Some name)) =
     found_fails kind.Service (wanted_by.Name name) (service_by t name)
-        (λ s. Ok (tasks_shown t (filter (is_of s.id) t.tasks))) (λ s. tt)
+    (λ s. Ok (tasks_shown t (filter (is_of s.id) t.tasks))) (λ s. tt)
 shows_fails t (query.InspectNode name) =
     found_fails kind.Node (wanted_by.Name name) (node_by t name) (λ n. Ok (view.Node (node_detail n))) (λ n. tt)
 shows_fails t (query.InspectService name) =
     found_fails kind.Service (wanted_by.Name name) (service_by t name) (λ s. Ok (view.Service (service_detail t s)))
-        (λ s. tt)
+    (λ s. tt)
 shows_fails t (query.InspectNetwork name) =
     found_fails kind.Network (wanted_by.Name name) (network_by t name) (λ n. Ok (view.Network (network_detail n)))
-        (λ n. tt)
+    (λ n. tt)
 shows_fails t (query.InspectTask id) =
     found_fails kind.Task (wanted_by.Id id) (row_at task_id id t.tasks) (λ x. Ok (view.Task (task_detail t x)))
-        (λ x. tt)
+    (λ x. tt)
 shows_fails t query.Clock = tt
 
 abbrev IsTold : Reply × World → Type 0
@@ -297,8 +317,8 @@ poll_enters version w id (Some x) = go (nat_lt most_events (length (waiting_even
   where
     go : (b : Bool)
         → IsTold
-          (if b then (reply.Refused (refusal.Lagged (length (waiting_events w x))), without_watcher id w) else
-            (reply.Events (waiting_events w x), told_at version id w))
+        (if b then (reply.Refused (refusal.Lagged (length (waiting_events w x))), without_watcher id w) else
+        (reply.Events (waiting_events w x), told_at version id w))
     go true = refl
     go false = refl
 
@@ -310,7 +330,7 @@ agent_enters : (w : World) (name : List ℕ) (change : NodeAgent → NodeAgent) 
 agent_enters w name change =
     found_enters kind.Node (wanted_by.Name name) (node_by w.tables name)
     (λ n. if n.remote then Err (refusal.WrongKind n.id) else Ok (reply.AgentDone n.id, change_agent n.id change w))
-        (λ n. go n n.remote)
+    (λ n. go n n.remote)
   where
     go : (n : Node) (b : Bool)
         → Enters (if b then Err (refusal.WrongKind n.id) else Ok (reply.AgentDone n.id, change_agent n.id change w))
@@ -321,7 +341,7 @@ remote_enters : (t : Tables) (name : List ℕ) (next : Node → Answered) → ((
     → Enters (on_remote t name next)
 remote_enters t name next all =
     found_enters kind.Node (wanted_by.Name name) (node_by t name)
-        (λ n. if n.remote then next n else Err (refusal.WrongKind n.id)) (λ n. go n n.remote)
+    (λ n. if n.remote then next n else Err (refusal.WrongKind n.id)) (λ n. go n n.remote)
   where
     go : (n : Node) (b : Bool) → Enters (if b then next n else Err (refusal.WrongKind n.id))
     go n true = all n
@@ -333,8 +353,8 @@ not_admitted_usual clock id (Some s) = go (not (s.session.id == id))
   where
     go : (b : Bool)
         → IsUsual
-          (if b then Some (refusal.InvalidSession (Some s.session.id)) else refuse (nat_le s.session.deadline clock)
-            (refusal.SessionExpired s.session.deadline))
+        (if b then Some (refusal.InvalidSession (Some s.session.id)) else refuse (nat_le s.session.deadline clock)
+        (refusal.SessionExpired s.session.deadline))
     go true = refl
     go false = refuse_usual (nat_le s.session.deadline clock) (refusal.SessionExpired s.session.deadline) refl
 
@@ -352,10 +372,12 @@ begin_enters : (version : ℕ) (w : World) (name : List ℕ) (cpu mem : Option �
     → Enters (remote_begin version w name cpu mem)
 begin_enters version w name cpu mem =
     remote_enters w.tables name (λ n. begin_with version w n.id (given_or cpu n.cpu) (given_or mem n.mem))
-    (λ n. unless_enters (bad_spec (find (resources_break (given_or cpu n.cpu) (given_or mem n.mem)) resource_rules))
-      (begun_reply w.tables, without_sent n.id
-          (with_tables w (begun_tables version w.tables n.id (given_or cpu n.cpu) (given_or mem n.mem))))
-      (spec_usual (find (resources_break (given_or cpu n.cpu) (given_or mem n.mem)) resource_rules)) refl)
+    (λ n. unless_enters (bad_spec (find (resources_break (given_or cpu n.cpu) (given_or mem n.mem)) resource_rules)) (
+      begun_reply w.tables,
+      without_sent n.id
+          (with_tables w (begun_tables version w.tables n.id (given_or cpu n.cpu) (given_or mem n.mem))),
+    )
+    (spec_usual (find (resources_break (given_or cpu n.cpu) (given_or mem n.mem)) resource_rules)) refl)
 
 status_is_entry : (old s : TaskState) → is_entry (status_reply old s) ≡ true
 status_is_entry old s = go (nat_lt (rank old) (rank s))
@@ -367,34 +389,35 @@ status_is_entry old s = go (nat_lt (rank old) (rank s))
 report_enters : (version : ℕ) (w : World) (node : ℕ) (s : TaskState) (x : Task) → Enters (report version w node s x)
 report_enters version w node s x =
     let tests = refuse (not (is_assigned_on node x)) (refusal.NotThisNode x.id)
-        ∷ refuse (is_no_report s) (refusal.BadState s) ∷ [] in
+    ∷ refuse (is_no_report s) (refusal.BadState s) ∷ [] in
     unless_enters (first_refusal tests)
     (status_reply x.state s, with_tables w (change_task x.id (raised_to version w.tables.clock s) w.tables))
-    (first_usual tests
-        (refuse_usual (not (is_assigned_on node x)) (refusal.NotThisNode x.id) refl,
-          (refuse_usual (is_no_report s) (refusal.BadState s) refl, tt)))
+    (first_usual tests (
+      refuse_usual (not (is_assigned_on node x)) (refusal.NotThisNode x.id) refl,
+      (refuse_usual (is_no_report s) (refusal.BadState s) refl, tt),
+    ))
     (status_is_entry x.state s)
 
 status_enters : (version : ℕ) (w : World) (name : List ℕ) (id task : ℕ) (s : TaskState)
     → Enters (remote_status version w name id task s)
 status_enters version w name id task s =
     session_enters w.tables name id
-        (λ n. found kind.Task (wanted_by.Id task) (row_at task_id task w.tables.tasks) (report version w n.id s))
+    (λ n. found kind.Task (wanted_by.Id task) (row_at task_id task w.tables.tasks) (report version w n.id s))
     (λ n. found_enters kind.Task (wanted_by.Id task) (row_at task_id task w.tables.tasks) (report version w n.id s)
-        (report_enters version w n.id s))
+    (report_enters version w n.id s))
 
 answer_enters : (version : ℕ) (w : World) (c : Call) → Enters (answer version w c)
 answer_enters version w (call.Txn ops) = txn_enters version w ops
 answer_enters version w (call.View q) = view_enters w (shows w.tables q) (shows_fails w.tables q)
 answer_enters version w (call.WatchBegin f) =
     unless_enters (too_many kind.Watcher most_watchers (length w.watchers))
-        (reply.WatchBegun w.tables.next_id, with_watcher version w f)
+    (reply.WatchBegun w.tables.next_id, with_watcher version w f)
     (many_usual kind.Watcher most_watchers (length w.watchers)) refl
 answer_enters version w (call.WatchPoll id) = poll_enters version w id (row_at watcher_id id w.watchers)
 answer_enters version w (call.WatchFinish id) = finish_enters w id (row_at watcher_id id w.watchers)
 answer_enters version w (call.Tick ms) =
     unless_enters (refuse (not (is_tick ms)) (refusal.BadTick ms)) (reply.Ticked, ticked w ms)
-        (refuse_usual (not (is_tick ms)) (refusal.BadTick ms) refl) refl
+    (refuse_usual (not (is_tick ms)) (refusal.BadTick ms) refl) refl
 answer_enters version w (call.Settle budget) = refl
 answer_enters version w (call.NodeFail name) = agent_enters w name (failed_agent w.tables.clock)
 answer_enters version w (call.NodeStart name) = agent_enters w name started_agent
@@ -403,12 +426,12 @@ answer_enters version w (call.AgentStart name) = agent_enters w name (in_mode mo
 answer_enters version w (call.RemoteBegin name cpu mem) = begin_enters version w name cpu mem
 answer_enters version w (call.RemoteBeat name id) =
     session_enters w.tables name id
-        (λ n. Ok
-          (reply.Beat (w.tables.clock + 3 * w.tables.settings.heartbeat), with_tables w (after_beat w.tables n.id)))
-            (λ n. refl)
+    (λ n. Ok
+    (reply.Beat (w.tables.clock + 3 * w.tables.settings.heartbeat), with_tables w (after_beat w.tables n.id)))
+    (λ n. refl)
 answer_enters version w (call.RemotePull name id) =
     session_enters w.tables name id (λ n. Ok (reply.Pulled (message_for w n.id), pulled w n.id (message_for w n.id)))
-        (λ n. refl)
+    (λ n. refl)
 answer_enters version w (call.RemoteStatus name id task s) = status_enters version w name id task s
 answer_enters version w call.Halt = refl
 
@@ -426,8 +449,8 @@ entry_where_admitted w c = go w.halted (is_full w c)
   where
     go : (h f : Bool)
         → is_entry
-          (if h then no_entry w refusal.Halted else if f then no_entry w
-            (refusal.Full w.entries) else call_outcome w c).reply ≡ (not h && not f)
+        (if h then no_entry w refusal.Halted else if f then no_entry w
+        (refusal.Full w.entries) else call_outcome w c).reply ≡ (not h && not f)
     go true f = refl
     go false true = refl
     go false false = call_is_entry w c

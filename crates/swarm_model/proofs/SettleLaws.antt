@@ -152,17 +152,17 @@ flying_after : (t : Tables) (s : Service) (x : Task) → is_flying t s x ≡ tru
     → t.clock < x.since + s.spec.update.delay
 flying_after t s x e r =
     let flies = both (is_live_clean s x)
-        (is_below_running x || (is_running x && nat_lt t.clock (x.since + s.spec.update.delay))) e in
+    (is_below_running x || (is_running x && nat_lt t.clock (x.since + s.spec.update.delay))) e in
     let runs = either (is_below_running x) (is_running x && nat_lt t.clock (x.since + s.spec.update.delay)) flies.1
-        (below_is_none (rank x.state) (rank state.Running) r) in
+    (below_is_none (rank x.state) (rank state.Running) r) in
     is_less t.clock (x.since + s.spec.update.delay)
-        (both (is_running x) (nat_lt t.clock (x.since + s.spec.update.delay)) runs).1
+    (both (is_running x) (nat_lt t.clock (x.since + s.spec.update.delay)) runs).1
 
 flights_after : (t : Tables) (s : Service) (run : UpdateRun) (time : ℕ) → Has (flight_times t s run) time
     → t.clock < time
 flights_after t s run time h =
     let m = Has-map_cases (λ (x : Task). x.since + s.spec.update.delay)
-        (filter is_running (flat_map (flying_tasks t s) run.replaced)) time h in
+    (filter is_running (flat_map (flying_tasks t s) run.replaced)) time h in
     let f = Has-filter_cases is_running (flat_map (flying_tasks t s) run.replaced) m.0 m.1 in
     let i = Has-flat_map_cases (flying_tasks t s) run.replaced m.0 f.0 in
     let y = Has-filter_cases (is_flying t s) (tasks_of_place s i.0.place t.tasks) m.0 i.2 in
@@ -172,26 +172,26 @@ watches_after : (t : Tables) (s : Service) (run : UpdateRun) (time : ℕ) → Ha
     → t.clock < time
 watches_after t s run time h =
     let m = Has-map_cases (λ (i : Replaced). i.created + s.spec.update.monitor)
-        (filter (λ i. not (is_watched t s i)) run.replaced) time h in
+    (filter (λ i. not (is_watched t s i)) run.replaced) time h in
     let f = Has-filter_cases (λ i. not (is_watched t s i)) run.replaced m.0 m.1 in
     subst (λ z. t.clock < z) m.2
-        (is_more (m.0.created + s.spec.update.monitor) t.clock (is_not (is_watched t s m.0) f.1))
+    (is_more (m.0.created + s.spec.update.monitor) t.clock (is_not (is_watched t s m.0) f.1))
 
 run_after : (t : Tables) (s : Service) (run : UpdateRun) → AllAfter t.clock (run_wait t s run)
 run_after t s run = if_after t.clock (is_under_way run) (flight_wait t s run ++ watch_wait t s run)
     (λ _. append_after t.clock (flight_wait t s run) (watch_wait t s run)
-      (if_after t.clock (has_waiting_place t s && not (has_room t s run))
-          (wait_till cause.Update s.id (least_time (flight_times t s run)))
-        (λ _. till_after t.clock cause.Update s.id (least_time (flight_times t s run))
-            (times_after t.clock (flight_times t s run) (flights_after t s run))))
-      (watch_after (has_dirty_place t s)))
+    (if_after t.clock (has_waiting_place t s && not (has_room t s run))
+    (wait_till cause.Update s.id (least_time (flight_times t s run)))
+    (λ _. till_after t.clock cause.Update s.id (least_time (flight_times t s run))
+    (times_after t.clock (flight_times t s run) (flights_after t s run))))
+    (watch_after (has_dirty_place t s)))
   where
     watch_after : (b : Bool)
         → AllAfter t.clock (if b then [] else wait_till cause.Update s.id (least_time (watch_times t s run)))
     watch_after true = none_after t.clock
     watch_after false =
         till_after t.clock cause.Update s.id (least_time (watch_times t s run))
-          (times_after t.clock (watch_times t s run) (watches_after t s run))
+        (times_after t.clock (watch_times t s run) (watches_after t s run))
 
 update_after : (t : Tables) (s : Service) → AllAfter t.clock (update_wait t s)
 update_after t s = go s.run
@@ -242,19 +242,19 @@ PhaseAfter clock e = (t : ℕ) → executor_step clock e ≡ None → phase_time
 in_state_after : (clock : ℕ) (e : Executor) (s : TaskState) (o : Option ℕ) → PhaseAfter clock (stepped_in e s o)
 in_state_after clock e state.Preparing o t n p =
     unless_stopping clock (e.since + e.workload.prepare) t (wants_to_stop (stepped_in e state.Preparing o))
-        (moved clock state.Shutdown (stepped_in e state.Preparing o))
+    (moved clock state.Shutdown (stepped_in e state.Preparing o))
     (moved clock (prepared e.workload.end) (stepped_in e state.Preparing o)) n p
 in_state_after clock e state.Starting (Some time) t n p =
     time_after clock time t (moved clock state.Shutdown (stepped_in e state.Starting (Some time))) n p
 in_state_after clock e state.Starting None t n p =
     unless_stopping clock (e.since + e.workload.start) t (wants_to_stop (stepped_in e state.Starting None))
-        (stopped_at clock (stepped_in e state.Starting None))
+    (stopped_at clock (stepped_in e state.Starting None))
     (moved clock state.Running (stepped_in e state.Starting None)) n p
 in_state_after clock e state.Running (Some time) t n p =
     time_after clock time t (moved clock state.Shutdown (stepped_in e state.Running (Some time))) n p
 in_state_after clock e state.Running None t n p =
     unless_ending clock t (stepped_in e state.Running None) (wants_to_stop (stepped_in e state.Running None))
-        (stopped_at clock (stepped_in e state.Running None)) e.workload.end n p
+    (stopped_at clock (stepped_in e state.Running None)) e.workload.end n p
 in_state_after clock e state.New o t n p = absurd (no_phase (wants_to_stop (stepped_in e state.New o)) t p)
 in_state_after clock e state.Pending o t n p = absurd (no_phase (wants_to_stop (stepped_in e state.Pending o)) t p)
 in_state_after clock e state.Assigned o t n p = absurd (no_phase (wants_to_stop (stepped_in e state.Assigned o)) t p)
@@ -282,9 +282,9 @@ nothing_on w a true e q =
     let execs = duty_where (has_step w.tables.clock) (λ (x : Executor). duty.Exec a.node x.task) a.executors in
     let forgets = duty_where is_forgotten (λ (x : Executor). duty.Forget a.node x.task) a.executors in
     let one = append_empty
-        (session_duties w a live ++ inbox_duties w a live a.inbox ++ execs ++ report_duties w a live) forgets e in
+    (session_duties w a live ++ inbox_duties w a live a.inbox ++ execs ++ report_duties w a live) forgets e in
     let two = append_empty (session_duties w a live ++ inbox_duties w a live a.inbox ++ execs)
-        (report_duties w a live) one.0 in
+    (report_duties w a live) one.0 in
     (append_empty (session_duties w a live ++ inbox_duties w a live a.inbox) execs two.0).1
 nothing_on w a false e q = absurd cc
 
@@ -292,13 +292,13 @@ executors_after : (w : World) (a : NodeAgent) → agents w ≡ [] → Has w.agen
     → AllAfter w.tables.clock (executor_wait a)
 executors_after w a none h = if_after w.tables.clock (is_mode_on a.mode) (flat_map phase_wait a.executors)
     (λ on. each_after w.tables.clock phase_wait a.executors
-        (λ e k. till_after w.tables.clock cause.Executor e.task (phase_time e)
-      (λ t p. phase_after w.tables.clock e t
-        (no_step (executor_step w.tables.clock e)
-          (filter_empty (has_step w.tables.clock) a.executors e
-            (map_empty (λ (x : Executor). duty.Exec a.node x.task) (filter (has_step w.tables.clock) a.executors)
-              (nothing_on w a (is_mode_on a.mode) (flat_map_empty (agent_duties w) w.agents a none h) on)) k))
-        p)))
+    (λ e k. till_after w.tables.clock cause.Executor e.task (phase_time e)
+    (λ t p. phase_after w.tables.clock e t
+    (no_step (executor_step w.tables.clock e)
+    (filter_empty (has_step w.tables.clock) a.executors e
+    (map_empty (λ (x : Executor). duty.Exec a.node x.task) (filter (has_step w.tables.clock) a.executors)
+    (nothing_on w a (is_mode_on a.mode) (flat_map_empty (agent_duties w) w.agents a none h) on)) k))
+    p)))
 
 -- Sessions.
 
@@ -322,24 +322,24 @@ sessions_after : (w : World) (n : Node) → dispatcher w.tables ≡ [] → Has w
 sessions_after w n none h =
     if_after w.tables.clock (is_silent w n) (wait_till cause.Session n.id (deadline_of w.tables n.id))
     (λ silent. till_after w.tables.clock cause.Session n.id (deadline_of w.tables n.id)
-      (λ t p. live_after w.tables n.id t
-        (ready_is_live (is_ready n.state) (is_session_live w.tables n.id)
-          (both (is_ready n.state) (not n.remote)
-              (both (is_ready n.state && not n.remote)
-                (is_row_and agent_node (λ a. not (is_mode_on a.mode)) w.agents n.id) silent).0).0
-          (filter_empty (is_expired w.tables) w.tables.nodes n
-              (map_empty (λ (x : Node). duty.Expire x.id) (filter (is_expired w.tables) w.tables.nodes)
-            (append_empty (duty_where (is_expired w.tables) (λ x. duty.Expire x.id) w.tables.nodes)
-                (duty_where (is_orphaned w.tables) (λ x. duty.Orphan x.id) w.tables.tasks) none).0) h))
-        p))
+    (λ t p. live_after w.tables n.id t
+    (ready_is_live (is_ready n.state) (is_session_live w.tables n.id)
+    (both (is_ready n.state) (not n.remote)
+    (both (is_ready n.state && not n.remote)
+    (is_row_and agent_node (λ a. not (is_mode_on a.mode)) w.agents n.id) silent).0).0
+    (filter_empty (is_expired w.tables) w.tables.nodes n
+    (map_empty (λ (x : Node). duty.Expire x.id) (filter (is_expired w.tables) w.tables.nodes)
+    (append_empty (duty_where (is_expired w.tables) (λ x. duty.Expire x.id) w.tables.nodes)
+    (duty_where (is_orphaned w.tables) (λ x. duty.Orphan x.id) w.tables.tasks) none).0) h))
+    p))
 
 remote_after : (t : Tables) (x : Task) → AllAfter t.clock (remote_wait t x)
 remote_after t x = if_after t.clock (is_awaited_there t x) (wait_till cause.Remote x.id (node_deadline t x))
     (λ e. till_after t.clock cause.Remote x.id (node_deadline t x)
-      (λ time p. at_node x.node time
-          (both (is_placed x && is_node_and t is_remote x) (has_live_session t x)
-            (both (is_placed x && is_node_and t is_remote x && has_live_session t x)
-              (is_behind x.state x.desired) e).0).1 p))
+    (λ time p. at_node x.node time
+    (both (is_placed x && is_node_and t is_remote x) (has_live_session t x)
+    (both (is_placed x && is_node_and t is_remote x && has_live_session t x)
+    (is_behind x.state x.desired) e).0).1 p))
   where
     at_node : (o : Option ℕ) (time : ℕ) → is_some_and (is_session_live t) o ≡ true → on_row None (deadline_of t) o
         ≡ Some time → t.clock < time
@@ -356,17 +356,17 @@ waits_after w none =
     let executors = flat_map executor_wait w.agents in
     let sessions = flat_map (session_wait w) w.tables.nodes in
     let idle = nothing_first w roles role.Agents none
-        (inr (inr (inr (inr (inr (inr (inr (inr (inr (inr (inl refl))))))))))) in
+    (inr (inr (inr (inr (inr (inr (inr (inr (inr (inr (inl refl))))))))))) in
     let calm = nothing_first w roles role.Dispatcher none (inl refl) in
     append_after clock (starts ++ updates ++ executors ++ sessions) (flat_map (remote_wait w.tables) w.tables.tasks)
-      (append_after clock (starts ++ updates ++ executors) sessions
-        (append_after clock (starts ++ updates) executors
-          (append_after clock starts updates
-            (each_after clock (start_wait w.tables) w.tables.tasks (λ x h. start_after w.tables x))
-            (each_after clock (update_wait w.tables) w.tables.services (λ s h. update_after w.tables s)))
-          (each_after clock executor_wait w.agents (λ a h. executors_after w a idle h)))
-        (each_after clock (session_wait w) w.tables.nodes (λ n h. sessions_after w n calm h)))
-      (each_after clock (remote_wait w.tables) w.tables.tasks (λ x h. remote_after w.tables x))
+    (append_after clock (starts ++ updates ++ executors) sessions
+    (append_after clock (starts ++ updates) executors
+    (append_after clock starts updates
+    (each_after clock (start_wait w.tables) w.tables.tasks (λ x h. start_after w.tables x))
+    (each_after clock (update_wait w.tables) w.tables.services (λ s h. update_after w.tables s)))
+    (each_after clock executor_wait w.agents (λ a h. executors_after w a idle h)))
+    (each_after clock (session_wait w) w.tables.nodes (λ n h. sessions_after w n calm h)))
+    (each_after clock (remote_wait w.tables) w.tables.tasks (λ x h. remote_after w.tables x))
 
 -- The answer.
 
@@ -380,9 +380,10 @@ held_is_none t s a h = go (has_open_run s) h
     one None k = absurd k
     one (Some x) (inl k) = λ t c i e. absurd cc
     one (Some x) (inr k) = absurd k
+
     go : (b : Bool)
         → Has (if b then option_to_list (option_map (held_answer s.id) (find (is_holding s) t.tasks)) else []) a
-          → IsNoWait a
+        → IsNoWait a
     go true k = one (find (is_holding s) t.tasks) k
     go false k = absurd k
 
@@ -401,18 +402,19 @@ later_answers w =
 later_is_none : (w : World) (a : Settle) → Has (later_answers w) a → IsNoWait a
 later_is_none w a h =
     go (Has-append_cases (flat_map (held_by w.tables) w.tables.services ++ flat_map paused_by w.tables.services)
-      (settle.Settled ∷ []) a h)
+    (settle.Settled ∷ []) a h)
   where
     early : Has (flat_map (held_by w.tables) w.tables.services) a ⊎ Has (flat_map paused_by w.tables.services) a
         → IsNoWait a
     early (inl k) =
         let s = Has-flat_map_cases (held_by w.tables) w.tables.services a k in held_is_none w.tables s.0 a s.2
     early (inr k) = let s = Has-flat_map_cases paused_by w.tables.services a k in paused_is_none s.0 a s.2
+
     go : Has (flat_map (held_by w.tables) w.tables.services ++ flat_map paused_by w.tables.services) a ⊎ Has
         (settle.Settled ∷ []) a → IsNoWait a
     go (inl k) =
         early (Has-append_cases (flat_map (held_by w.tables) w.tables.services)
-          (flat_map paused_by w.tables.services) a k)
+        (flat_map paused_by w.tables.services) a k)
     go (inr (inl k)) = λ t c i e. absurd cc
     go (inr (inr k)) = absurd k
 
@@ -430,14 +432,14 @@ idle_after w t c i none e = go (first_wait w) refl e
   where
     go : (o : Option Wait) → first_wait w ≡ o
         → on_row settle.Settled (λ a. a)
-            (first_of
-              (waiting_answer o ++ flat_map (held_by w.tables) w.tables.services ++ flat_map paused_by w.tables.services
-                ++ settle.Settled ∷ []))
-          ≡ settle.Waiting t c i → w.tables.clock < t
+        (first_of
+        (waiting_answer o ++ flat_map (held_by w.tables) w.tables.services ++ flat_map paused_by w.tables.services
+        ++ settle.Settled ∷ []))
+        ≡ settle.Waiting t c i → w.tables.clock < t
     go None q k = absurd (first_is_none (later_answers w) (later_is_none w) t c i k)
     go (Some x) q k =
         subst (λ z. w.tables.clock < z) (same_time x.time t x.cause c x.id i k)
-          (waits_after w none x (least_of wait_cmp (waits w) x q))
+        (waits_after w none x (least_of wait_cmp (waits w) x q))
 
 -- the time that the settle test says is waited for is after the clock
 pub waiting_after : (w : World) (t : ℕ) (c : Cause) (i : ℕ) → settle_answer w ≡ settle.Waiting t c i

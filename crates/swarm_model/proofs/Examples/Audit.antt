@@ -115,8 +115,8 @@ audited (e ∷ es) = audits_next e es (audited es)
 
 pub played : (w : World) (journal : List Told) (after : World)
     → audit w (entries_of journal) ≡ Some (record { world = after; replies = replies_of journal })
-        → IsPlayed w journal after
+    → IsPlayed w journal after
 played w journal after q =
     let h = audited (entries_of journal) (record { world = w; replies = [] })
-        (record { world = after; replies = replies_of journal }) q in
+    (record { world = after; replies = replies_of journal }) q in
     record { legal = h.legal; replies = sym h.replies; world = sym h.world }

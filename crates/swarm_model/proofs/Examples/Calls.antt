@@ -47,8 +47,8 @@ use Rattle.swarm_objects.specs.declared.watches.Verb.TheVariants as verb
 -- each operation finds what the earlier ones did
 one_after_the_other : says []
     (call.Txn
-      (op.CreateNetwork (codes "lan") 167772416 29 ∷ op.CreateService (codes "web") (on_networks (codes "lan" ∷ []))
-        ∷ []))
+    (op.CreateNetwork (codes "lan") 167772416 29 ∷ op.CreateService (codes "web") (on_networks (codes "lan" ∷ []))
+    ∷ []))
     ≡ reply.Txn (1 ∷ 2 ∷ [])
 one_after_the_other = refl
 
@@ -94,12 +94,12 @@ first_node w = first_of w.tables.nodes
 -- labels, role and availability are given; the rest stays
 node_written : first_node
     (leaves (join (codes "n") ∷ [])
-      (one (op.UpdateNode (codes "n") (Some 1) ((codes "k", codes "v") ∷ []) node_role.Manager availability.Drain)))
+    (one (op.UpdateNode (codes "n") (Some 1) ((codes "k", codes "v") ∷ []) node_role.Manager availability.Drain)))
     ≡ Some (record (new_node 2 1 (codes "n") plain_node) {
-        labels = (codes "k", codes "v") ∷ [];
-        role = node_role.Manager;
-        availability = availability.Drain;
-      })
+      labels = (codes "k", codes "v") ∷ [];
+      role = node_role.Manager;
+      availability = availability.Drain;
+    })
 node_written = refl
 
 -- A node that is removed: its tasks up to RUNNING are orphans, placed or not.
@@ -184,10 +184,10 @@ networks_are_named = refl
 scaled : first_service
     (leaves (create (codes "web") plain_draft ∷ []) (update (codes "web") None (draft_of (mode.Replicated 3))))
     ≡ Some (record web {
-        version = 2;
-        spec = plain_spec (mode.Replicated 3);
-        previous = Some (plain_spec (mode.Replicated 1));
-      })
+      version = 2;
+      spec = plain_spec (mode.Replicated 3);
+      previous = Some (plain_spec (mode.Replicated 1));
+    })
 scaled = refl
 
 abbrev larger : Draft
@@ -195,17 +195,17 @@ larger = with_template (record plain_template { cpu = 200 })
 
 templated : first_service (leaves (create (codes "web") plain_draft ∷ []) (update (codes "web") None larger))
     ≡ Some (record web {
-        version = 2;
-        spec = larger.spec;
-        previous = Some (plain_spec (mode.Replicated 1));
-        template_version = 2;
-      })
+      version = 2;
+      spec = larger.spec;
+      previous = Some (plain_spec (mode.Replicated 1));
+      template_version = 2;
+    })
 templated = refl
 
 -- back to the specification before, which then is the one to come back to
 rolled_back : first_service
     (leaves (create (codes "web") plain_draft ∷ update (codes "web") None larger ∷ [])
-      (one (op.RollbackService (codes "web") None)))
+    (one (op.RollbackService (codes "web") None)))
     ≡ Some (record web { version = 3; previous = Some larger.spec; template_version = 3; rolling_back = true })
 rolled_back = refl
 
@@ -213,19 +213,19 @@ rolled_back = refl
 next_job : first_service
     (leaves (create (codes "web") (draft_of (mode.Job 1 1)) ∷ []) (update (codes "web") None (draft_of (mode.Job 1 1))))
     ≡ Some (record web {
-        version = 2;
-        spec = plain_spec (mode.Job 1 1);
-        previous = Some (plain_spec (mode.Job 1 1));
-        iteration = 1;
-      })
+      version = 2;
+      spec = plain_spec (mode.Job 1 1);
+      previous = Some (plain_spec (mode.Job 1 1));
+      iteration = 1;
+    })
 next_job = refl
 
 -- its attempts go with it
 service_removed : leaves (create (codes "web") plain_draft ∷ []) (one (op.RemoveService (codes "web")))
     ≡ record empty_world {
-  entries = 2;
-  tables = record empty_tables { next_id = 2 };
-}
+      entries = 2;
+      tables = record empty_tables { next_id = 2 };
+    }
 service_removed = refl
 
 -- Networks and settings.
@@ -250,7 +250,7 @@ viewed = refl
 
 shows_id_of_gone :
     (call_outcome (with_tasks empty_world (task_on 6 (Some 1) state.Running ∷ []))
-      (call.View (query.ListTasks None))).reply
+    (call.View (query.ListTasks None))).reply
     ≡ reply.View (view.Tasks (record {
       id = 6;
       service = by.Id 5;
@@ -264,19 +264,19 @@ shows_id_of_gone = refl
 
 -- live tasks that run are counted, beside those that are wanted
 running_counted : (call_outcome (with_tasks (world_after (create (codes "web") (draft_of (mode.Replicated 4)) ∷ [])) (
-  record (task_on 6 (Some 1) state.Running) { service = 1 }
-  ∷ record (task_on 7 (Some 1) state.Starting) { service = 1 }
-  ∷ record (task_on 8 (Some 1) state.Running) { service = 1; desired = desired.Shutdown }
-  ∷ task_on 9 (Some 1) state.Running
-  ∷ [])) (call.View query.ListServices)).reply
+    record (task_on 6 (Some 1) state.Running) { service = 1 }
+    ∷ record (task_on 7 (Some 1) state.Starting) { service = 1 }
+    ∷ record (task_on 8 (Some 1) state.Running) { service = 1; desired = desired.Shutdown }
+    ∷ task_on 9 (Some 1) state.Running
+    ∷ [])) (call.View query.ListServices)).reply
     ≡ reply.View (view.Services (record {
-        id = 1;
-        name = codes "web";
-        mode = mode.Replicated 4;
-        running = 1;
-        wanted = 4;
-        update = None;
-      } ∷ []))
+      id = 1;
+      name = codes "web";
+      mode = mode.Replicated 4;
+      running = 1;
+      wanted = 4;
+      update = None;
+    } ∷ []))
 running_counted = refl
 
 abbrev closed_one : Task
@@ -285,16 +285,16 @@ closed_one = record (task_on 6 None state.Pending) { note = note.NoPort true; cl
 -- why its place is closed stands before why it waits
 shows_cause : (call_outcome (with_tasks empty_world (closed_one ∷ [])) (call.View (query.InspectTask 6))).reply
     ≡ reply.View (view.Task (record {
-        id = 6;
-        version = 1;
-        service = 5;
-        place = place_shown.Slot 1;
-        node = None;
-        state = state.Pending;
-        desired = desired.Running;
-        addresses = [];
-        note = note_shown.Closed closed.Done;
-      }))
+      id = 6;
+      version = 1;
+      service = 5;
+      place = place_shown.Slot 1;
+      node = None;
+      state = state.Pending;
+      desired = desired.Running;
+      addresses = [];
+      note = note_shown.Closed closed.Done;
+    }))
 shows_cause = refl
 
 -- Watches.
@@ -331,7 +331,7 @@ watch_ended = refl
 -- a refused transaction makes no event
 no_event_of_refused :
     (leaves (call.WatchBegin all_events ∷ [])
-      (call.Txn (op.CreateService (codes "web") plain_draft ∷ op.RemoveService (codes "api") ∷ []))).events ≡ []
+    (call.Txn (op.CreateService (codes "web") plain_draft ∷ op.RemoveService (codes "api") ∷ []))).events ≡ []
 no_event_of_refused = refl
 
 -- Time.
@@ -368,10 +368,10 @@ in_mode m executors = record { node = 1; mode = m; inbox = None; applied = 0; ex
 -- what starts or runs fails, and what only waits stays
 node_failed : agents_after
     (with_executors
-      (executor 6 state.Ready ∷ executor 7 state.Starting ∷ executor 8 state.Running ∷ executor 9 state.Complete ∷ []))
-        (call.NodeFail (codes "n"))
+    (executor 6 state.Ready ∷ executor 7 state.Starting ∷ executor 8 state.Running ∷ executor 9 state.Complete ∷ []))
+    (call.NodeFail (codes "n"))
     ≡ in_mode agent_mode.PowerOff
-        (executor 6 state.Ready ∷ executor 7 state.Failed ∷ executor 8 state.Failed ∷ executor 9 state.Complete ∷ [])
+    (executor 6 state.Ready ∷ executor 7 state.Failed ∷ executor 8 state.Failed ∷ executor 9 state.Complete ∷ [])
 node_failed = refl
 
 node_started : agents_after (leaves (join (codes "n") ∷ []) (call.NodeFail (codes "n"))) (call.NodeStart (codes "n"))
@@ -433,7 +433,7 @@ assigned_six = record { task = 6; desired = desired.Running; workload = plain_te
 
 remote_pulled :
     (call_outcome (with_tasks opened (task_on 6 (Some 1) state.Assigned ∷ []))
-      (call.RemotePull (codes "r") 2)).after.sent
+    (call.RemotePull (codes "r") 2)).after.sent
     ≡ record { node = 1; count = 1; tasks = assigned_six ∷ [] } ∷ []
 remote_pulled = refl
 
@@ -444,7 +444,7 @@ status_raised : reports state.Assigned state.Running ≡ record {
   reply = reply.Status true state.Running;
   after =
       record (with_tasks opened
-        (record (task_on 6 (Some 1) state.Running) { version = 4; since = 1000 } ∷ [])) { entries = 4 };
+      (record (task_on 6 (Some 1) state.Running) { version = 4; since = 1000 } ∷ [])) { entries = 4 };
 }
 status_raised = refl
 

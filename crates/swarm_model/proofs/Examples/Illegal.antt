@@ -15,7 +15,6 @@ use Rattle.swarm_model.proofs.Examples.OutOfOrder.OrphanAndNote as orphan_and_no
 use Rattle.swarm_model.proofs.Examples.OutOfOrder.RejectAndForget as reject_and_forget
 use Rattle.swarm_model.proofs.Examples.OutOfOrder.SwapAndDown as swap_and_down
 use Rattle.swarm_model.specs.History.{is_legal}
-use Rattle.swarm_objects.specs.Loops.Update.{rolled_back}
 use Rattle.swarm_objects.specs.declared.calls.Entry.{Entry}
 
 -- without the entry that has so many before it

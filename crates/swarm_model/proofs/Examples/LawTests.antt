@@ -34,7 +34,7 @@ keeps_node (Some node) new = option_eq same_number new (Some node)
 abbrev pub rises_to : Task → Task → Bool
 rises_to new old =
     same_task_making old (record new { raise_at = old.raise_at }) && keeps_node old.node new.node
-        && nat_le (rank old.state) (rank new.state)
+    && nat_le (rank old.state) (rank new.state)
     && nat_le (desired_rank old.desired) (desired_rank new.desired)
 
 abbrev pub task_rises : List Task → Task → Bool
@@ -61,7 +61,7 @@ minds w (what.Duty d) = on_row true (is_session_live w.tables) (session_node_of 
 abbrev pub law_tests_at : World → What → World → Bool
 law_tests_at old e new =
     minds old e && rises old.tables new.tables && fits new.tables && is_sane new
-        && are_new_ones_right old.tables new.tables
+    && are_new_ones_right old.tables new.tables
 
 -- each step passes them
 abbrev pub laws_hold : World → List Entry → Bool

@@ -42,9 +42,16 @@ waited = record {
   strides = record { stretch = []; ms = 5 } ∷ [];
   tail = [];
   entries = refl;
-  ticks =
-      (record { stretch = (refl, omega arith); some = omega arith; most = omega arith; in_line = omega arith;
-        rule = λ _. (refl, refl) }, tt);
+  ticks = (
+    record {
+      stretch = (refl, omega arith);
+      some = omega arith;
+      most = omega arith;
+      in_line = omega arith;
+      rule = λ _. (refl, refl);
+    },
+    tt,
+  );
   all = refl;
   tail_is = ((refl, omega arith), λ _. refl);
 }

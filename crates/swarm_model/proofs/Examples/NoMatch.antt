@@ -47,7 +47,7 @@ not_running = refl
 
 no_place : matches_world
     (with_agents (λ a. record a { executors = drop_row executor_task 3 a.executors })
-      (without_task 3 two_replicas.world)) ≡ false
+    (without_task 3 two_replicas.world)) ≡ false
 no_place = refl
 
 other_template : matches_world
@@ -101,16 +101,16 @@ closings_right = refl
 
 other_cause : list_all
     (are_closings_right closed_place.history
-      (with_task 6
-        (λ x. record x { closed = Some closed.Condition }) closed_place.world).tables)
-        closed_place.world.tables.services
+    (with_task 6
+    (λ x. record x { closed = Some closed.Condition }) closed_place.world).tables)
+    closed_place.world.tables.services
     ≡ false
 other_cause = refl
 
 -- and without a closing there is none
 never_closed : list_all
     (are_closings_right (take 60 closed_place.history) closed_place.world.tables) closed_place.world.tables.services
-      ≡ false
+    ≡ false
 never_closed = refl
 
 done_once : matches_world done_job.world ≡ true

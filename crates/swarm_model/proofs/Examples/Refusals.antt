@@ -113,8 +113,8 @@ concurrent = refl
 
 time : says []
     (create (codes "web")
-      (with_template
-        (record plain_template { workload = record { prepare = 0; start = 1; stop = 1; end = end.Never } })))
+    (with_template
+    (record plain_template { workload = record { prepare = 0; start = 1; stop = 1; end = end.Never } })))
     ≡ breaks rule.Time
 time = refl
 
@@ -132,12 +132,12 @@ ports = refl
 -- host ports without a number are none, so they don't clash
 host_ports_without_number : says []
     (create (codes "web") (with_template (record plain_template { host_ports = port 80 None ∷ port 80 None ∷ [] })))
-      ≡ reply.Txn (1 ∷ [])
+    ≡ reply.Txn (1 ∷ [])
 host_ports_without_number = refl
 
 host_ports_with_number : says []
     (create (codes "web")
-      (with_template (record plain_template { host_ports = port 80 (Some 8) ∷ port 80 (Some 8) ∷ [] })))
+    (with_template (record plain_template { host_ports = port 80 (Some 8) ∷ port 80 (Some 8) ∷ [] })))
     ≡ breaks rule.Ports
 host_ports_with_number = refl
 
@@ -148,8 +148,14 @@ spread = refl
 ratio : says [] (create (codes "web") (record {
   spec = record (plain_spec mode.Global) {
     update =
-        record { parallelism = 0; delay = 0; monitor = 0; action = action.Pause; ratio = 1001;
-          order = order.StopFirst };
+        record {
+          parallelism = 0;
+          delay = 0;
+          monitor = 0;
+          action = action.Pause;
+          ratio = 1001;
+          order = order.StopFirst;
+        };
   };
   networks = [];
 })) ≡ breaks rule.Ratio
@@ -177,7 +183,7 @@ settings = refl
 -- the first rule in the stated order
 first_rule : says []
     (create (codes "web")
-      (record { spec = record (plain_spec (mode.Job 0 10001)) { ports = port 0 None ∷ [] }; networks = [] }))
+    (record { spec = record (plain_spec (mode.Job 0 10001)) { ports = port 0 None ∷ [] }; networks = [] }))
     ≡ breaks rule.Replicas
 first_rule = refl
 
@@ -192,7 +198,7 @@ in_use = refl
 -- also by the specification that a service had before
 in_use_before : says
     (add_network (codes "lan") ∷ create (codes "web") (on_networks (codes "lan" ∷ []))
-      ∷ update (codes "web") None plain_draft ∷ [])
+    ∷ update (codes "web") None plain_draft ∷ [])
     (one (op.RemoveNetwork (codes "lan"))) ≡ reply.Refused (refusal.InUse 2)
 in_use_before = refl
 
@@ -339,7 +345,7 @@ as_many_nodes = refl
 abbrev same_services : ℕ → World
 same_services k =
     with_tables empty_world
-      (record empty_tables { services = replicate k (new_service 1 empty_tables (codes "x") plain_draft) })
+    (record empty_tables { services = replicate k (new_service 1 empty_tables (codes "x") plain_draft) })
 
 too_many_services : (call_outcome (same_services 1000) (create (codes "web") plain_draft)).reply
     ≡ reply.Refused (refusal.TooMany kind.Service 1000)
@@ -347,8 +353,8 @@ too_many_services = refl
 
 too_many_networks :
     (call_outcome
-      (with_tables empty_world (record empty_tables { networks = replicate 100 (new_network 1 1 (codes "x") 0 29) }))
-        (add_network (codes "lan"))).reply
+    (with_tables empty_world (record empty_tables { networks = replicate 100 (new_network 1 1 (codes "x") 0 29) }))
+    (add_network (codes "lan"))).reply
     ≡ reply.Refused (refusal.TooMany kind.Network 100)
 too_many_networks = refl
 

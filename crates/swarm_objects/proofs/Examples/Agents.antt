@@ -77,21 +77,26 @@ no_register_when_off = refl
 
 abbrev a_message : Message
 a_message =
-    record { complete = false; applies_to = 3; results_in = 4; changes = assign.Update (assigned_three desired.Shutdown)
-      ∷ [] }
+    record {
+      complete = false;
+      applies_to = 3;
+      results_in = 4;
+      changes = assign.Update (assigned_three desired.Shutdown)
+          ∷ [];
+    }
 
 -- a new session: nothing was sent in it, and the inbox is emptied
 registered_anew : after_register 7
     (record registers { agents = agent (Some a_message) (executor state.Running ∷ []) ∷ [] }) 1
     ≡ record registers {
-        tables = record registers.tables {
-          next_id = 51;
-          nodes = record (node 1) { version = 7 } ∷ [];
-          sessions = record { node = 1; session = record { id = 50; deadline = 21000; beat = 6000 } } ∷ [];
-        };
-        sent = [];
-        agents = record (agent None (executor state.Running ∷ [])) { applied = 0 } ∷ [];
-      }
+      tables = record registers.tables {
+        next_id = 51;
+        nodes = record (node 1) { version = 7 } ∷ [];
+        sessions = record { node = 1; session = record { id = 50; deadline = 21000; beat = 6000 } } ∷ [];
+      };
+      sent = [];
+      agents = record (agent None (executor state.Running ∷ [])) { applied = 0 } ∷ [];
+    }
 registered_anew = refl
 
 -- Beat.
@@ -103,8 +108,10 @@ no_beat_before : agents (at_time 4999 (calm (executor state.Running))) ≡ []
 no_beat_before = refl
 
 beaten_at : after_beat (record calm_tables { clock = 5000 }) 1
-    ≡ record calm_tables { clock = 5000;
-        sessions = record { node = 1; session = record { id = 41; deadline = 20000; beat = 5000 } } ∷ [] }
+    ≡ record calm_tables {
+      clock = 5000;
+      sessions = record { node = 1; session = record { id = 41; deadline = 20000; beat = 5000 } } ∷ [];
+    }
 beaten_at = refl
 
 -- Pull and apply.
@@ -120,18 +127,21 @@ abbrev raise_message : Message
 raise_message = record a_message { changes = assign.Update (assigned_three desired.Running) ∷ [] }
 
 pulled : after_pull unsent 1 (message_for unsent 1)
-    ≡ record unsent { sent = record (sent_so desired.Running) { count = 4 }
-        ∷ []; agents = agent (Some raise_message) (executor state.Running ∷ []) ∷ [] }
+    ≡ record unsent {
+      sent = record (sent_so desired.Running) { count = 4 }
+          ∷ [];
+      agents = agent (Some raise_message) (executor state.Running ∷ []) ∷ [];
+    }
 pulled = refl
 
 -- the first message of a session has all
 first_message : message_for (record unsent { sent = [] }) 1
     ≡ Some (record {
-        complete = true;
-        applies_to = 0;
-        results_in = 1;
-        changes = assign.Update (assigned_three desired.Running) ∷ [];
-      })
+      complete = true;
+      applies_to = 0;
+      results_in = 1;
+      changes = assign.Update (assigned_three desired.Running) ∷ [];
+    })
 first_message = refl
 
 -- a task that isn't the node's any more
@@ -147,23 +157,36 @@ apply_inbox = refl
 
 applied_update : after_apply (received_one a_message) 1
     ≡ record (calm (executor state.Running)) {
-        agents =
-            record (agent None (record (executor state.Running) { desired = desired.Shutdown } ∷ [])) { applied = 4 }
-              ∷ [];
-      }
+      agents =
+          record (agent None (record (executor state.Running) { desired = desired.Shutdown } ∷ [])) { applied = 4 }
+          ∷ [];
+    }
 applied_update = refl
 
 -- a complete message without the task takes its executor, and brings others
 applied_complete :
     (after_apply
-      (received_one
-        (record { complete = true; applies_to = 0; results_in = 1; changes = assign.Update
-          (record (assigned_three desired.Ready) { task = 4 }) ∷ [] })) 1).agents
+    (received_one
+    (record {
+      complete = true;
+      applies_to = 0;
+      results_in = 1;
+      changes = assign.Update
+          (record (assigned_three desired.Ready) { task = 4 }) ∷ [];
+    })) 1).agents
     ≡ record (agent None (
-        record (executor state.Running) { gone = true }
-        ∷ record { task = 4; desired = desired.Ready; workload = workload; state = state.Accepted; since = 1000;
-            stopping = None; reported = None; gone = false }
-        ∷ [])) { applied = 1 } ∷ []
+    record (executor state.Running) { gone = true }
+    ∷ record {
+      task = 4;
+      desired = desired.Ready;
+      workload = workload;
+      state = state.Accepted;
+      since = 1000;
+      stopping = None;
+      reported = None;
+      gone = false;
+    }
+    ∷ [])) { applied = 1 } ∷ []
 applied_complete = refl
 
 -- Executors.
@@ -236,16 +259,21 @@ no_report_of_gone : agents (calm (record (executor state.Failed) { reported = No
 no_report_of_gone = refl
 
 no_report_without_task : agents
-    (record unreported { tables = tables (node 1 ∷ [])
-      (replicas 1 ∷ []) []; sent = record (sent_so desired.Running) { tasks = [] } ∷ [] }) ≡ []
+    (record unreported {
+      tables = tables (node 1 ∷ [])
+          (replicas 1 ∷ []) [];
+      sent = record (sent_so desired.Running) { tasks = [] } ∷ [];
+    }) ≡ []
 no_report_without_task = refl
 
 abbrev starting : Tables
 starting = tables (node 1 ∷ []) (replicas 1 ∷ []) (placed_task 3 1 1 state.Starting ∷ [])
 
 reported_up : after_report 7 (record unreported { tables = starting }) 1 3
-    ≡ record (calm (executor state.Running)) { tables = tables (node 1 ∷ []) (replicas 1 ∷ [])
-        (record running { version = 7; since = 1000 } ∷ []) }
+    ≡ record (calm (executor state.Running)) {
+      tables = tables (node 1 ∷ []) (replicas 1 ∷ [])
+          (record running { version = 7; since = 1000 } ∷ []);
+    }
 reported_up = refl
 
 -- a state that isn't above the task's is told, and changes nothing
@@ -270,9 +298,9 @@ other task e = record e { task = task }
 in_order : agents (record (at_time 5000 (calm (executor state.Running))) {
   sent = sent_so desired.Ready ∷ [];
   agents = agent None (
-    record (executor state.Running) { reported = None }
-    ∷ other 4 (executor state.Accepted)
-    ∷ record (other 5 (executor state.Failed)) { gone = true }
-    ∷ []) ∷ [];
+      record (executor state.Running) { reported = None }
+      ∷ other 4 (executor state.Accepted)
+      ∷ record (other 5 (executor state.Failed)) { gone = true }
+      ∷ []) ∷ [];
 }) ≡ duty.Beat 1 ∷ duty.Pull 1 ∷ duty.Exec 1 4 ∷ duty.Report 1 3 ∷ duty.Forget 1 5 ∷ []
 in_order = refl

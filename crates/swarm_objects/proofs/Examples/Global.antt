@@ -53,7 +53,7 @@ no_leave_where_right = refl
 
 left : after_leave 7 (with_task_of elsewhere) 2 1
     ≡ tables (elsewhere ∷ []) (in_zone_a ∷ [])
-        (record (of_node state.Running) { version = 7; desired = desired.Remove } ∷ [])
+    (record (of_node state.Running) { version = 7; desired = desired.Remove } ∷ [])
 left = refl
 
 -- A node that is to have one.
@@ -90,6 +90,6 @@ came = refl
 
 leaves_first : global
     (tables (node 1 ∷ down_node 4 0 ∷ []) (in_zone_a ∷ [])
-      (record (task 3 (On 4) state.Running) { node = Some 4 } ∷ []))
+    (record (task 3 (On 4) state.Running) { node = Some 4 } ∷ []))
     ≡ duty.Leave 2 4 ∷ duty.GlobalCreate 2 1 ∷ []
 leaves_first = refl

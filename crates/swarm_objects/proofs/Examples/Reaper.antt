@@ -59,8 +59,8 @@ no_trim_of_other_places = refl
 
 no_trim_during_update : reaper
     (with_past
-      (record (replicas 1) { run = Some (record { status = status.Updating; version = 2; total = 1; replaced = [] }) })
-        (past 3 ∷ past 4 ∷ placed_task 5 1 1 state.Running ∷ []))
+    (record (replicas 1) { run = Some (record { status = status.Updating; version = 2; total = 1; replaced = [] }) })
+    (past 3 ∷ past 4 ∷ placed_task 5 1 1 state.Running ∷ []))
     ≡ []
 no_trim_during_update = refl
 
@@ -71,7 +71,7 @@ trimmed = refl
 
 deletes_first : reaper
     (with_past (replicas 1)
-      (past 3 ∷ past 4 ∷ with_desired desired.Remove (placed_task 5 2 1 state.Failed) ∷ placed_task 6 1 1 state.Running
-        ∷ []))
+    (past 3 ∷ past 4 ∷ with_desired desired.Remove (placed_task 5 2 1 state.Failed) ∷ placed_task 6 1 1 state.Running
+    ∷ []))
     ≡ duty.Delete 5 ∷ duty.Trim 3 ∷ []
 deletes_first = refl

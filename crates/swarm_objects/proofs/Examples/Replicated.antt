@@ -60,8 +60,8 @@ no_down_at_the_number = refl
 -- every task of the slot that isn't to be removed
 downed : after_down 7 (with_tasks 0 (with_desired desired.Shutdown (up 3 1 1) ∷ up 4 1 1 ∷ up 5 2 1 ∷ [])) 2 1
     ≡ with_tasks 0
-        (record (up 3 1 1) { version = 7; desired = desired.Remove }
-          ∷ record (up 4 1 1) { version = 7; desired = desired.Remove } ∷ up 5 2 1 ∷ [])
+    (record (up 3 1 1) { version = 7; desired = desired.Remove }
+    ∷ record (up 4 1 1) { version = 7; desired = desired.Remove } ∷ up 5 2 1 ∷ [])
 downed = refl
 
 -- Places that are too few.
@@ -75,8 +75,8 @@ create_behind = refl
 -- a closed slot is held
 no_create_where_closed : replicated
     (with_tasks 1
-      (record (up 3 1 1) { state = state.Failed; desired = desired.Shutdown; closed = Some closed.Condition } ∷ []))
-        ≡ []
+    (record (up 3 1 1) { state = state.Failed; desired = desired.Shutdown; closed = Some closed.Condition } ∷ []))
+    ≡ []
 no_create_where_closed = refl
 
 create_where_stopped : replicated (with_tasks 1 (with_desired desired.Shutdown (up 3 1 1) ∷ []))
@@ -85,8 +85,8 @@ create_where_stopped = refl
 
 created : after_replicated_create 7 (with_tasks 1 []) 2 1
     ≡ record (with_tasks 1
-        (record (task 50 (Slot 1) state.New) { version = 7; since = 1000; created = 1000; raise_at = 1000 }
-          ∷ [])) { next_id = 51 }
+    (record (task 50 (Slot 1) state.New) { version = 7; since = 1000; created = 1000; raise_at = 1000 }
+    ∷ [])) { next_id = 51 }
 created = refl
 
 -- Gone ones come first.

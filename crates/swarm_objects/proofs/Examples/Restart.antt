@@ -127,11 +127,11 @@ again_after_window = refl
 -- the cause stands on the place's newest task
 cause_on_newest :
     (after_restart 7
-      (with_policy condition.Never 0 0 []
-        (failed ∷ with_desired desired.Shutdown (placed_task 4 1 1 state.Running) ∷ [])) 3).tasks
+    (with_policy condition.Never 0 0 []
+    (failed ∷ with_desired desired.Shutdown (placed_task 4 1 1 state.Running) ∷ [])) 3).tasks
     ≡ stopped
-        ∷ record (with_desired desired.Shutdown
-          (placed_task 4 1 1 state.Running)) { version = 7; closed = Some closed.Condition } ∷ []
+    ∷ record (with_desired desired.Shutdown
+    (placed_task 4 1 1 state.Running)) { version = 7; closed = Some closed.Condition } ∷ []
 cause_on_newest = refl
 
 job_task_is_done : (after_restart 7 (with_job_task 0) 3).tasks

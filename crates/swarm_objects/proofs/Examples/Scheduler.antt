@@ -32,7 +32,7 @@ no_drop_once_assigned = refl
 
 dropped : after_drop 7 (on_nodes [] (with_desired desired.Shutdown waiting ∷ [])) 3
     ≡ on_nodes []
-        (record (with_desired desired.Shutdown waiting) { version = 7; state = state.Shutdown; since = 1000 } ∷ [])
+    (record (with_desired desired.Shutdown waiting) { version = 7; state = state.Shutdown; since = 1000 } ∷ [])
 dropped = refl
 
 -- Placing.
@@ -72,7 +72,7 @@ spread_over_zones x = record x { template = record template { spread = key.Label
 -- zone a has the service's task, so zone b is next, however loaded
 best_by_zone : scheduler
     (on_nodes (node 1 ∷ node 10 ∷ in_b 11 ∷ [])
-      (placed_task 2 2 1 state.Running ∷ spread_over_zones waiting ∷ other 4 11 ∷ []))
+    (placed_task 2 2 1 state.Running ∷ spread_over_zones waiting ∷ other 4 11 ∷ []))
     ≡ duty.Place 3 11 ∷ []
 best_by_zone = refl
 
@@ -105,7 +105,7 @@ publishing = record template { host_ports = record { target = 80; number = Some 
 
 refused_for_host_port : refusal_counts
     (on_nodes (node 1 ∷ []) (with_template publishing (placed_task 2 2 1 state.Running) ∷ []))
-      (with_template publishing waiting)
+    (with_template publishing waiting)
     ≡ 0 ∷ 0 ∷ 0 ∷ 0 ∷ 1 ∷ 0 ∷ []
 refused_for_host_port = refl
 
@@ -132,19 +132,19 @@ no_explain_twice = refl
 
 explained_there : after_explain 7 (on_nodes (record (node 1) { cpu = 0 } ∷ []) (waiting ∷ [])) 3
     ≡ on_nodes (record (node 1) { cpu = 0 } ∷ [])
-        (record (says (0 ∷ 1 ∷ 0 ∷ 0 ∷ 0 ∷ 0 ∷ []) waiting) { version = 7 } ∷ [])
+    (record (says (0 ∷ 1 ∷ 0 ∷ 0 ∷ 0 ∷ 0 ∷ []) waiting) { version = 7 } ∷ [])
 explained_there = refl
 
 -- a task whose place is a node is tested there alone
 place_bound : scheduler
     (tables (node 1 ∷ node 10 ∷ []) (global_service ∷ [])
-      (other 2 10 ∷ record (task 3 (On 10) state.Pending) { node = Some 10 } ∷ [])) ≡ duty.Place 3 10 ∷ []
+    (other 2 10 ∷ record (task 3 (On 10) state.Pending) { node = Some 10 } ∷ [])) ≡ duty.Place 3 10 ∷ []
 place_bound = refl
 
 -- By task, whatever the kind.
 
 by_task : scheduler
     (on_nodes (node 1 ∷ [])
-      (waiting ∷ with_desired desired.Shutdown (record waiting { id = 4 }) ∷ record waiting { id = 5 } ∷ []))
+    (waiting ∷ with_desired desired.Shutdown (record waiting { id = 4 }) ∷ record waiting { id = 5 } ∷ []))
     ≡ duty.Place 3 1 ∷ duty.Drop 4 ∷ duty.Place 5 1 ∷ []
 by_task = refl

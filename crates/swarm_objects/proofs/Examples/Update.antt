@@ -59,14 +59,14 @@ no_start_of_job = refl
 -- a run to an earlier template doesn't go on
 start_beside_earlier : update
     (with_tasks (record (running_update (run status.Updating [])) { template_version = 9 })
-      (dirty 3 state.Running ∷ [])) ≡ duty.Start 2 ∷ []
+    (dirty 3 state.Running ∷ [])) ≡ duty.Start 2 ∷ []
 start_beside_earlier = refl
 
 -- a place that is closed with a dirty task is dirty
 start_where_closed : update
     (with_tasks (replicas 1)
-      (record (dirty 3 state.Failed) { desired = desired.Shutdown; closed = Some closed.Condition } ∷ []))
-        ≡ duty.Start 2 ∷ []
+    (record (dirty 3 state.Failed) { desired = desired.Shutdown; closed = Some closed.Condition } ∷ []))
+    ≡ duty.Start 2 ∷ []
 start_where_closed = refl
 
 started : after_start 7 (with_tasks (replicas 1) (dirty 3 state.Running ∷ [])) 2
@@ -103,8 +103,8 @@ no_fail_by_other_version = refl
 
 no_fail_where_it_goes_on : first_of
     (update
-      (with_tasks
-        (with_update (record update_config { action = action.Continue }) (running_update (run status.Updating [])))
+    (with_tasks
+    (with_update (record update_config { action = action.Continue }) (running_update (run status.Updating [])))
     (dirty 3 state.Running ∷ broken state.Failed 910 ∷ []))) ≡ Some (duty.Replace 2 1)
 no_fail_where_it_goes_on = refl
 
@@ -155,8 +155,10 @@ no_swap_where_paused : update
 no_swap_where_paused = refl
 
 swapped : after_swap 7 (beside state.Running) 2 1
-    ≡ record (beside state.Running) { tasks = record (dirty 3 state.Running) { version = 7; desired = desired.Shutdown }
-        ∷ at_two 4 state.Running ∷ [] }
+    ≡ record (beside state.Running) {
+      tasks = record (dirty 3 state.Running) { version = 7; desired = desired.Shutdown }
+          ∷ at_two 4 state.Running ∷ [];
+    }
 swapped = refl
 
 -- Replace.
@@ -168,8 +170,8 @@ slot_two x = record x { place = Slot 2 }
 abbrev flight : ℕ → Task → Tables
 flight delay x =
     with_tasks
-      (with_update (record update_config { delay = delay })
-        (record (running_update (run status.Updating (item 900 ∷ []))) { version = 2 }))
+    (with_update (record update_config { delay = delay })
+    (record (running_update (run status.Updating (item 900 ∷ []))) { version = 2 }))
     (slot_two (dirty 3 state.Running) ∷ x ∷ [])
 
 replace_where_dirty : update (flight 0 (at_two 4 state.Running)) ≡ duty.Replace 2 2 ∷ []
@@ -192,18 +194,18 @@ new_one d =
 abbrev to_replace : UpdateOrder → Tables
 to_replace o =
     with_tasks (with_update (record update_config { order = o }) (running_update (run status.Updating (item 900 ∷ []))))
-      (dirty 3 state.Running ∷ [])
+    (dirty 3 state.Running ∷ [])
 
 abbrev replaced_by : UpdateOrder → Task → Task → Tables
 replaced_by o old new =
     record (with_tasks
-      (record (with_update (record update_config { order = o })
-        (running_update (run status.Updating (record (item 1000) { task = 50 } ∷ [])))) { version = 7 })
+    (record (with_update (record update_config { order = o })
+    (running_update (run status.Updating (record (item 1000) { task = 50 } ∷ [])))) { version = 7 })
     (old ∷ new ∷ [])) { next_id = 51 }
 
 replaced_after_stop : after_replace 7 (to_replace order.StopFirst) 2 1
     ≡ replaced_by order.StopFirst (record (dirty 3 state.Running) { version = 7; desired = desired.Shutdown })
-        (new_one desired.Ready)
+    (new_one desired.Ready)
 replaced_after_stop = refl
 
 replaced_at_once : after_replace 7 (to_replace order.StartFirst) 2 1
@@ -225,7 +227,7 @@ no_finish_within_monitor = refl
 -- a run to an earlier template ends too, where no place is dirty
 finish_of_earlier : update
     (watched 1030 (record (running_update (run status.Updating (item 1000 ∷ []))) { template_version = 9 }))
-      ≡ duty.Finish 2 ∷ []
+    ≡ duty.Finish 2 ∷ []
 finish_of_earlier = refl
 
 no_finish_again : update (watched 1030 (running_update (run status.Completed (item 1000 ∷ [])))) ≡ []
