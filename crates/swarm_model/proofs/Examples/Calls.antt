@@ -355,7 +355,7 @@ executor task s = record {
 }
 
 abbrev with_executors : List Executor → World
-with_executors executors = record (world_after (join (codes "n") ∷ [])) {
+with_executors executors = record (world_after (join (codes "n") ∷ call.Tick 7 ∷ [])) {
   agents = record { node = 1; mode = agent_mode.On; inbox = None; applied = 0; executors = executors } ∷ [];
 }
 
@@ -365,13 +365,17 @@ agents_after w c = (call_outcome w c).after.agents
 abbrev in_mode : AgentMode → List Executor → List NodeAgent
 in_mode m executors = record { node = 1; mode = m; inbox = None; applied = 0; executors = executors } ∷ []
 
--- what starts or runs fails, and what only waits stays
-node_failed : agents_after
-    (with_executors
-    (executor 6 state.Ready ∷ executor 7 state.Starting ∷ executor 8 state.Running ∷ executor 9 state.Complete ∷ []))
-    (call.NodeFail (codes "n"))
+abbrev four_executors : List Executor
+four_executors =
+    executor 6 state.Ready ∷ executor 7 state.Starting ∷ executor 8 state.Running ∷ executor 9 state.Complete ∷ []
+
+abbrev failed_at : ℕ → ℕ → Executor
+failed_at time task = record (executor task state.Failed) { since = time }
+
+-- what starts or runs fails now, and what only waits stays
+node_failed : agents_after (with_executors four_executors) (call.NodeFail (codes "n"))
     ≡ in_mode agent_mode.PowerOff
-    (executor 6 state.Ready ∷ executor 7 state.Failed ∷ executor 8 state.Failed ∷ executor 9 state.Complete ∷ [])
+    (executor 6 state.Ready ∷ failed_at 7 7 ∷ failed_at 7 8 ∷ executor 9 state.Complete ∷ [])
 node_failed = refl
 
 node_started : agents_after (leaves (join (codes "n") ∷ []) (call.NodeFail (codes "n"))) (call.NodeStart (codes "n"))

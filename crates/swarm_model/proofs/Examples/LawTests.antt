@@ -10,8 +10,9 @@ use Rattle.swarm_model.specs.Laws.Facts.{are_new_ones_right, is_sane}
 use Rattle.swarm_model.specs.Laws.Fits.{has_room_for, share_address, share_host_port, share_port}
 use Rattle.swarm_model.specs.Laws.OneTemplate.{are_alike}
 use Rattle.swarm_model.specs.Laws.Rises.{session_id}
+use Rattle.swarm_objects.proofs.Examples.Rows.{node}
 use Rattle.swarm_objects.specs.Nodes.Sessions.{is_session_live}
-use Rattle.swarm_objects.specs.Rows.{has_row, network_id, node_id, on_row, row_at, service_id, task_id}
+use Rattle.swarm_objects.specs.Rows.{has_row, network_id, node_id, on_row, row_at, service_id, task_id, watcher_id}
 use Rattle.swarm_objects.specs.Rules.Services.{has_alike}
 use Rattle.swarm_objects.specs.Same.{same_number}
 use Rattle.swarm_objects.specs.Values.Ranks.{desired_rank, rank}
@@ -60,7 +61,8 @@ minds w (what.Duty d) = on_row true (is_session_live w.tables) (session_node_of 
 
 abbrev pub law_tests_at : World → What → World → Bool
 law_tests_at old e new =
-    minds old e && rises old.tables new.tables && fits new.tables && is_sane new
+    minds old e && rises old.tables new.tables
+    && comes_above watcher_id old.tables.next_id old.watchers new.watchers && fits new.tables && is_sane new
     && are_new_ones_right old.tables new.tables
 
 -- each step passes them

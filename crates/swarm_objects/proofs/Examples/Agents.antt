@@ -2,7 +2,7 @@
 use Rattle.std.specs.Prelude.{List, None, Option, Some, [], false, refl, true, ℕ, ◌∷◌, ◌≡◌}
 use Rattle.swarm_objects.proofs.Examples.Rows.{node, placed_task, replicas, tables, task, workload}
 use Rattle.swarm_objects.specs.Agents.Executors.{executor_step}
-use Rattle.swarm_objects.specs.Agents.Messages.{message_for}
+use Rattle.swarm_objects.specs.Agents.Messages.{due_set, message_for}
 use Rattle.swarm_objects.specs.Loops.Agents.{after_apply, after_beat, after_exec, after_forget, after_pull, after_register, after_report, agents}
 use Rattle.swarm_objects.specs.World.{Tables, World, empty_world}
 use Rattle.swarm_objects.specs.declared.agents.AgentMode.TheVariants as agent_mode
@@ -16,6 +16,7 @@ use Rattle.swarm_objects.specs.declared.messages.Message.{Message}
 use Rattle.swarm_objects.specs.declared.messages.NodeSent.{NodeSent}
 use Rattle.swarm_objects.specs.declared.tasks.Desired.{Desired}
 use Rattle.swarm_objects.specs.declared.tasks.Desired.TheVariants as desired
+use Rattle.swarm_objects.specs.declared.tasks.Place.TheVariants.{On}
 use Rattle.swarm_objects.specs.declared.tasks.Task.{Task}
 use Rattle.swarm_objects.specs.declared.tasks.TaskState.{TaskState}
 use Rattle.swarm_objects.specs.declared.tasks.TaskState.TheVariants as state
@@ -143,6 +144,14 @@ first_message : message_for (record unsent { sent = [] }) 1
       changes = assign.Update (assigned_three desired.Running) ∷ [];
     })
 first_message = refl
+
+-- a task that was dropped before it was assigned is due all the same, where it has its node from the start
+abbrev dropped : Task
+dropped = record (task 4 (On 1) state.Shutdown) { node = Some 1; desired = desired.Shutdown }
+
+due_of_node : due_set (tables (node 1 ∷ []) [] (placed_task 3 1 1 state.Pending ∷ dropped ∷ running ∷ [])) 1
+    ≡ record { task = 4; desired = desired.Shutdown; workload = workload } ∷ assigned_three desired.Running ∷ []
+due_of_node = refl
 
 -- a task that isn't the node's any more
 last_message : message_for (record unsent { tables = tables (node 1 ∷ []) (replicas 1 ∷ []) [] }) 1

@@ -1,7 +1,7 @@
 -- The allocator, computed.
 use Rattle.std.specs.Prelude.{List, None, Option, Some, [], codes, false, refl, ℕ, ◌∷◌, ◌≡◌}
 use Rattle.swarm_objects.proofs.Examples.Rows.{replicas, spec, tables, task, template, with_desired}
-use Rattle.swarm_objects.specs.Loops.Allocator.{after_address, after_note, after_port, allocator}
+use Rattle.swarm_objects.specs.Loops.Allocator.{after_address, after_note, after_port, allocator, first_note}
 use Rattle.swarm_objects.specs.Tasks.Addresses.{free_address}
 use Rattle.swarm_objects.specs.World.{Tables}
 use Rattle.swarm_objects.specs.declared.duties.Duty.TheVariants as duty
@@ -42,6 +42,11 @@ world_of s tasks = record (tables [] (s ∷ []) tasks) { networks = lan ∷ [] }
 
 port_without_number : allocator (world_of (with_ports (port 80 None ∷ [])) []) ≡ duty.Port 2 80 false ∷ []
 port_without_number = refl
+
+-- in the order in which the specification names them
+ports_in_order : allocator (world_of (with_ports (port 90 None ∷ port 85 (Some 85) ∷ port 80 None ∷ [])) [])
+    ≡ duty.Port 2 90 false ∷ duty.Port 2 80 false ∷ []
+ports_in_order = refl
 
 no_port_with_number : allocator (world_of (with_ports (port 80 (Some 90) ∷ [])) []) ≡ []
 no_port_with_number = refl
@@ -109,6 +114,9 @@ note_where_full = refl
 noted_full : after_note 7 (full (on_lan fresh ∷ [])) 3
     ≡ full (record (on_lan fresh) { version = 7; note = note.NoAddress 8 } ∷ [])
 noted_full = refl
+
+port_before_network : first_note (Some (port 80 None)) (Some 8) ≡ Some (note.NoPort false)
+port_before_network = refl
 
 no_note_twice : allocator (full (record (on_lan fresh) { note = note.NoAddress 8 } ∷ [])) ≡ []
 no_note_twice = refl

@@ -57,6 +57,9 @@ no_trim_of_newest = refl
 no_trim_of_other_places : reaper (with_past (replicas 2) (past 3 ∷ record (past 4) { place = Slot 2 } ∷ [])) ≡ []
 no_trim_of_other_places = refl
 
+no_trim_without_service : reaper (record (with_past (replicas 1) (past 3 ∷ past 4 ∷ [])) { services = [] }) ≡ []
+no_trim_without_service = refl
+
 no_trim_during_update : reaper
     (with_past
     (record (replicas 1) { run = Some (record { status = status.Updating; version = 2; total = 1; replaced = [] }) })

@@ -119,6 +119,13 @@ closed_by_attempts :
     ≡ record stopped { closed = Some (closed.Attempts 2) } ∷ []
 closed_by_attempts = refl
 
+-- those for an earlier template or another place don't count
+again_by_other_attempts : length (after_restart 7
+    (with_policy condition.Any 1 0
+      (record (attempt_at 990) { version = 1 } ∷ record (attempt_at 990) { place = Slot 2 } ∷ []) (failed ∷ [])) 3).tasks
+    ≡ 2
+again_by_other_attempts = refl
+
 -- the first of them is as old as the window
 again_after_window : length
     (after_restart 7 (with_policy condition.Any 2 100 (attempt_at 900 ∷ attempt_at 950 ∷ []) (failed ∷ [])) 3).tasks ≡ 2

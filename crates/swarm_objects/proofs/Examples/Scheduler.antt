@@ -40,6 +40,10 @@ dropped = refl
 place_pending : scheduler (on_nodes (node 1 ∷ []) (waiting ∷ [])) ≡ duty.Place 3 1 ∷ []
 place_pending = refl
 
+-- whether or not its service is there
+place_without_service : scheduler (tables (node 1 ∷ []) [] (waiting ∷ [])) ≡ duty.Place 3 1 ∷ []
+place_without_service = refl
+
 no_place_of_new : scheduler (on_nodes (node 1 ∷ []) (task 3 (Slot 1) state.New ∷ [])) ≡ []
 no_place_of_new = refl
 
