@@ -9,5 +9,6 @@ pub mod Lines
 pub mod NoMatch
 pub mod OutOfOrder
 pub mod Refusals
+pub mod Settle
 pub mod Today
 pub mod Words

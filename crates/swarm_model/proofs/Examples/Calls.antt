@@ -1,10 +1,10 @@
 -- What each call does, on small worlds.
-use Rattle.std.specs.Prelude.{List, None, Option, Some, [], codes, false, refl, true, ℕ, ◌++◌, ◌∷◌, ◌≡◌}
-use Rattle.swarm_model.proofs.Examples.Words.{add_network, all_events, create, draft_of, join, join_remote, leaves, on_networks, one, plain_draft, plain_node, plain_spec, plain_template, remote_draft, says, update, with_template, world_after}
+use Rattle.std.specs.Prelude.{List, None, Option, Some, [], codes, false, map, refl, true, ℕ, ◌++◌, ◌∷◌, ◌≡◌}
+use Rattle.swarm_model.proofs.Examples.Words.{add_network, all_events, create, draft_of, join, join_remote, leaves, on_networks, one, plain_draft, plain_node, plain_spec, plain_template, port, remote_draft, says, update, with_template, world_after}
 use Rattle.swarm_model.specs.Calls.{call_outcome}
 use Rattle.swarm_model.specs.Calls.Nodes.{new_node}
 use Rattle.swarm_model.specs.Outcome.{Outcome}
-use Rattle.swarm_objects.proofs.Examples.Rows.{task}
+use Rattle.swarm_objects.proofs.Examples.Rows.{service, task}
 use Rattle.swarm_objects.specs.Changes.{with_tables}
 use Rattle.swarm_objects.specs.Rows.{first_of}
 use Rattle.swarm_objects.specs.World.{World, empty_tables, empty_world}
@@ -27,7 +27,9 @@ use Rattle.swarm_objects.specs.declared.replies.Reply.TheVariants as reply
 use Rattle.swarm_objects.specs.declared.replies.ViewReply.TheVariants as view
 use Rattle.swarm_objects.specs.declared.services.Draft.{Draft}
 use Rattle.swarm_objects.specs.declared.services.Mode.TheVariants as mode
+use Rattle.swarm_objects.specs.declared.services.PortNumber.{PortNumber}
 use Rattle.swarm_objects.specs.declared.services.Service.{Service}
+use Rattle.swarm_objects.specs.declared.tasks.Attempt.{Attempt}
 use Rattle.swarm_objects.specs.declared.tasks.Closed.TheVariants as closed
 use Rattle.swarm_objects.specs.declared.tasks.Desired.TheVariants as desired
 use Rattle.swarm_objects.specs.declared.tasks.Note.TheVariants as note
@@ -35,6 +37,7 @@ use Rattle.swarm_objects.specs.declared.tasks.Place.TheVariants.{Slot}
 use Rattle.swarm_objects.specs.declared.tasks.Task.{Task}
 use Rattle.swarm_objects.specs.declared.tasks.TaskState.{TaskState}
 use Rattle.swarm_objects.specs.declared.tasks.TaskState.TheVariants as state
+use Rattle.swarm_objects.specs.declared.templates.Port.{Port}
 use Rattle.swarm_objects.specs.declared.views.NoteShown.TheVariants as note_shown
 use Rattle.swarm_objects.specs.declared.views.PlaceShown.TheVariants as place_shown
 use Rattle.swarm_objects.specs.declared.views.Shown.TheVariants as by
@@ -220,7 +223,35 @@ next_job : first_service
     })
 next_job = refl
 
+-- a number stays while the present specification or the one before has the open port
+abbrev with_number : List Port → World
+with_number ports = with_tables empty_world (record empty_tables {
+  services = record web {
+    spec = record web.spec { ports = ports };
+    numbers = record { target = 80; udp = false; number = 30000 } ∷ [];
+  } ∷ [];
+})
+
+abbrev numbers_after : World → Call → List (List PortNumber)
+numbers_after w c = map (λ (s : Service). s.numbers) (call_outcome w c).after.tables.services
+
+number_kept : numbers_after (with_number (port 80 None ∷ [])) (update (codes "web") None plain_draft)
+    ≡ (record { target = 80; udp = false; number = 30000 } ∷ []) ∷ []
+number_kept = refl
+
+number_gone : numbers_after (with_number []) (update (codes "web") None plain_draft) ≡ [] ∷ []
+number_gone = refl
+
 -- its attempts go with it
+abbrev attempt : ℕ → Attempt
+attempt service = record { service = service; place = Slot 1; version = 1; at = 0 }
+
+attempts_gone : (call_outcome (with_tables empty_world (record empty_tables {
+  services = web ∷ [];
+  attempts = attempt 1 ∷ attempt 2 ∷ [];
+})) (one (op.RemoveService (codes "web")))).after.tables.attempts ≡ attempt 2 ∷ []
+attempts_gone = refl
+
 service_removed : leaves (create (codes "web") plain_draft ∷ []) (one (op.RemoveService (codes "web")))
     ≡ record empty_world {
       entries = 2;

@@ -15,7 +15,9 @@ use Rattle.swarm_objects.specs.World.{World}
 use Rattle.swarm_objects.specs.declared.agents.NodeAgent.{NodeAgent}
 use Rattle.swarm_objects.specs.declared.nodes.Availability.TheVariants as availability
 use Rattle.swarm_objects.specs.declared.nodes.Node.{Node}
+use Rattle.swarm_objects.specs.declared.services.Service.{Service}
 use Rattle.swarm_objects.specs.declared.tasks.Closed.TheVariants as closed
+use Rattle.swarm_objects.specs.declared.tasks.Desired.TheVariants as desired
 use Rattle.swarm_objects.specs.declared.tasks.Note.TheVariants as note
 use Rattle.swarm_objects.specs.declared.tasks.Task.{Task}
 use Rattle.swarm_objects.specs.declared.tasks.TaskState.TheVariants as state
@@ -60,6 +62,10 @@ on_drained_node : matches_world (record two_replicas.world {
   };
 }) ≡ false
 on_drained_node = refl
+
+-- it runs, and is only to get ready
+not_aimed : matches_world (with_task 3 (λ x. record x { desired = desired.Ready }) two_replicas.world) ≡ false
+not_aimed = refl
 
 -- a task of another service that is gone
 task_without_service : matches_world (with_task 3 (λ x. record x { service = 9 }) two_replicas.world) ≡ false
@@ -106,6 +112,25 @@ other_cause : list_all
     closed_place.world.tables.services
     ≡ false
 other_cause = refl
+
+-- a closed place whose task is dirty matches where the closing came after the template
+abbrev with_version : ℕ → Service → Service
+with_version version s = record s {
+  template_version = version;
+  spec = record s.spec { template = record s.spec.template { cpu = 9 } };
+}
+
+closed_after_template :
+    list_all (are_closings_right closed_place.history closed_place.world.tables)
+      (map (with_version 75) closed_place.world.tables.services)
+    ≡ true
+closed_after_template = refl
+
+closed_before_template :
+    list_all (are_closings_right closed_place.history closed_place.world.tables)
+      (map (with_version 76) closed_place.world.tables.services)
+    ≡ false
+closed_before_template = refl
 
 -- and without a closing there is none
 never_closed : list_all
