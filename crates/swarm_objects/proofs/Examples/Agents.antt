@@ -2,7 +2,7 @@
 use Rattle.std.specs.Prelude.{List, None, Option, Some, [], false, refl, true, ℕ, ◌∷◌, ◌≡◌}
 use Rattle.swarm_objects.proofs.Examples.Rows.{node, placed_task, replicas, tables, task, workload}
 use Rattle.swarm_objects.specs.Agents.Executors.{executor_step}
-use Rattle.swarm_objects.specs.Agents.Messages.{due_set, message_for}
+use Rattle.swarm_objects.specs.Agents.Messages.{due_set, left_out, message_for}
 use Rattle.swarm_objects.specs.Loops.Agents.{after_apply, after_beat, after_exec, after_forget, after_pull, after_register, after_report, agents}
 use Rattle.swarm_objects.specs.World.{Tables, World, empty_world}
 use Rattle.swarm_objects.specs.declared.agents.AgentMode.TheVariants as agent_mode
@@ -124,6 +124,9 @@ unsent = record (calm (executor state.Running)) { sent = sent_so desired.Ready �
 pull_difference : agents unsent ≡ duty.Pull 1 ∷ []
 pull_difference = refl
 
+no_pull_without_session : agents (at_time 6000 unsent) ≡ duty.Register 1 ∷ []
+no_pull_without_session = refl
+
 abbrev raise_message : Message
 raise_message = record a_message { changes = assign.Update (assigned_three desired.Running) ∷ [] }
 
@@ -171,6 +174,11 @@ applied_update : after_apply (received_one a_message) 1
           ∷ [];
     }
 applied_update = refl
+
+-- a difference leaves the others
+not_left_out : left_out a_message (record (executor state.Running) { task = 9 })
+    ≡ record (executor state.Running) { task = 9 }
+not_left_out = refl
 
 -- a complete message without the task takes its executor, and brings others
 applied_complete :

@@ -122,7 +122,8 @@ closed_by_attempts = refl
 -- those for an earlier template or another place don't count
 again_by_other_attempts : length (after_restart 7
     (with_policy condition.Any 1 0
-      (record (attempt_at 990) { version = 1 } ∷ record (attempt_at 990) { place = Slot 2 } ∷ []) (failed ∷ [])) 3).tasks
+      (record (attempt_at 990) { version = 1 } ∷ record (attempt_at 990) { place = Slot 2 } ∷ [])
+          (failed ∷ [])) 3).tasks
     ≡ 2
 again_by_other_attempts = refl
 
@@ -161,6 +162,19 @@ no_raise_before = refl
 
 no_raise_while_held_up : restart (with_tasks (unwanted state.Running ∷ waiting ∷ [])) ≡ []
 no_raise_while_held_up = refl
+
+-- one that ended is restarted, and not raised
+no_raise_of_ended : restart (with_tasks (record waiting { state = state.Failed } ∷ [])) ≡ duty.Restart 4 ∷ []
+no_raise_of_ended = refl
+
+no_raise_of_earlier : restart
+    (tables (node 1 ∷ []) (record (job 1 1) { iteration = 1 } ∷ []) (record waiting { goal = desired.Complete } ∷ []))
+    ≡ []
+no_raise_of_earlier = refl
+
+-- what has no node yet holds nothing up
+raise_beside_unassigned : restart (with_tasks (unwanted state.Pending ∷ waiting ∷ [])) ≡ duty.Raise 4 ∷ []
+raise_beside_unassigned = refl
 
 raise_after_end : restart (with_tasks (unwanted state.Shutdown ∷ waiting ∷ [])) ≡ duty.Raise 4 ∷ []
 raise_after_end = refl

@@ -61,6 +61,14 @@ other id on = record (placed_task id 1 on state.Running) { service = 5 }
 best_is_least_loaded : scheduler (on_nodes (node 1 ∷ node 10 ∷ []) (other 2 1 ∷ waiting ∷ [])) ≡ duty.Place 3 10 ∷ []
 best_is_least_loaded = refl
 
+-- tasks that are to stop are no load
+best_without_stopping : scheduler
+    (on_nodes (node 1 ∷ node 10 ∷ [])
+      (other 2 1 ∷ waiting ∷ with_desired desired.Shutdown (other 4 10) ∷ with_desired desired.Shutdown (other 5 10)
+          ∷ []))
+    ≡ duty.Place 3 10 ∷ []
+best_without_stopping = refl
+
 -- the service's own tasks on a node come before its whole load
 best_has_fewer_of_its_own : scheduler
     (on_nodes (node 1 ∷ node 10 ∷ []) (placed_task 2 2 1 state.Running ∷ waiting ∷ other 4 10 ∷ other 5 10 ∷ []))

@@ -69,6 +69,15 @@ start_where_closed : update
     ≡ duty.Start 2 ∷ []
 start_where_closed = refl
 
+-- but not where a clean one is live
+no_start_beside_clean : update
+    (with_tasks (replicas 1)
+      (at_two 3 state.Running
+        ∷ record (dirty 4 state.Failed) { desired = desired.Shutdown; closed = Some closed.Condition }
+        ∷ []))
+    ≡ []
+no_start_beside_clean = refl
+
 started : after_start 7 (with_tasks (replicas 1) (dirty 3 state.Running ∷ [])) 2
     ≡ with_tasks (record (replicas 1) { version = 7; run = Some (run status.Updating []) }) (dirty 3 state.Running ∷ [])
 started = refl
@@ -107,6 +116,13 @@ no_fail_where_it_goes_on : first_of
     (with_update (record update_config { action = action.Continue }) (running_update (run status.Updating [])))
     (dirty 3 state.Running ∷ broken state.Failed 910 ∷ []))) ≡ Some (duty.Replace 2 1)
 no_fail_where_it_goes_on = refl
+
+-- a run to an earlier template doesn't fail
+no_fail_of_earlier : update
+    (with_tasks (record (running_update (run status.Updating [])) { template_version = 9 })
+      (dirty 3 state.Running ∷ broken state.Failed 910 ∷ []))
+    ≡ duty.Start 2 ∷ []
+no_fail_of_earlier = refl
 
 -- one failure of one is the whole ratio
 no_fail_at_ratio : first_of
