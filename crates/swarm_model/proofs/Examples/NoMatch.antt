@@ -122,13 +122,13 @@ with_version version s = record s {
 
 closed_after_template :
     list_all (are_closings_right closed_place.history closed_place.world.tables)
-      (map (with_version 75) closed_place.world.tables.services)
+    (map (with_version 75) closed_place.world.tables.services)
     ≡ true
 closed_after_template = refl
 
 closed_before_template :
     list_all (are_closings_right closed_place.history closed_place.world.tables)
-      (map (with_version 76) closed_place.world.tables.services)
+    (map (with_version 76) closed_place.world.tables.services)
     ≡ false
 closed_before_template = refl
 

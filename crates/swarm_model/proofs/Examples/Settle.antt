@@ -59,7 +59,7 @@ all_settled = refl
 
 waits_for_stop : answer_in
     (with_tasks (replicas 1)
-      (placed_task 4 1 1 state.Running ∷ with_desired desired.Shutdown (placed_task 5 1 1 state.Running) ∷ []))
+    (placed_task 4 1 1 state.Running ∷ with_desired desired.Shutdown (placed_task 5 1 1 state.Running) ∷ []))
     ≡ settle.Waiting 6000 cause.Remote 5
 waits_for_stop = refl
 
@@ -83,8 +83,8 @@ no_room = note.Filters (0 ∷ 1 ∷ 0 ∷ 0 ∷ 0 ∷ 0 ∷ [])
 -- the least live clean task below RUNNING holds the run up
 held : answer_in
     (full_node
-      (with_tasks (with_run status.Updating (item 900 ∷ []) (replicas 2))
-        (dirty ∷ placed_task 4 2 1 state.Running ∷ record (task 5 (Slot 1) state.Pending) { note = no_room } ∷ [])))
+    (with_tasks (with_run status.Updating (item 900 ∷ []) (replicas 2))
+    (dirty ∷ placed_task 4 2 1 state.Running ∷ record (task 5 (Slot 1) state.Pending) { note = no_room } ∷ [])))
     ≡ settle.Held 2 5
 held = refl
 
@@ -101,7 +101,7 @@ paused = refl
 -- a run to an earlier template doesn't count
 paused_before : answer_in
     (with_tasks (record (with_run status.Paused [] (replicas 1)) { template_version = 9 })
-      (placed_task 4 1 1 state.Running ∷ [])) ≡ settle.Settled
+    (placed_task 4 1 1 state.Running ∷ [])) ≡ settle.Settled
 paused_before = refl
 
 -- Agents that aren't On.

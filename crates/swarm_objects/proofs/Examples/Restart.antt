@@ -122,8 +122,8 @@ closed_by_attempts = refl
 -- those for an earlier template or another place don't count
 again_by_other_attempts : length (after_restart 7
     (with_policy condition.Any 1 0
-      (record (attempt_at 990) { version = 1 } ∷ record (attempt_at 990) { place = Slot 2 } ∷ [])
-          (failed ∷ [])) 3).tasks
+    (record (attempt_at 990) { version = 1 } ∷ record (attempt_at 990) { place = Slot 2 } ∷ [])
+    (failed ∷ [])) 3).tasks
     ≡ 2
 again_by_other_attempts = refl
 

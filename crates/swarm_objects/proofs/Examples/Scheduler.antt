@@ -64,8 +64,8 @@ best_is_least_loaded = refl
 -- tasks that are to stop are no load
 best_without_stopping : scheduler
     (on_nodes (node 1 ∷ node 10 ∷ [])
-      (other 2 1 ∷ waiting ∷ with_desired desired.Shutdown (other 4 10) ∷ with_desired desired.Shutdown (other 5 10)
-          ∷ []))
+    (other 2 1 ∷ waiting ∷ with_desired desired.Shutdown (other 4 10) ∷ with_desired desired.Shutdown (other 5 10)
+    ∷ []))
     ≡ duty.Place 3 10 ∷ []
 best_without_stopping = refl
 

@@ -72,9 +72,9 @@ start_where_closed = refl
 -- but not where a clean one is live
 no_start_beside_clean : update
     (with_tasks (replicas 1)
-      (at_two 3 state.Running
-        ∷ record (dirty 4 state.Failed) { desired = desired.Shutdown; closed = Some closed.Condition }
-        ∷ []))
+    (at_two 3 state.Running
+    ∷ record (dirty 4 state.Failed) { desired = desired.Shutdown; closed = Some closed.Condition }
+    ∷ []))
     ≡ []
 no_start_beside_clean = refl
 
@@ -120,7 +120,7 @@ no_fail_where_it_goes_on = refl
 -- a run to an earlier template doesn't fail
 no_fail_of_earlier : update
     (with_tasks (record (running_update (run status.Updating [])) { template_version = 9 })
-      (dirty 3 state.Running ∷ broken state.Failed 910 ∷ []))
+    (dirty 3 state.Running ∷ broken state.Failed 910 ∷ []))
     ≡ duty.Start 2 ∷ []
 no_fail_of_earlier = refl
 
