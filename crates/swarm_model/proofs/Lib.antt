@@ -1,3 +1,4 @@
+pub mod Base
 pub mod DutyLemmas
 pub mod Examples
 pub mod Histories
