@@ -1,2 +1,4 @@
 pub mod Answers
+pub mod DutyLists
 pub mod Histories
+pub mod IsDuty
