@@ -1,4 +1,5 @@
 pub mod Answers
 pub mod DutyLists
+pub mod FromLists
 pub mod Histories
 pub mod IsDuty
