@@ -2,4 +2,5 @@ pub mod Base
 pub mod DutyLemmas
 pub mod Examples
 pub mod Histories
+pub mod Laws
 pub mod Times

@@ -1,0 +1,2 @@
+pub mod DeadSessions
+pub mod Steps
