@@ -3,4 +3,5 @@ pub mod DutyLemmas
 pub mod Examples
 pub mod Histories
 pub mod Laws
+pub mod Moves
 pub mod Times
