@@ -1,2 +1,3 @@
 pub mod DeadSessions
+pub mod Rises
 pub mod Steps

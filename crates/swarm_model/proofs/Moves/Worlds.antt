@@ -187,7 +187,7 @@ ids-then key =
 
 -- Moves of tables.
 
-sessions-same : (sessions : List NodeSession) (next high : ℕ) (s : NodeSession) → Has sessions s → ComesFrom sessions next high s
+pub sessions-same : (sessions : List NodeSession) (next high : ℕ) (s : NodeSession) → Has sessions s → ComesFrom sessions next high s
 sessions-same sessions next high s h = inl (s, h, refl, refl)
 
 pub tables-same : (t : Tables) → TablesMove t t
