@@ -149,6 +149,16 @@ becomes-change_any R key id f xs same each =
     go y h true = each y h
     go y h false = same y
 
+-- whatever row has the number, which the change may lean on
+pub becomes-change_at : {X : Type 0} (R : X → X → Type 0) (key : X → ℕ) (id : ℕ) (f : X → X) (xs : List X) →
+    ((y : X) → R y y) → ((y : X) → Has xs y → key y ≡ id → R y (f y)) → Becomes R [] xs (change_row key id f xs)
+becomes-change_at R key id f xs same each =
+    becomes-map R (λ y. cond (eqb (key y) id) (f y) y) xs (λ y h. go y h (eqb (key y) id) refl)
+  where
+    go : (y : _) → Has xs y → (b : Bool) → eqb (key y) id ≡ b → R y (cond b (f y) y)
+    go y h true e = each y h (grind (arith, nat_tests, e))
+    go y h false e = same y
+
 -- each row that passes a test is changed
 pub becomes-where : {X : Type 0} (R : X → X → Type 0) (test : X → Bool) (f : X → X) (xs : List X) → ((y : X) → R y y) →
     ((y : X) → Has xs y → test y ≡ true → R y (f y)) → Becomes R [] xs (map (λ y. cond (test y) (f y) y) xs)

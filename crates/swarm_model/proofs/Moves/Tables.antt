@@ -2,7 +2,7 @@
 use Rattle.std.proofs.Common.{◌≡◌, ℕ, ◌+◌, ◌<◌, ◌≤◌, Bool, true, false, cond, get_or, eqb, ltb, leb, inl, inr, List, [], ◌∷◌, ◌++◌, refl, sym, ap, subst, arith, Option, Some, None, Result, Ok, Err}
 use Rattle.std.specs.Prelude.{map, ◌&&◌, nat_le, nat_lt, not, ◌==◌, filter}
 use Rattle.std.proofs.lemmas.Bool.Decides.{nat_tests}
-use Rattle.swarm_model.proofs.Moves.Rows.{Becomes, RisesBetween, becomes-change, becomes-change_any, becomes-filter, becomes-same, becomes-where}
+use Rattle.swarm_model.proofs.Moves.Rows.{Becomes, RisesBetween, becomes-change, becomes-change_any, becomes-change_at, becomes-filter, becomes-same, becomes-where}
 use Rattle.swarm_model.proofs.Moves.Worlds.{Any, ComesFrom, IsGood, Moves, SameId, TablesMove, TaskMoves, sessions-same, tables-same, tables-then, task-moves, task-same, turns-by, turns-ids, turns-more}
 use Rattle.swarm_model.specs.Laws.Rises.{KeepsMaking}
 use Rattle.swarm_objects.specs.Changes.{change_node, change_service, change_task, change_where, in_state, noted, on_service, on_task, raised_to, wanted, with_new, with_tables, without_place}
@@ -134,11 +134,11 @@ move-node t id f same =
     move-nodes t (change_row node_id id f t.nodes)
     (becomes-change_any (SameId node_id) node_id id f t.nodes (λ n. refl) (λ n h. same n))
 
-pub move-service : (t : Tables) (id : ℕ) (f : Service → Service) → ((s : Service) → (f s).id ≡ s.id) →
+pub move-service : (t : Tables) (id : ℕ) (f : Service → Service) → ((s : Service) → s.id ≡ id → (f s).id ≡ s.id) →
     TablesMove t (change_service id f t)
 move-service t id f same =
     move-services t (change_row service_id id f t.services)
-    (becomes-change_any (SameId service_id) service_id id f t.services (λ s. refl) (λ s h. same s))
+    (becomes-change_at (SameId service_id) service_id id f t.services (λ s. refl) (λ s h e. same s e))
 
 -- whatever task has the number
 pub move-any_task : (t : Tables) (id : ℕ) (f : Task → Task) → ((x : Task) → Has t.tasks x → TaskMoves x (f x)) →
