@@ -60,7 +60,7 @@ new-least _ is = absurd cc
 
 -- What becomes of a task.
 
-noted-moves : (version : ℕ) (n : Note) (x : Task) → TaskMoves x (noted version n x)
+pub noted-moves : (version : ℕ) (n : Note) (x : Task) → TaskMoves x (noted version n x)
 noted-moves version n x = moves-by x (noted version n x) refl refl refl (omega arith) (omega arith)
 
 shut-moves : (version : ℕ) (x : Task) → IsGood x → is_live x ≡ true → TaskMoves x (wanted version desired.Shutdown x)
@@ -128,7 +128,7 @@ found-is t id Fact rises of x e =
     let same = between-one task_id 1 t.next_id t.tasks of.row x rises of.there at.0 (of.id_is ∙ sym at.1) in
     (at.0, at.1, subst Fact same of.fact)
 
-restart-moves : (version : ℕ) (t : Tables) (id : ℕ) → InOrder t → AreGood t →
+pub restart-moves : (version : ℕ) (t : Tables) (id : ℕ) → InOrder t → AreGood t →
     OfRow t.tasks task_id id (λ x. wants_restart t x ≡ true) → TablesMove t (after_restart version t id)
 restart-moves version t id rises good of = go (row_at task_id id t.tasks) refl
   where
@@ -142,31 +142,31 @@ restart-moves version t id rises good of = go (row_at task_id id t.tasks) refl
       (λ s. restarted-moves version t x s rises is.0 (good x is.0) live)
 
 -- the task of the duty, changed
-of-task : (t : Tables) (id : ℕ) (Fact : Task → Type 0) (f : Task → Task) → InOrder t → OfRow t.tasks task_id id Fact →
+pub of-task : (t : Tables) (id : ℕ) (Fact : Task → Type 0) (f : Task → Task) → InOrder t → OfRow t.tasks task_id id Fact →
     ((x : Task) → Has t.tasks x → Fact x → TaskMoves x (f x)) →
     TablesMove t (change_task id f t)
 of-task t id Fact f rises of each =
     subst (λ k. TablesMove t (change_task k f t)) of.id_is
     (move-task t of.row f rises of.there (each of.row of.there of.fact))
 
-raised-moves : (version : ℕ) (t : Tables) (x : Task) → wants_raise t x ≡ true → TaskMoves x (raised version x)
+pub raised-moves : (version : ℕ) (t : Tables) (x : Task) → wants_raise t x ≡ true → TaskMoves x (raised version x)
 raised-moves version t x e =
     let waits : is_to_wait x ≡ true = and-left (is_to_wait x) _ (and-left _ _ (and-left _ _ (and-left _ _ e))) in
     let least = desired-least x.goal in
     let is : desired_rank x.desired ≡ desired_rank desired.Ready = grind (arith, nat_tests, waits) in
     moves-by x (raised version x) refl refl refl (omega arith) (omega (arith, least, is))
 
-addressed-moves : (version : ℕ) (t : Tables) (x : Task) → gets_address t x ≡ true → TaskMoves x (with_addresses version t x)
+pub addressed-moves : (version : ℕ) (t : Tables) (x : Task) → gets_address t x ≡ true → TaskMoves x (with_addresses version t x)
 addressed-moves version t x e =
     let fresh : is_new x.state ≡ true = and-left (is_new x.state) _ (and-left _ _ (and-left _ _ (and-left _ _ e))) in
     moves-by x (with_addresses version t x) refl refl refl (new-least x.state fresh) (omega arith)
 
-dropped-moves : (version clock : ℕ) (x : Task) → is_to_drop x ≡ true → TaskMoves x (in_state version clock state.Shutdown x)
+pub dropped-moves : (version clock : ℕ) (x : Task) → is_to_drop x ≡ true → TaskMoves x (in_state version clock state.Shutdown x)
 dropped-moves version clock x e =
     let below : is_below_assigned x ≡ true = and-left (is_below_assigned x) _ e in
     moves-in_state version clock state.Shutdown x (grind (arith, nat_tests, below))
 
-rejected-moves : (version : ℕ) (t : Tables) (x : Task) → is_misplaced t x ≡ true →
+pub rejected-moves : (version : ℕ) (t : Tables) (x : Task) → is_misplaced t x ≡ true →
     TaskMoves x (in_state version t.clock state.Rejected x)
 rejected-moves version t x e =
     let most = placed-most x (and-right (is_live x) (is_placed x) (and-left _ _ e)) in
@@ -174,7 +174,7 @@ rejected-moves version t x e =
 
 -- Updates.
 
-swap-moves : (version : ℕ) (t : Tables) (k : ℕ) (s : Service) → AreGood t → TablesMove t (swap_place version t k s)
+pub swap-moves : (version : ℕ) (t : Tables) (k : ℕ) (s : Service) → AreGood t → TablesMove t (swap_place version t k s)
 swap-moves version t k s good =
     move-where t (λ x. is_in_place s (place_at s.spec.mode k) x && is_live_dirty s x) (wanted version desired.Shutdown)
     (λ x h e. shut-moves version x (good x h) (and-left (is_live x) _ (and-right _ (is_live_dirty s x) e)))
@@ -189,7 +189,7 @@ order-moves version t s k order.StopFirst good =
     (move-new version desired.Ready stopped s k)
 order-moves version t s k order.StartFirst good = move-new version _ t s k
 
-replace-moves : (version : ℕ) (t : Tables) (k : ℕ) (s : Service) → AreGood t → TablesMove t (replace_place version t k s)
+pub replace-moves : (version : ℕ) (t : Tables) (k : ℕ) (s : Service) → AreGood t → TablesMove t (replace_place version t k s)
 replace-moves version t k s good =
     let placed = by_order version t s k s.spec.update.order in
     tables-then t placed _ (order-moves version t s k s.spec.update.order good)
@@ -198,7 +198,7 @@ replace-moves version t k s good =
 paused-moves : (version : ℕ) (t : Tables) (s : Service) → TablesMove t (paused version t s)
 paused-moves version t s = move-service t s.id _ (λ v e. refl)
 
-fail-moves : (version : ℕ) (t : Tables) (s : Service) (b : Bool) (spec : Option ServiceSpec) →
+pub fail-moves : (version : ℕ) (t : Tables) (s : Service) (b : Bool) (spec : Option ServiceSpec) →
     TablesMove t (fail_run version t s b spec)
 fail-moves version t s true (Some spec) = move-service t s.id _ (λ v e. sym e)
 fail-moves version t s true None = paused-moves version t s
