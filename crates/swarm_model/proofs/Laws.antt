@@ -1,3 +1,4 @@
 pub mod DeadSessions
+pub mod Orderly
 pub mod Rises
 pub mod Steps

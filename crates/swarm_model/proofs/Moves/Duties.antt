@@ -46,7 +46,7 @@ pub and-right : (a b : Bool) → (a && b) ≡ true → b ≡ true
 and-right true b e = e
 and-right false b e = absurd cc
 
-placed-most : (x : Task) → is_placed x ≡ true → rank x.state ≤ rank state.Running
+pub placed-most : (x : Task) → is_placed x ≡ true → rank x.state ≤ rank state.Running
 placed-most x is = grind (arith, nat_tests, and-right (nat_le (rank state.Assigned) (rank x.state)) (nat_le (rank x.state) (rank state.Running)) is)
 
 live-most : (x : Task) → IsGood x → is_live x ≡ true → desired_rank x.desired ≤ desired_rank desired.Shutdown

@@ -63,7 +63,7 @@ pull-moves : (w : World) (node : ℕ) (m : Option Message) → Moves w (after_pu
 pull-moves w node None = tables-moves w w (tables-same w.tables) refl
 pull-moves w node (Some m) = tables-moves w (after_pull w node (Some m)) (tables-same w.tables) refl
 
-with-tables : (w : World) (t : Tables) → TablesMove w.tables t → Moves w (with_tables w t)
+pub with-tables : (w : World) (t : Tables) → TablesMove w.tables t → Moves w (with_tables w t)
 with-tables w t tables = tables-moves w (with_tables w t) tables refl
 
 pub duty-moves : (version : ℕ) (w : World) (d : Duty) → IsOrderly w → IsDuty w d → Moves w (effect_by version w d)

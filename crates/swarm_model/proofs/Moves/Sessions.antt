@@ -26,7 +26,7 @@ with_row-cases key new (x ∷ xs) y h = go (ltb (key new) (key x)) (eqb (key new
     go false false rest (inl e) = inr (inl e)
     go false false rest (inr k) = elim (rest k) [ inl e ↦ inl e | inr m ↦ inr (inr m) ]
 
-opened : (t : Tables) (node : ℕ) (s : NodeSession) → Has (with_row session_node (new_session t node) t.sessions) s →
+pub opened : (t : Tables) (node : ℕ) (s : NodeSession) → Has (with_row session_node (new_session t node) t.sessions) s →
     ComesFrom t.sessions t.next_id (t.next_id + 1) s
 opened t node s h = go (with_row-cases session_node (new_session t node) t.sessions s h)
   where

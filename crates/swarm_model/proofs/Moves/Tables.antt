@@ -134,6 +134,13 @@ move-node t id f same =
     move-nodes t (change_row node_id id f t.nodes)
     (becomes-change_any (SameId node_id) node_id id f t.nodes (λ n. refl) (λ n h. same n))
 
+-- whatever the change leans on
+pub move-node_at : (t : Tables) (id : ℕ) (f : Node → Node) → ((n : Node) → n.id ≡ id → (f n).id ≡ n.id) →
+    TablesMove t (change_node id f t)
+move-node_at t id f same =
+    move-nodes t (change_row node_id id f t.nodes)
+    (becomes-change_at (SameId node_id) node_id id f t.nodes (λ n. refl) (λ n h e. same n e))
+
 pub move-service : (t : Tables) (id : ℕ) (f : Service → Service) → ((s : Service) → s.id ≡ id → (f s).id ≡ s.id) →
     TablesMove t (change_service id f t)
 move-service t id f same =
