@@ -3,3 +3,4 @@ pub mod DutyLists
 pub mod FromLists
 pub mod Histories
 pub mod IsDuty
+pub mod ToLists
