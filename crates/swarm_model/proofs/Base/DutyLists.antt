@@ -1,6 +1,6 @@
 -- Lists of duties: what each item comes from, and when a duty is due.
-use Rattle.std.proofs.Common.{◌≡◌, ℕ, Bool, true, false, eqb, inl, inr, ◌⊎◌, List, [], ◌∷◌, ◌++◌, refl, sym, ap, ◌∙◌, subst, get_or}
-use Rattle.std.specs.Prelude.{◌||◌, ◌&&◌, filter, flat_map}
+use Rattle.std.proofs.Common.{◌≡◌, ℕ, Bool, true, false, eqb, inl, inr, List, [], ◌∷◌, ◌++◌, refl, sym, ap, ◌∙◌, subst, get_or}
+use Rattle.std.specs.Prelude.{◌||◌, filter, flat_map}
 use Rattle.std.proofs.lemmas.Bool.Decides.{Decides-and, Decides-eqb}
 use Rattle.std.proofs.lemmas.Slice.Eq.{bytes_eq-Decides}
 use Rattle.std.specs.Bool.{Decides}
@@ -120,15 +120,15 @@ Decides-same_duty d e = by_parts (same_duty d e) parts
   where
     parts : Decides (same_duty d e) ((kind_place d ≡ kind_place e) × (duty_numbers d ≡ duty_numbers e))
     parts =
-      Decides-and (eqb (kind_place d) (kind_place e)) (bytes_eq (duty_numbers d) (duty_numbers e))
-      (Decides-eqb (kind_place d) (kind_place e)) (bytes_eq-Decides (duty_numbers d) (duty_numbers e))
+        Decides-and (eqb (kind_place d) (kind_place e)) (bytes_eq (duty_numbers d) (duty_numbers e))
+        (Decides-eqb (kind_place d) (kind_place e)) (bytes_eq-Decides (duty_numbers d) (duty_numbers e))
 
     joined : (kind_place d ≡ kind_place e) × (duty_numbers d ≡ duty_numbers e) → d ≡ e
     joined both =
-      sym (given_back d)
-      ∙ ap (λ k. made k (duty_numbers d)) both.0
-      ∙ ap (λ ns. made (kind_place e) ns) both.1
-      ∙ given_back e
+        sym (given_back d)
+        ∙ ap (λ k. made k (duty_numbers d)) both.0
+        ∙ ap (λ ns. made (kind_place e) ns) both.1
+        ∙ given_back e
 
     by_parts : (b : Bool) → Decides b ((kind_place d ≡ kind_place e) × (duty_numbers d ≡ duty_numbers e)) → Decides b (d ≡ e)
     by_parts b h = (λ t. joined (h.0 t), λ same. h.1 (ap kind_place same, ap duty_numbers same))
@@ -140,7 +140,7 @@ any_has [] d e = absurd cc
 any_has (x ∷ ds) d e = go (same_duty d x) (Decides-same_duty d x) (any_has ds d) e
   where
     go : (b : Bool) → Decides b (d ≡ x) → (list_any (same_duty d) ds ≡ true → Has ds d) →
-      (b || list_any (same_duty d) ds) ≡ true → Has (x ∷ ds) d
+        (b || list_any (same_duty d) ds) ≡ true → Has (x ∷ ds) d
     go true h rest t = inl (sym (h.0 refl))
     go false h rest t = inr (rest t)
 
@@ -149,7 +149,7 @@ has_any [] d h = absurd h
 has_any (x ∷ ds) d h = go (same_duty d x) (Decides-same_duty d x) (has_any ds d) h
   where
     go : (b : Bool) → Decides b (d ≡ x) → (Has ds d → list_any (same_duty d) ds ≡ true) → Has (x ∷ ds) d →
-      (b || list_any (same_duty d) ds) ≡ true
+        (b || list_any (same_duty d) ds) ≡ true
     go true k rest t = refl
     go false k rest (inl same) = absurd (let q : false ≡ true = k.1 (sym same) in cc)
     go false k rest (inr t) = rest t

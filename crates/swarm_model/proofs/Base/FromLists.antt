@@ -1,14 +1,13 @@
 -- What being in a loop's list says of the world, and that each loop has duties of its own alone.
-use Rattle.std.proofs.Common.{◌≡◌, ℕ, Bool, true, false, inl, inr, ◌⊎◌, List, [], ◌∷◌, ◌++◌, Option, Some, None, refl, sym, ap, subst, length, nat_lt, cond}
-use Rattle.std.specs.Prelude.{◌&&◌, filter, flat_map, is_some, not, option_to_list}
+use Rattle.std.proofs.Common.{◌≡◌, ℕ, Bool, true, false, inl, inr, List, [], ◌∷◌, ◌++◌, Option, Some, None, refl, ap, subst, length, nat_lt, cond}
+use Rattle.std.specs.Prelude.{◌&&◌, is_some, not, option_to_list}
 use Rattle.std.specs.Option.{option_map}
 use Rattle.swarm_model.proofs.Base.DutyLists.{Has-due, from_each, from_either, from_places, from_when, from_where}
-use Rattle.swarm_model.proofs.Base.IsDuty.{GivesUp, IsDuty, OfRow, WantsReplica, WantsTask}
-use Rattle.swarm_objects.proofs.RowLemmas.{Has-filter_cases, Has-map_cases}
+use Rattle.swarm_model.proofs.Base.IsDuty.{IsDuty, OfRow}
 use Rattle.swarm_objects.specs.Agents.Messages.{message_for}
 use Rattle.swarm_objects.specs.Duties.{duties, is_due}
 use Rattle.swarm_objects.specs.Kinds.{role_of}
-use Rattle.swarm_objects.specs.Loops.Agents.{agent_duties, agents, duties_on, has_step, inbox_duties, is_beat_due, is_forgotten, is_mode_on, report_duties, session_duties, wants_report}
+use Rattle.swarm_objects.specs.Loops.Agents.{agent_duties, agents, duties_on, has_step, inbox_duties, is_forgotten, is_mode_on, report_duties, session_duties, wants_report}
 use Rattle.swarm_objects.specs.Loops.Allocator.{allocator, gets_address, has_free_port, port_duties, same_note, wants_note}
 use Rattle.swarm_objects.specs.Loops.Dispatcher.{dispatcher, is_expired, is_orphaned}
 use Rattle.swarm_objects.specs.Loops.Enforcer.{enforcer, is_misplaced}
@@ -19,16 +18,16 @@ use Rattle.swarm_objects.specs.Loops.Replicated.{create_duty, down_duty, first_t
 use Rattle.swarm_objects.specs.Loops.Restart.{restart, wants_raise, wants_restart}
 use Rattle.swarm_objects.specs.Loops.Scheduler.{is_to_drop, is_to_place, place_duty, placing, schedule, scheduler}
 use Rattle.swarm_objects.specs.Loops.Update.{is_to_finish, is_to_replace, is_to_start, is_to_swap, lets_replace, open_duties, run_duties, update, update_duties}
-use Rattle.swarm_objects.specs.Loops.Words.{duty_where, places_where, when}
+use Rattle.swarm_objects.specs.Loops.Words.{when}
 use Rattle.swarm_objects.specs.Nodes.BestNode.{best_node}
 use Rattle.swarm_objects.specs.Nodes.Filters.{refusal_counts}
-use Rattle.swarm_objects.specs.Nodes.Sessions.{is_session_live, session_of}
-use Rattle.swarm_objects.specs.Rows.{Has, first_gap, is_some_and, service_id}
+use Rattle.swarm_objects.specs.Nodes.Sessions.{is_session_live}
+use Rattle.swarm_objects.specs.Rows.{Has, first_gap}
 use Rattle.swarm_objects.specs.Services.Ports.{unnumbered_ports}
 use Rattle.swarm_objects.specs.Services.Runs.{fails, is_of_version, is_under_way}
 use Rattle.swarm_objects.specs.Services.Words.{is_job}
 use Rattle.swarm_objects.specs.Tasks.Places.{held_places, live_places, place_numbers}
-use Rattle.swarm_objects.specs.World.{Tables, World}
+use Rattle.swarm_objects.specs.World.{World}
 use Rattle.swarm_objects.specs.declared.agents.NodeAgent.{NodeAgent}
 use Rattle.swarm_objects.specs.declared.duties.Duty.{Duty}
 use Rattle.swarm_objects.specs.declared.duties.Duty.TheVariants as duty
@@ -124,7 +123,7 @@ from_update w d =
     (λ v there h. go v there v.spec.mode refl h)
   where
     go : (v : Service) → Has w.tables.services v → (m : Mode) → v.spec.mode ≡ m → Has (update_duties w.tables v m) d →
-      Of role.Update w d
+        Of role.Update w d
     go v there (mode.Replicated n) e h = from_updated w v d there (ap is_job e) h
     go v there mode.Global e h = from_updated w v d there (ap is_job e) h
     go v there (mode.Job c n) e h = absurd h
@@ -136,14 +135,14 @@ from_down w v (mode.Replicated n) d there e h =
     by_count (nat_lt n (length (held_places w.tables v))) refl h
   where
     by_place : nat_lt n (length (held_places w.tables v)) ≡ true → (k : Option ℕ) → first_to_go w.tables v ≡ k →
-      Has (option_to_list (option_map (duty.Down v.id) k)) d → Of role.Replicated w d
+        Has (option_to_list (option_map (duty.Down v.id) k)) d → Of role.Replicated w d
     by_place more None is k = absurd k
     by_place more (Some k) is (inl same) =
-      subst (Of role.Replicated w) same (row_is v there (n, e, more, is), refl)
+        subst (Of role.Replicated w) same (row_is v there (n, e, more, is), refl)
     by_place more (Some k) is (inr none) = absurd none
 
     by_count : (b : Bool) → nat_lt n (length (held_places w.tables v)) ≡ b →
-      Has (cond b (option_to_list (option_map (duty.Down v.id) (first_to_go w.tables v))) []) d → Of role.Replicated w d
+        Has (cond b (option_to_list (option_map (duty.Down v.id) (first_to_go w.tables v))) []) d → Of role.Replicated w d
     by_count true more k = by_place more (first_to_go w.tables v) refl k
     by_count false more k = absurd k
 from_down w v mode.Global d there e h = absurd h
@@ -200,10 +199,10 @@ from_next w v mode.Global d there e h = absurd h
 from_next w v (mode.Job c n) d there e h =
     from_when (Of role.Job w) _ (duty.JobCreate v.id (first_gap 0 (held_places w.tables v))) d
     (λ all.
-        let last = both (nat_lt (length (live_places w.tables v)) c && nat_lt (length (held_places w.tables v)) n)
-        (not (has_old w.tables v)) all in
-        let counts = both (nat_lt (length (live_places w.tables v)) c) (nat_lt (length (held_places w.tables v)) n) last.0 in
-        (row_is v there (c, n, e, counts.0, counts.1, denied (has_old w.tables v) last.1, refl), refl)) h
+    let last = both (nat_lt (length (live_places w.tables v)) c && nat_lt (length (held_places w.tables v)) n)
+    (not (has_old w.tables v)) all in
+    let counts = both (nat_lt (length (live_places w.tables v)) c) (nat_lt (length (held_places w.tables v)) n) last.0 in
+    (row_is v there (c, n, e, counts.0, counts.1, denied (has_old w.tables v) last.1, refl), refl)) h
 
 from_jobs : (w : World) (d : Duty) → Has (jobs w.tables) d → Of role.Job w d
 from_jobs w d =
@@ -219,8 +218,8 @@ from_allocator w d =
     (from_either _ _ d
     (from_each (Of role.Allocator w) (port_duties w.tables) w.tables.services d
     (λ v there. from_where (Of role.Allocator w) (λ p. has_free_port w.tables p.udp)
-        (λ p. duty.Port v.id p.target p.udp) (unnumbered_ports v) d
-        (λ p has passes. (row_is v there (p, has, passes, refl, refl), refl))))
+    (λ p. duty.Port v.id p.target p.udp) (unnumbered_ports v) d
+    (λ p has passes. (row_is v there (p, has, passes, refl, refl), refl))))
     (from_where (Of role.Allocator w) (gets_address w.tables) (λ x. duty.Address x.id) w.tables.tasks d
     (λ x there passes. (row_is x there passes, refl))))
     (from_where (Of role.Allocator w) (wants_note w.tables) (λ x. duty.Note x.id) w.tables.tasks d
@@ -234,7 +233,7 @@ from_placing w x (Some n) d there to best (inr none) = absurd none
 from_placing w x None d there to best h = go (same_note (note.Filters (refusal_counts w.tables x)) x.note) refl h
   where
     go : (b : Bool) → same_note (note.Filters (refusal_counts w.tables x)) x.note ≡ b →
-      Has (cond b [] (duty.Explain x.id ∷ [])) d → Of role.Scheduler w d
+        Has (cond b [] (duty.Explain x.id ∷ [])) d → Of role.Scheduler w d
     go true e k = absurd k
     go false e (inl same) = subst (Of role.Scheduler w) same (row_is x there (to, best, e), refl)
     go false e (inr none) = absurd none
@@ -248,8 +247,8 @@ from_scheduler : (w : World) (d : Duty) → Has (scheduler w.tables) d → Of ro
 from_scheduler w d =
     from_each (Of role.Scheduler w) (schedule w.tables) w.tables.tasks d
     (λ x there. from_either _ _ d
-        (from_when (Of role.Scheduler w) (is_to_drop x) (duty.Drop x.id) d (λ e. (row_is x there e, refl)))
-        (from_place w x (is_to_place x) d there refl))
+    (from_when (Of role.Scheduler w) (is_to_drop x) (duty.Drop x.id) d (λ e. (row_is x there e, refl)))
+    (from_place w x (is_to_place x) d there refl))
 
 from_reaper : (w : World) (d : Duty) → Has (reaper w.tables) d → Of role.Reaper w d
 from_reaper w d =
@@ -276,8 +275,8 @@ from_inbox w a live (Some m) d there on live_is inbox =
 from_inbox w a live None d there on live_is inbox =
     from_when (Of role.Agents w) (live && is_some (message_for w a.node)) (duty.Pull a.node) d
     (λ e.
-        let parts = both live (is_some (message_for w a.node)) e in
-        (row_is a there (on, (subst (λ b. is_session_live w.tables a.node ≡ b) parts.0 live_is, (inbox, parts.1))), refl))
+    let parts = both live (is_some (message_for w a.node)) e in
+    (row_is a there (on, (subst (λ b. is_session_live w.tables a.node ≡ b) parts.0 live_is, (inbox, parts.1))), refl))
 
 from_reports : (w : World) (a : NodeAgent) (live : Bool) (d : Duty) → Has w.agents a → is_mode_on a.mode ≡ true →
     is_session_live w.tables a.node ≡ live → Has (report_duties w a live) d → Of role.Agents w d
@@ -306,7 +305,7 @@ from_agents w d =
     from_each (Of role.Agents w) (agent_duties w) w.agents d (λ a there h. go a there (is_mode_on a.mode) refl h)
   where
     go : (a : NodeAgent) → Has w.agents a → (b : Bool) → is_mode_on a.mode ≡ b →
-      Has (cond b (duties_on w a (is_session_live w.tables a.node)) []) d → Of role.Agents w d
+        Has (cond b (duties_on w a (is_session_live w.tables a.node)) []) d → Of role.Agents w d
     go a there true on h = from_agent w a d there on h
     go a there false on h = absurd h
 

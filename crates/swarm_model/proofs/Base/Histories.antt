@@ -1,9 +1,9 @@
 -- A further entry of a history, the number of entries, and what ends it.
-use Rattle.std.proofs.Common.{◌≡◌, ℕ, ◌+◌, ◌≤◌, ◌<◌, List, [], ◌∷◌, ◌++◌, Bool, true, false, not, refl, Ok, Err, ap, nat_lt, nat_le, length, cond, sym, ◌∙◌, arith}
+use Rattle.std.proofs.Common.{◌≡◌, ℕ, ◌+◌, ◌<◌, List, [], ◌∷◌, ◌++◌, Bool, true, false, not, refl, Ok, Err, ap, nat_lt, nat_le, length, cond, ◌∙◌, arith}
 use Rattle.std.specs.Prelude.{◌&&◌}
 use Rattle.std.proofs.lemmas.Bool.Decides.{nat_tests}
 use Rattle.swarm_model.specs.Calls.{answer, answered, call_outcome, is_admitted, is_full, outcome}
-use Rattle.swarm_model.specs.History.{IsLegal, IsLegalFrom, has_room_for_duty, may_follow, replay, replay_from, replies_from, step, step_reply, step_world}
+use Rattle.swarm_model.specs.History.{IsLegalFrom, has_room_for_duty, may_follow, replay, replay_from, replies_from, step, step_reply, step_world}
 use Rattle.swarm_model.specs.Outcome.{Answered}
 use Rattle.swarm_objects.specs.CallWords.{is_halt}
 use Rattle.swarm_objects.specs.Duties.{is_due}

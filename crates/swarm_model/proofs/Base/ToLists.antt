@@ -1,46 +1,42 @@
 -- What is said of the world puts a duty into its loop's list.
-use Rattle.std.proofs.Common.{◌≡◌, ℕ, Bool, true, false, inl, inr, ◌⊎◌, List, [], ◌∷◌, ◌++◌, Option, Some, None, refl, sym, ap, subst, length, nat_lt, cond}
-use Rattle.std.specs.Prelude.{◌&&◌, filter, flat_map, is_some, not, option_to_list}
+use Rattle.std.proofs.Common.{◌≡◌, ℕ, Bool, true, false, inl, List, [], ◌∷◌, ◌++◌, Option, Some, None, refl, sym, ap, subst, length, nat_lt, cond}
+use Rattle.std.specs.Prelude.{◌&&◌, flat_map, is_some, not, option_to_list}
 use Rattle.std.specs.Option.{option_map}
 use Rattle.swarm_model.proofs.Base.DutyLists.{due-Has, to_places, to_when, to_where}
 use Rattle.swarm_model.proofs.Base.IsDuty.{GivesUp, GoesTo, HasMessage, IsDuty, IsLive, IsUnexplained, OfAgent, OfExecutor, OfPlace, OfRow, OfRun, OfUpdated, WantsReplica, WantsTask}
-use Rattle.swarm_objects.proofs.RowLemmas.{Has-append_left, Has-append_right, Has-filter, Has-flat_map, Has-map}
+use Rattle.swarm_objects.proofs.RowLemmas.{Has-append_left, Has-append_right, Has-flat_map}
 use Rattle.swarm_objects.specs.Agents.Messages.{message_for}
 use Rattle.swarm_objects.specs.Duties.{duties, is_due}
 use Rattle.swarm_objects.specs.Kinds.{role_of}
 use Rattle.swarm_objects.specs.Loops.Agents.{agent_duties, agents, duties_on, has_step, inbox_duties, is_beat_due, is_forgotten, is_mode_on, report_duties, session_duties, wants_report}
-use Rattle.swarm_objects.specs.Loops.Allocator.{allocator, gets_address, has_free_port, port_duties, same_note, wants_note}
-use Rattle.swarm_objects.specs.Loops.Dispatcher.{dispatcher, is_expired, is_orphaned}
-use Rattle.swarm_objects.specs.Loops.Enforcer.{enforcer, is_misplaced}
-use Rattle.swarm_objects.specs.Loops.Global.{come_duties, global, is_missing, is_to_leave, leave_duties}
-use Rattle.swarm_objects.specs.Loops.Jobs.{has_old, is_old, jobs, next_duty}
-use Rattle.swarm_objects.specs.Loops.Reaper.{is_removable, is_trimmed, reaper}
-use Rattle.swarm_objects.specs.Loops.Replicated.{create_duty, down_duty, first_to_go, is_gone, replicated}
-use Rattle.swarm_objects.specs.Loops.Restart.{restart, wants_raise, wants_restart}
+use Rattle.swarm_objects.specs.Loops.Allocator.{allocator, gets_address, has_free_port, port_duties, wants_note}
+use Rattle.swarm_objects.specs.Loops.Dispatcher.{is_expired, is_orphaned}
+use Rattle.swarm_objects.specs.Loops.Enforcer.{is_misplaced}
+use Rattle.swarm_objects.specs.Loops.Global.{come_duties, is_missing, is_to_leave, leave_duties}
+use Rattle.swarm_objects.specs.Loops.Jobs.{has_old, is_old, next_duty}
+use Rattle.swarm_objects.specs.Loops.Reaper.{is_removable, is_trimmed}
+use Rattle.swarm_objects.specs.Loops.Replicated.{create_duty, down_duty, is_gone, replicated}
+use Rattle.swarm_objects.specs.Loops.Restart.{wants_raise, wants_restart}
 use Rattle.swarm_objects.specs.Loops.Scheduler.{is_to_drop, is_to_place, place_duty, placing, schedule, scheduler}
 use Rattle.swarm_objects.specs.Loops.Update.{is_to_finish, is_to_replace, is_to_start, is_to_swap, lets_replace, open_duties, run_duties, update, update_duties}
 use Rattle.swarm_objects.specs.Loops.Words.{duty_where, places_where, when}
 use Rattle.swarm_objects.specs.Nodes.BestNode.{best_node}
-use Rattle.swarm_objects.specs.Nodes.Filters.{refusal_counts}
 use Rattle.swarm_objects.specs.Nodes.Sessions.{is_session_live, session_of}
-use Rattle.swarm_objects.specs.Rows.{Has, agent_node, executor_task, first_gap, is_some_and, node_id, service_id, task_id}
+use Rattle.swarm_objects.specs.Rows.{Has, executor_task, is_some_and, node_id, task_id}
 use Rattle.swarm_objects.specs.Services.Ports.{unnumbered_ports}
 use Rattle.swarm_objects.specs.Services.Runs.{fails, is_of_version, is_under_way}
 use Rattle.swarm_objects.specs.Services.Words.{is_job}
-use Rattle.swarm_objects.specs.Tasks.Places.{held_places, live_places, place_numbers}
+use Rattle.swarm_objects.specs.Tasks.Places.{held_places, place_numbers}
 use Rattle.swarm_objects.specs.World.{Tables, World}
 use Rattle.swarm_objects.specs.declared.agents.NodeAgent.{NodeAgent}
 use Rattle.swarm_objects.specs.declared.duties.Duty.{Duty}
 use Rattle.swarm_objects.specs.declared.duties.Duty.TheVariants as duty
-use Rattle.swarm_objects.specs.declared.loops.Role.{Role}
-use Rattle.swarm_objects.specs.declared.loops.Role.TheVariants as role
 use Rattle.swarm_objects.specs.declared.messages.Message.{Message}
 use Rattle.swarm_objects.specs.declared.nodes.Node.{Node}
 use Rattle.swarm_objects.specs.declared.services.Mode.{Mode}
 use Rattle.swarm_objects.specs.declared.services.Mode.TheVariants as mode
 use Rattle.swarm_objects.specs.declared.services.Service.{Service}
 use Rattle.swarm_objects.specs.declared.services.UpdateRun.{UpdateRun}
-use Rattle.swarm_objects.specs.declared.tasks.Note.TheVariants as note
 use Rattle.swarm_objects.specs.declared.tasks.Task.{Task}
 
 -- a duty that is made of a row's number is made of this number
@@ -322,15 +318,15 @@ Has-IsDuty w (duty.Swap s k) of =
     to_run w.tables s (λ z. duty.Swap z k)
     (λ v run. (is_of_version v run ≡ true) × OfPlace w.tables v (is_to_swap w.tables v) k)
     (λ v run e. swap_part w.tables v run (duty.Swap v.id k)
-        (to_places (is_of_version v run) (is_to_swap w.tables v) (duty.Swap v.id) (place_numbers w.tables v) k
-        e.0 e.1.0 e.1.1)) of
+    (to_places (is_of_version v run) (is_to_swap w.tables v) (duty.Swap v.id) (place_numbers w.tables v) k
+    e.0 e.1.0 e.1.1)) of
 Has-IsDuty w (duty.Replace s k) of =
     to_run w.tables s (λ z. duty.Replace z k)
     (λ v run. ((is_of_version v run && lets_replace w.tables v run) ≡ true)
-        × OfPlace w.tables v (is_to_replace w.tables v) k)
+    × OfPlace w.tables v (is_to_replace w.tables v) k)
     (λ v run e. replace_part w.tables v run (duty.Replace v.id k)
-        (to_places (is_of_version v run && lets_replace w.tables v run) (is_to_replace w.tables v) (duty.Replace v.id)
-        (place_numbers w.tables v) k e.0 e.1.0 e.1.1)) of
+    (to_places (is_of_version v run && lets_replace w.tables v run) (is_to_replace w.tables v) (duty.Replace v.id)
+    (place_numbers w.tables v) k e.0 e.1.0 e.1.1)) of
 Has-IsDuty w (duty.Finish s) of =
     to_run w.tables s duty.Finish (λ v run. is_to_finish w.tables v run ≡ true)
     (λ v run e. finish_part w.tables v run (duty.Finish v.id) (to_when (is_to_finish w.tables v run) (duty.Finish v.id) e)) of
@@ -410,16 +406,16 @@ Has-IsDuty w (duty.Pull n) of =
 Has-IsDuty w (duty.Exec n x) of =
     to_agent w n (λ z. duty.Exec z x) (λ a. OfExecutor a (has_step w.tables.clock) x)
     (λ a e. third_on w a (duty.Exec a.node x)
-        (to_id (steps_on w a) (duty.Exec a.node) e
-        (to_where (has_step w.tables.clock) (λ z. duty.Exec a.node z.task) a.executors e.row e.there e.fact))) of
+    (to_id (steps_on w a) (duty.Exec a.node) e
+    (to_where (has_step w.tables.clock) (λ z. duty.Exec a.node z.task) a.executors e.row e.there e.fact))) of
 Has-IsDuty w (duty.Report n x) of =
     to_agent w n (λ z. duty.Report z x) (λ a. IsLive w a × OfExecutor a (wants_report w.tables) x)
     (λ a e. fourth_on w a (duty.Report a.node x) (report_has w a x e.0 e.1)) of
 Has-IsDuty w (duty.Forget n x) of =
     to_agent w n (λ z. duty.Forget z x) (λ a. OfExecutor a is_forgotten x)
     (λ a e. fifth_on w a (duty.Forget a.node x)
-        (to_id (forgets_on a) (duty.Forget a.node) e
-        (to_where is_forgotten (λ z. duty.Forget a.node z.task) a.executors e.row e.there e.fact))) of
+    (to_id (forgets_on a) (duty.Forget a.node) e
+    (to_where is_forgotten (λ z. duty.Forget a.node z.task) a.executors e.row e.there e.fact))) of
 
 pub due-IsDuty : (w : World) (d : Duty) → IsDuty w d → is_due w d ≡ true
 due-IsDuty w d is = due-Has w d (Has-IsDuty w d is)

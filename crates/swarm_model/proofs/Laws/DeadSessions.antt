@@ -1,22 +1,19 @@
 -- Dead sessions change nothing.
 use Rattle.std.proofs.Common.{◌≡◌, ℕ, List, Bool, true, false, not, refl, sym, ap, ◌∙◌, subst, Option, Some, None, Err, cond, eqb, nat_le}
 use Rattle.std.specs.Prelude.{is_none}
-use Rattle.swarm_model.proofs.Base.IsDuty.{IsDuty}
 use Rattle.swarm_model.proofs.Base.FromLists.{IsDuty-due}
 use Rattle.swarm_model.proofs.Laws.Steps.{each-step}
-use Rattle.swarm_model.specs.Calls.{answer, answered, call_outcome}
+use Rattle.swarm_model.specs.Calls.{answered}
 use Rattle.swarm_model.specs.Calls.Refusals.{found, node_by, refuse}
 use Rattle.swarm_model.specs.Calls.Remote.{admits_session, not_admitted, on_session}
-use Rattle.swarm_model.specs.History.{IsLegal, step}
-use Rattle.swarm_model.specs.Laws.DeadSessions.{DeadChangesNothing, DeadSessionLaw, IsUnchanged, NeedsSession, StepMindsSessions, is_dead, is_dead_answer, session_in, session_node_of}
+use Rattle.swarm_model.specs.History.{step}
+use Rattle.swarm_model.specs.Laws.DeadSessions.{DeadChangesNothing, DeadSessionLaw, IsUnchanged, NeedsSession, StepMindsSessions, is_dead, is_dead_answer}
 use Rattle.swarm_model.specs.Outcome.{Answered}
-use Rattle.swarm_objects.specs.Duties.{is_due}
 use Rattle.swarm_objects.specs.Nodes.Sessions.{is_session_live, session_of}
 use Rattle.swarm_objects.specs.Rows.{is_some_and}
 use Rattle.swarm_objects.specs.World.{Tables, World, empty_world}
 use Rattle.swarm_objects.specs.declared.calls.Call.{Call}
 use Rattle.swarm_objects.specs.declared.calls.Call.TheVariants as call
-use Rattle.swarm_objects.specs.declared.calls.Entry.{Entry}
 use Rattle.swarm_objects.specs.declared.calls.What.{What}
 use Rattle.swarm_objects.specs.declared.calls.What.TheVariants as what
 use Rattle.swarm_objects.specs.declared.duties.Duty.{Duty}
@@ -50,12 +47,12 @@ unadmitted clock session None r e =
 unadmitted clock session (Some s) r e = go (not (eqb s.session.id session)) e
   where
     go : (b : Bool) →
-      cond b (Some (refusal.InvalidSession (Some s.session.id)))
-      (refuse (nat_le s.session.deadline clock) (refusal.SessionExpired s.session.deadline)) ≡ Some r →
-      is_dead_answer (reply.Refused r) ≡ true
+        cond b (Some (refusal.InvalidSession (Some s.session.id)))
+        (refuse (nat_le s.session.deadline clock) (refusal.SessionExpired s.session.deadline)) ≡ Some r →
+        is_dead_answer (reply.Refused r) ≡ true
     go true k =
-      let is : refusal.InvalidSession (Some s.session.id) ≡ r = cc in
-      subst (λ z. is_dead_answer (reply.Refused z) ≡ true) is refl
+        let is : refusal.InvalidSession (Some s.session.id) ≡ r = cc in
+        subst (λ z. is_dead_answer (reply.Refused z) ≡ true) is refl
     go false k = expired (nat_le s.session.deadline clock) s.session.deadline r k
 
 -- the session isn't admitted
@@ -87,10 +84,10 @@ refused_dead : (t : Tables) (name : List ℕ) (session : ℕ) (next : Node → A
 refused_dead t name session next dead = go (node_by t name) (denied _ dead)
   where
     go : (o : Option Node) → is_some_and (λ (n : Node). admits_session t n.id session) o ≡ false →
-      IsRefusedDead (found kind.Node (wanted_by.Name name) o
-      (λ n. cond n.remote
-          (elim (not_admitted t.clock session (session_of t n.id)) [ Some r ↦ Err r | None ↦ next n ])
-          (Err (refusal.WrongKind n.id))))
+        IsRefusedDead (found kind.Node (wanted_by.Name name) o
+        (λ n. cond n.remote
+        (elim (not_admitted t.clock session (session_of t n.id)) [ Some r ↦ Err r | None ↦ next n ])
+        (Err (refusal.WrongKind n.id))))
     go None e = record { why = refusal.NotFound kind.Node (wanted_by.Name name); is = refl; dead = refl }
     go (Some n) e = refused_remote t n session next n.remote e
 

@@ -1,5 +1,5 @@
 -- Every world of a legal history is orderly, and each of its steps is a move.
-use Rattle.std.proofs.Common.{◌≡◌, ℕ, List, true, arith}
+use Rattle.std.proofs.Common.{◌≡◌, List, true, arith}
 use Rattle.swarm_model.proofs.Base.FromLists.{IsDuty-due}
 use Rattle.swarm_model.proofs.Base.Histories.{replay-keeps, room_duty}
 use Rattle.swarm_model.proofs.Laws.Rises.{rises-moves}

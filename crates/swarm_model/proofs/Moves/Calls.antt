@@ -1,6 +1,6 @@
 -- Every call is a move.
-use Rattle.std.proofs.Common.{◌≡◌, ℕ, ◌+◌, ◌*◌, Bool, true, false, cond, List, [], ◌∷◌, ◌++◌, refl, sym, ap, subst, arith, Option, Some, None, Result, Ok, Err, length, nat_lt, nat_le}
-use Rattle.std.specs.Prelude.{not, ◌==◌, ⊤}
+use Rattle.std.proofs.Common.{ℕ, ◌+◌, ◌*◌, Bool, true, false, cond, List, refl, arith, Option, Some, None, Result, Ok, Err, length, nat_lt}
+use Rattle.std.specs.Prelude.{not, ◌==◌}
 use Rattle.swarm_model.proofs.Base.Answers.{OnGiven, given-found, given-if, given-if_not, given-unless, given-unless_some}
 use Rattle.swarm_model.proofs.Moves.EachDuty.{entered-moves, tables-moves, with-tables}
 use Rattle.swarm_model.proofs.Moves.Opening.{opening-moves}
@@ -8,25 +8,24 @@ use Rattle.swarm_model.proofs.Moves.Operations.{ops-moves}
 use Rattle.swarm_model.proofs.Moves.Rows.{becomes-change_any, becomes-filter, becomes-same}
 use Rattle.swarm_model.proofs.Moves.Sessions.{beat-moves}
 use Rattle.swarm_model.proofs.Moves.Tables.{move-any_task, moves-raised_to}
-use Rattle.swarm_model.proofs.Moves.Worlds.{Any, Moves, SameId, TablesMove, TaskMoves, sessions-same, tables-same, task-same, turns-by, turns-ids, turns-more}
-use Rattle.swarm_model.specs.Calls.{answer, answered, call_outcome, entered, ticked, txn_answer, viewed}
-use Rattle.swarm_model.specs.Calls.Remote.{begin_with, begun_tables, given_or, not_admitted, on_remote, on_session, pulled, remote_beat, remote_begin, remote_pull, remote_status, report}
+use Rattle.swarm_model.proofs.Moves.Worlds.{Any, Moves, SameId, TaskMoves, sessions-same, tables-same, task-same, turns-by, turns-ids, turns-more}
+use Rattle.swarm_model.specs.Calls.{answer, answered, call_outcome, ticked, txn_answer, viewed}
+use Rattle.swarm_model.specs.Calls.Remote.{begin_with, given_or, not_admitted, on_remote, on_session, pulled, remote_beat, remote_begin, remote_pull, remote_status, report}
 use Rattle.swarm_model.specs.Calls.Faults.{on_agent}
 use Rattle.swarm_model.specs.Calls.Refusals.{found, node_by}
 use Rattle.swarm_model.specs.Calls.Views.{View, shows}
 use Rattle.swarm_model.specs.Calls.Watches.{new_watcher, polled, told_all, told_at, waiting_events, watch_finish, watch_poll, with_watcher, without_watcher}
 use Rattle.swarm_model.specs.Outcome.{Answered}
 use Rattle.swarm_objects.specs.Agents.Messages.{message_for}
-use Rattle.swarm_objects.specs.Changes.{raised_to, with_tables}
+use Rattle.swarm_objects.specs.Changes.{with_tables}
 use Rattle.swarm_objects.specs.Limits.{most_events, most_ops}
 use Rattle.swarm_objects.specs.Loops.Agents.{after_beat, change_agent}
 use Rattle.swarm_objects.specs.Nodes.Sessions.{session_of}
-use Rattle.swarm_objects.specs.Rows.{Has, change_row, drop_row, row_at, task_id, watcher_id}
-use Rattle.swarm_objects.specs.World.{Tables, World}
+use Rattle.swarm_objects.specs.Rows.{row_at, task_id, watcher_id}
+use Rattle.swarm_objects.specs.World.{World}
 use Rattle.swarm_objects.specs.declared.agents.NodeAgent.{NodeAgent}
 use Rattle.swarm_objects.specs.declared.calls.Call.{Call}
 use Rattle.swarm_objects.specs.declared.calls.Call.TheVariants as call
-use Rattle.swarm_objects.specs.declared.calls.Op.{Op}
 use Rattle.swarm_objects.specs.declared.ids.Kind.TheVariants as kind
 use Rattle.swarm_objects.specs.declared.messages.Message.{Message}
 use Rattle.swarm_objects.specs.declared.nodes.Node.{Node}
@@ -70,8 +69,8 @@ watcher-comes entry w f = record {
     sessions = sessions-same w.tables.sessions w.tables.next_id (w.tables.next_id + 1);
   };
   watchers =
-    turns-more watcher_id (SameId watcher_id) Any w.tables.next_id w.watchers w.watchers
-    (new_watcher entry w.tables.next_id f) (becomes-same (SameId watcher_id) (λ x. refl) w.watchers) refl tt;
+      turns-more watcher_id (SameId watcher_id) Any w.tables.next_id w.watchers w.watchers
+      (new_watcher entry w.tables.next_id f) (becomes-same (SameId watcher_id) (λ x. refl) w.watchers) refl tt;
 }
 
 watcher-goes : (id : ℕ) (w : World) → Moves w (without_watcher id w)
@@ -84,7 +83,7 @@ watcher-told : (entry id : ℕ) (w : World) → Moves w (told_at entry id w)
 watcher-told entry id w = record {
   tables = tables-same w.tables;
   watchers =
-    turns-by (becomes-change_any (SameId watcher_id) watcher_id id (told_all entry) w.watchers (λ x. refl) (λ x h. refl));
+      turns-by (becomes-change_any (SameId watcher_id) watcher_id id (told_all entry) w.watchers (λ x. refl) (λ x h. refl));
 }
 
 polled-moves : (entry : ℕ) (w : World) (id : ℕ) (events : List Event) → Moves w (polled entry w id events).1
@@ -120,8 +119,8 @@ agent-answers w name change =
     given-found (λ (d : Reply × World). Moves w d.1) kind.Node (wanted_by.Name name) (node_by w.tables name)
     (λ n. cond n.remote (Err (refusal.WrongKind n.id)) (Ok (reply.AgentDone n.id, change_agent n.id change w)))
     (λ (n : Node) e. given-if_not (λ (d : Reply × World). Moves w d.1) n.remote
-        (Ok (reply.AgentDone n.id, change_agent n.id change w)) (refusal.WrongKind n.id)
-        (λ k. tables-moves w (change_agent n.id change w) (tables-same w.tables) refl))
+    (Ok (reply.AgentDone n.id, change_agent n.id change w)) (refusal.WrongKind n.id)
+    (λ k. tables-moves w (change_agent n.id change w) (tables-same w.tables) refl))
 
 -- Remote nodes.
 
@@ -138,15 +137,15 @@ session-answers w name session next each =
     remote-answers w name
     (λ n. elim (not_admitted w.tables.clock session (session_of w.tables n.id)) [ Some r ↦ Err r | None ↦ next n ])
     (λ n. given-unless_some (λ (d : Reply × World). Moves w d.1)
-        (not_admitted w.tables.clock session (session_of w.tables n.id)) (next n) (λ e. each n))
+    (not_admitted w.tables.clock session (session_of w.tables n.id)) (next n) (λ e. each n))
 
 begin-answers : (version : ℕ) (w : World) (name : List ℕ) (cpu mem : Option ℕ) →
     Answers w (remote_begin version w name cpu mem)
 begin-answers version w name cpu mem =
     remote-answers w name (λ n. begin_with version w n.id (given_or cpu n.cpu) (given_or mem n.mem))
     (λ n. given-unless (λ (d : Reply × World). Moves w d.1) _ _
-        (λ e. tables-moves w _
-            (opening-moves version w.tables n.id (given_or cpu n.cpu) (given_or mem n.mem)) refl))
+    (λ e. tables-moves w _
+    (opening-moves version w.tables n.id (given_or cpu n.cpu) (given_or mem n.mem)) refl))
 
 beat-answers : (w : World) (name : List ℕ) (session : ℕ) → Answers w (remote_beat w name session)
 beat-answers w name session =
@@ -169,10 +168,10 @@ status-answers version w name session task s =
     session-answers w name session
     (λ n. found kind.Task (wanted_by.Id task) (row_at task_id task w.tables.tasks) (report version w n.id s))
     (λ n. given-found (λ (d : Reply × World). Moves w d.1) kind.Task (wanted_by.Id task)
-        (row_at task_id task w.tables.tasks) (report version w n.id s)
-        (λ (x : Task) e. given-unless (λ (d : Reply × World). Moves w d.1) _ _
-            (λ ok. with-tables w _
-                (move-any_task w.tables x.id _ (λ y h. moves-raised_to version w.tables.clock s y)))))
+    (row_at task_id task w.tables.tasks) (report version w n.id s)
+    (λ (x : Task) e. given-unless (λ (d : Reply × World). Moves w d.1) _ _
+    (λ ok. with-tables w _
+    (move-any_task w.tables x.id _ (λ y h. moves-raised_to version w.tables.clock s y)))))
 
 -- Any call.
 

@@ -1,29 +1,25 @@
 -- What each duty does to the world: a move.
-use Rattle.std.proofs.Common.{◌≡◌, ℕ, ◌+◌, ◌<◌, ◌≤◌, Bool, true, false, cond, eqb, ltb, leb, inl, inr, List, [], ◌∷◌, ◌++◌, refl, sym, ap, ◌∙◌, subst, arith, Option, Some, None}
-use Rattle.std.specs.Prelude.{map, ◌&&◌, nat_le, nat_lt, not, ◌==◌}
+use Rattle.std.proofs.Common.{◌≡◌, ℕ, ◌≤◌, Bool, true, false, cond, refl, sym, ◌∙◌, subst, arith, Option, Some, None}
+use Rattle.std.specs.Prelude.{◌&&◌, nat_le}
 use Rattle.std.proofs.lemmas.Bool.Decides.{nat_tests}
-use Rattle.swarm_model.proofs.Base.IsDuty.{IsDuty, OfRow}
-use Rattle.swarm_model.proofs.Moves.Rows.{RisesBetween, becomes-change_any, between-one}
-use Rattle.swarm_model.proofs.Moves.Tables.{desired-least, desired-most, good-new, move-add, move-any_task, move-drop, move-new, move-on_service, move-place_gone, move-node, move-service, move-task, move-where, moves-by, moves-in_state, moves-raised_to, moves-wanted, rank-most}
-use Rattle.swarm_model.proofs.Moves.Worlds.{ComesFrom, IsGood, IsOrderly, Moves, TablesMove, TaskMoves, sessions-same, tables-same, tables-then, task-same, turns-by, turns-ids}
-use Rattle.swarm_model.specs.History.{effect}
+use Rattle.swarm_model.proofs.Base.IsDuty.{OfRow}
+use Rattle.swarm_model.proofs.Moves.Rows.{RisesBetween, between-one}
+use Rattle.swarm_model.proofs.Moves.Tables.{desired-least, good-new, move-add, move-any_task, move-new, move-on_service, move-service, move-task, move-where, moves-by, moves-in_state, moves-wanted}
+use Rattle.swarm_model.proofs.Moves.Worlds.{IsGood, TablesMove, TaskMoves, sessions-same, tables-same, tables-then, turns-ids}
 use Rattle.swarm_objects.proofs.RowLemmas.{Has-from_row_at}
-use Rattle.swarm_objects.specs.Changes.{addressed, change_task, change_where, in_state, noted, on_service, on_task, placed, wanted, with_new, with_tables}
-use Rattle.swarm_objects.specs.Duties.{effect_by}
+use Rattle.swarm_objects.specs.Changes.{change_task, change_where, in_state, noted, on_service, wanted}
 use Rattle.swarm_objects.specs.Loops.Allocator.{gets_address, with_addresses}
 use Rattle.swarm_objects.specs.Loops.Enforcer.{is_misplaced}
 use Rattle.swarm_objects.specs.Loops.Restart.{after_restart, by_policy, closed_by, next_task, raised, restarted, shut, wants_raise, wants_restart, with_attempt}
 use Rattle.swarm_objects.specs.Loops.Scheduler.{is_to_drop}
-use Rattle.swarm_objects.specs.Loops.Update.{back_at, by_order, fail_run, finish_run, item_of, live_of_place, may_roll_back, new_run, paused, replace_place, replaced_in, rolled_back, start_run, swap_place, with_run}
-use Rattle.swarm_objects.specs.Rows.{Has, node_id, on_row, row_at, service_id, task_id}
+use Rattle.swarm_objects.specs.Loops.Update.{by_order, fail_run, item_of, live_of_place, paused, replace_place, replaced_in, swap_place}
+use Rattle.swarm_objects.specs.Rows.{Has, on_row, row_at, task_id}
 use Rattle.swarm_objects.specs.Services.Words.{is_live_dirty}
 use Rattle.swarm_objects.specs.Tasks.Places.{has_other, is_in_place, newest, place_at, tasks_of_place}
 use Rattle.swarm_objects.specs.Tasks.Policy.{no_restart}
 use Rattle.swarm_objects.specs.Tasks.Words.{is_below_assigned, is_live, is_new, is_placed, is_to_wait}
 use Rattle.swarm_objects.specs.Values.Ranks.{desired_rank, rank}
-use Rattle.swarm_objects.specs.World.{Tables, World}
-use Rattle.swarm_objects.specs.declared.duties.Duty.{Duty}
-use Rattle.swarm_objects.specs.declared.duties.Duty.TheVariants as duty
+use Rattle.swarm_objects.specs.World.{Tables}
 use Rattle.swarm_objects.specs.declared.services.Service.{Service}
 use Rattle.swarm_objects.specs.declared.services.ServiceSpec.{ServiceSpec}
 use Rattle.swarm_objects.specs.declared.services.UpdateOrder.{UpdateOrder}
@@ -114,11 +110,11 @@ restarted-moves : (version : ℕ) (t : Tables) (x : Task) (s : Service) → InOr
 restarted-moves version t x s rises there good live = go (has_other t s x)
   where
     go : (b : Bool) →
-      TablesMove t (cond b (shut version x.id t) (by_policy version (shut version x.id t) s x.place (no_restart t s x)))
+        TablesMove t (cond b (shut version x.id t) (by_policy version (shut version x.id t) s x.place (no_restart t s x)))
     go true = shut-task version t x rises there good live
     go false =
-      tables-then t (shut version x.id t) _ (shut-task version t x rises there good live)
-      (policy-moves version (shut version x.id t) s x.place (no_restart t s x))
+        tables-then t (shut version x.id t) _ (shut-task version t x rises there good live)
+        (policy-moves version (shut version x.id t) s x.place (no_restart t s x))
 
 -- the row that is found is the one that the duty is of
 found-is : (t : Tables) (id : ℕ) (Fact : Task → Type 0) → InOrder t → OfRow t.tasks task_id id Fact → (x : Task) →
@@ -133,13 +129,13 @@ pub restart-moves : (version : ℕ) (t : Tables) (id : ℕ) → InOrder t → Ar
 restart-moves version t id rises good of = go (row_at task_id id t.tasks) refl
   where
     go : (o : Option Task) → row_at task_id id t.tasks ≡ o →
-      TablesMove t (on_row t (λ x. on_service t x.service (restarted version t x)) o)
+        TablesMove t (on_row t (λ x. on_service t x.service (restarted version t x)) o)
     go None e = tables-same t
     go (Some x) e =
-      let is = found-is t id (λ x. wants_restart t x ≡ true) rises of x e in
-      let live = and-left (is_live x) _ (and-left _ _ is.2) in
-      move-on_service t x.service (restarted version t x)
-      (λ s. restarted-moves version t x s rises is.0 (good x is.0) live)
+        let is = found-is t id (λ x. wants_restart t x ≡ true) rises of x e in
+        let live = and-left (is_live x) _ (and-left _ _ is.2) in
+        move-on_service t x.service (restarted version t x)
+        (λ s. restarted-moves version t x s rises is.0 (good x is.0) live)
 
 -- the task of the duty, changed
 pub of-task : (t : Tables) (id : ℕ) (Fact : Task → Type 0) (f : Task → Task) → InOrder t → OfRow t.tasks task_id id Fact →

@@ -1,5 +1,5 @@
 -- Every duty that may be done is a move.
-use Rattle.std.proofs.Common.{◌≡◌, ℕ, Bool, true, refl, sym, ap, subst, Option, Some, None}
+use Rattle.std.proofs.Common.{◌≡◌, ℕ, Bool, true, refl, sym, subst, Option, Some, None}
 use Rattle.swarm_model.proofs.Base.IsDuty.{GoesTo, IsDuty}
 use Rattle.swarm_model.proofs.Moves.Duties.{addressed-moves, dropped-moves, fail-moves, noted-moves, of-task, raised-moves, rejected-moves, replace-moves, restart-moves, swap-moves}
 use Rattle.swarm_model.proofs.Moves.Placing.{placed-moves}
@@ -9,13 +9,13 @@ use Rattle.swarm_model.proofs.Moves.Worlds.{Any, IsOrderly, Moves, SameId, Table
 use Rattle.swarm_model.specs.Calls.{entered}
 use Rattle.swarm_model.specs.History.{effect}
 use Rattle.swarm_objects.specs.Agents.Messages.{message_for}
-use Rattle.swarm_objects.specs.Changes.{change_task, in_state, noted, on_task, placed, wanted, with_tables}
+use Rattle.swarm_objects.specs.Changes.{change_task, noted, on_task, placed, with_tables}
 use Rattle.swarm_objects.specs.Duties.{effect_by}
 use Rattle.swarm_objects.specs.Loops.Agents.{after_pull, executor_at, reported_by}
 use Rattle.swarm_objects.specs.Loops.Allocator.{exhausted_for, gets_address, give_port, port_number, with_addresses, with_exhausted, with_port}
 use Rattle.swarm_objects.specs.Loops.Enforcer.{is_misplaced}
 use Rattle.swarm_objects.specs.Loops.Restart.{raised, wants_raise}
-use Rattle.swarm_objects.specs.Loops.Scheduler.{explained, is_to_drop}
+use Rattle.swarm_objects.specs.Loops.Scheduler.{is_to_drop}
 use Rattle.swarm_objects.specs.Loops.Update.{may_roll_back}
 use Rattle.swarm_objects.specs.Rows.{on_row, row_at, task_id, watcher_id}
 use Rattle.swarm_objects.specs.Services.Ports.{free_port}
@@ -46,7 +46,7 @@ note-moves : (version : ℕ) (t : Tables) (id : ℕ) → TablesMove t (on_task t
 note-moves version t id = go (row_at task_id id t.tasks)
   where
     with_note : (x : Task) (o : Option Note) →
-      TablesMove t (on_row t (λ n. change_task x.id (noted version n) t) o)
+        TablesMove t (on_row t (λ n. change_task x.id (noted version n) t) o)
     with_note x None = tables-same t
     with_note x (Some n) = move-any_task t x.id _ (λ y h. noted-moves version n y)
 

@@ -1,6 +1,6 @@
 -- A remote node's session opens with what resources are left: tasks that no longer fit are rejected.
-use Rattle.std.proofs.Common.{◌≡◌, ℕ, ◌+◌, ◌≤◌, Bool, true, false, cond, eqb, inl, inr, List, [], ◌∷◌, ◌++◌, refl, sym, ap, ◌∙◌, subst, arith, append-nil}
-use Rattle.std.specs.Prelude.{◌&&◌, fold}
+use Rattle.std.proofs.Common.{◌≡◌, ℕ, Bool, true, false, cond, inr, List, [], ◌∷◌, ◌++◌, refl, sym, ap, ◌∙◌, subst, arith, append-nil}
+use Rattle.std.specs.Prelude.{fold}
 use Rattle.swarm_model.proofs.Moves.Duties.{and-left, placed-most}
 use Rattle.swarm_model.proofs.Moves.Rows.{Becomes, becomes-change_any}
 use Rattle.swarm_model.proofs.Moves.Sessions.{opened}
@@ -11,7 +11,6 @@ use Rattle.swarm_objects.specs.Changes.{in_state}
 use Rattle.swarm_objects.specs.Nodes.Holdings.{is_placed_on}
 use Rattle.swarm_objects.specs.Rows.{node_id}
 use Rattle.swarm_objects.specs.Tasks.Words.{is_on, is_placed}
-use Rattle.swarm_objects.specs.Values.Ranks.{rank}
 use Rattle.swarm_objects.specs.World.{Tables}
 use Rattle.swarm_objects.specs.declared.tasks.Task.{Task}
 use Rattle.swarm_objects.specs.declared.tasks.TaskState.TheVariants as state
@@ -26,18 +25,18 @@ one-added : (version clock node : ℕ) (kept : Kept) (x : Task) → Adds kept (k
 one-added version clock node kept x = by_place (is_placed_on node x) refl
   where
     by_room : (b : Bool) → is_placed_on node x ≡ true →
-      Adds kept (cond b (keep_task kept x) (record kept { tasks = kept.tasks ++ in_state version clock state.Rejected x ∷ [] })) x
+        Adds kept (cond b (keep_task kept x) (record kept { tasks = kept.tasks ++ in_state version clock state.Rejected x ∷ [] })) x
     by_room true e = record { task = x; tasks = refl; moves = task-same x }
     by_room false e =
-      let most = placed-most x (and-left (is_placed x) (is_on node x) e) in
-      record {
-        task = in_state version clock state.Rejected x;
-        tasks = refl;
-        moves = moves-in_state version clock state.Rejected x (omega (arith, most));
-      }
+        let most = placed-most x (and-left (is_placed x) (is_on node x) e) in
+        record {
+          task = in_state version clock state.Rejected x;
+          tasks = refl;
+          moves = moves-in_state version clock state.Rejected x (omega (arith, most));
+        }
 
     by_place : (b : Bool) → is_placed_on node x ≡ b →
-      Adds kept (cond b (keep_or_reject version clock kept x) (record kept { tasks = kept.tasks ++ x ∷ [] })) x
+        Adds kept (cond b (keep_or_reject version clock kept x) (record kept { tasks = kept.tasks ++ x ∷ [] })) x
     by_place true e = by_room (fits_in kept x) e
     by_place false e = record { task = x; tasks = refl; moves = task-same x }
 
@@ -74,8 +73,8 @@ pub opening-moves : (version : ℕ) (t : Tables) (node cpu mem : ℕ) → Tables
 opening-moves version t node cpu mem = record {
   next = omega arith;
   nodes =
-    turns-by (becomes-change_any (SameId node_id) node_id node (with_resources version cpu mem) t.nodes (λ n. refl)
-    (λ n h. refl));
+      turns-by (becomes-change_any (SameId node_id) node_id node (with_resources version cpu mem) t.nodes (λ n. refl)
+      (λ n h. refl));
   services = turns-ids t.services;
   tasks = turns-by (within-becomes version t.clock node cpu mem t.tasks);
   networks = turns-ids t.networks;

@@ -1,18 +1,18 @@
 -- Every operation is a move.
-use Rattle.std.proofs.Common.{◌≡◌, ℕ, ◌+◌, ◌≤◌, Bool, true, false, cond, eqb, ◌⊎◌, inl, inr, List, [], ◌∷◌, ◌++◌, refl, sym, ap, ◌∙◌, subst, arith, Option, Some, None, Result, Ok, Err}
-use Rattle.std.specs.Prelude.{filter, not, ◌==◌, ⊤}
+use Rattle.std.proofs.Common.{◌≡◌, ℕ, ◌+◌, true, inl, List, [], refl, sym, arith, Option, Some, None, Ok, Err}
+use Rattle.std.specs.Prelude.{not, ◌==◌}
 use Rattle.swarm_model.proofs.Base.Answers.{OnDone, OnGiven, given-found, given-unless, given-unless_some, ops-keep}
 use Rattle.swarm_model.proofs.Moves.EachDuty.{tables-moves}
 use Rattle.swarm_model.proofs.Moves.Rows.{Becomes, becomes-filter, becomes-same}
 use Rattle.swarm_model.proofs.Moves.Tables.{move-node_at, move-service, move-where, moves-in_state, rank-most}
-use Rattle.swarm_model.proofs.Moves.Worlds.{Any, ComesFrom, IsOrderly, Moves, SameId, TablesMove, TaskMoves, moves-then, orderly-moves, sessions-same, tables-same, tables-then, task-same, turns-by, turns-ids, turns-more}
+use Rattle.swarm_model.proofs.Moves.Worlds.{Any, ComesFrom, Moves, SameId, TablesMove, TaskMoves, moves-then, sessions-same, tables-same, tables-then, task-same, turns-by, turns-ids, turns-more}
 use Rattle.swarm_model.specs.Calls.Networks.{new_network, remove_network, with_network}
 use Rattle.swarm_model.specs.Calls.Nodes.{is_left_behind, new_node, remove_node, respecified_node, tables_without_node, update_node, with_node, without_node}
 use Rattle.swarm_model.specs.Calls.Operations.{apply_op, apply_ops}
 use Rattle.swarm_model.specs.Calls.Refusals.{Done, conflict, network_by, node_by, service_by}
 use Rattle.swarm_model.specs.Calls.Services.{go_back, new_service, put_service, remove_service, respecified, rollback_service, update_service, with_service, without_service}
 use Rattle.swarm_objects.proofs.RowLemmas.{Has-filter_cases}
-use Rattle.swarm_objects.specs.Changes.{change_where, in_state, with_tables}
+use Rattle.swarm_objects.specs.Changes.{in_state, with_tables}
 use Rattle.swarm_objects.specs.Rows.{Has, drop_row, network_id, node_id, service_id, session_node}
 use Rattle.swarm_objects.specs.World.{Tables, World}
 use Rattle.swarm_objects.specs.declared.calls.Op.{Op}
@@ -20,13 +20,11 @@ use Rattle.swarm_objects.specs.declared.calls.Op.TheVariants as op
 use Rattle.swarm_objects.specs.declared.ids.Kind.TheVariants as kind
 use Rattle.swarm_objects.specs.declared.networks.Network.{Network}
 use Rattle.swarm_objects.specs.declared.nodes.Node.{Node}
-use Rattle.swarm_objects.specs.declared.replies.Refusal.{Refusal}
 use Rattle.swarm_objects.specs.declared.replies.Wanted.TheVariants as wanted_by
 use Rattle.swarm_objects.specs.declared.services.Service.{Service}
 use Rattle.swarm_objects.specs.declared.services.ServiceSpec.{ServiceSpec}
 use Rattle.swarm_objects.specs.declared.sessions.NodeSession.{NodeSession}
 use Rattle.swarm_objects.specs.declared.settings.Settings.{Settings}
-use Rattle.swarm_objects.specs.declared.tasks.Task.{Task}
 use Rattle.swarm_objects.specs.declared.tasks.TaskState.TheVariants as state
 
 dropped : {X : Type 0} (key : X → ℕ) (id : ℕ) (rows : List X) → Becomes (SameId key) [] rows (drop_row key id rows)
@@ -39,8 +37,8 @@ node-comes w n id = record {
   tables = record {
     next = omega arith;
     nodes =
-      turns-more node_id (SameId node_id) Any w.tables.next_id w.tables.nodes w.tables.nodes n
-      (becomes-same (SameId node_id) (λ x. refl) w.tables.nodes) id tt;
+        turns-more node_id (SameId node_id) Any w.tables.next_id w.tables.nodes w.tables.nodes n
+        (becomes-same (SameId node_id) (λ x. refl) w.tables.nodes) id tt;
     services = turns-ids w.tables.services;
     tasks = turns-by (becomes-same TaskMoves task-same w.tables.tasks);
     networks = turns-ids w.tables.networks;
@@ -54,8 +52,8 @@ service-comes t s id = record {
   next = omega arith;
   nodes = turns-ids t.nodes;
   services =
-    turns-more service_id (SameId service_id) Any t.next_id t.services t.services s
-    (becomes-same (SameId service_id) (λ x. refl) t.services) id tt;
+      turns-more service_id (SameId service_id) Any t.next_id t.services t.services s
+      (becomes-same (SameId service_id) (λ x. refl) t.services) id tt;
   tasks = turns-by (becomes-same TaskMoves task-same t.tasks);
   networks = turns-ids t.networks;
   sessions = sessions-same t.sessions t.next_id (t.next_id + 1);
@@ -68,8 +66,8 @@ network-comes t n id = record {
   services = turns-ids t.services;
   tasks = turns-by (becomes-same TaskMoves task-same t.tasks);
   networks =
-    turns-more network_id (SameId network_id) Any t.next_id t.networks t.networks n
-    (becomes-same (SameId network_id) (λ x. refl) t.networks) id tt;
+      turns-more network_id (SameId network_id) Any t.next_id t.networks t.networks n
+      (becomes-same (SameId network_id) (λ x. refl) t.networks) id tt;
   sessions = sessions-same t.sessions t.next_id (t.next_id + 1);
 }
 
@@ -149,12 +147,12 @@ op-moves version w (op.UpdateNode name asked labels r a) =
     given-found (λ (d : World × ℕ). Moves w d.0) kind.Node (wanted_by.Name name) (node_by w.tables name)
     (λ n. update_node w asked n (respecified_node version labels r a n))
     (λ (n : Node) e. given-unless (λ (d : World × ℕ). Moves w d.0) _ _
-        (λ ok. with-tables w _ (move-node_at w.tables n.id (λ m. respecified_node version labels r a n) (λ m same. sym same))))
+    (λ ok. with-tables w _ (move-node_at w.tables n.id (λ m. respecified_node version labels r a n) (λ m same. sym same))))
 op-moves version w (op.RemoveNode name force) =
     given-found (λ (d : World × ℕ). Moves w d.0) kind.Node (wanted_by.Name name) (node_by w.tables name)
     (remove_node version w force)
     (λ (n : Node) e. given-unless (λ (d : World × ℕ). Moves w d.0) _ _
-        (λ ok. tables-moves w (without_node version w n.id) (without-node version w.tables n.id) refl))
+    (λ ok. tables-moves w (without_node version w n.id) (without-node version w.tables n.id) refl))
 op-moves version w (op.CreateService name d) =
     given-unless (λ (d : World × ℕ). Moves w d.0) _ _
     (λ e. with-tables w _ (service-comes w.tables (new_service version w.tables name d) refl))
@@ -169,7 +167,7 @@ op-moves version w (op.RollbackService name asked) =
     given-found (λ (d : World × ℕ). Moves w d.0) kind.Service (wanted_by.Name name) (service_by w.tables name)
     (rollback_service version w asked)
     (λ (s : Service) e. given-unless_some (λ (d : World × ℕ). Moves w d.0) (conflict asked s.version) _
-        (λ ok. goes-back version w s s.previous))
+    (λ ok. goes-back version w s s.previous))
 op-moves version w (op.CreateNetwork name base bits) =
     given-unless (λ (d : World × ℕ). Moves w d.0) _ _
     (λ e. with-tables w _ (network-comes w.tables (new_network version w.tables.next_id name base bits) refl))
@@ -177,7 +175,7 @@ op-moves version w (op.RemoveNetwork name) =
     given-found (λ (d : World × ℕ). Moves w d.0) kind.Network (wanted_by.Name name) (network_by w.tables name)
     (remove_network w)
     (λ (n : Network) e. given-unless (λ (d : World × ℕ). Moves w d.0) _ _
-        (λ ok. with-tables w _ (network-goes w.tables n.id)))
+    (λ ok. with-tables w _ (network-goes w.tables n.id)))
 op-moves version w (op.SetCluster settings) =
     given-unless (λ (d : World × ℕ). Moves w d.0) _ _ (λ e. tables-moves w _ (settings-move w.tables settings) refl)
 

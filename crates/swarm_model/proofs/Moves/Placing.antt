@@ -1,5 +1,5 @@
 -- A task goes to a node that it was tested on.
-use Rattle.std.proofs.Common.{◌≡◌, ℕ, ◌+◌, ◌<◌, ◌≤◌, Bool, true, false, cond, eqb, ◌⊎◌, inl, inr, List, [], ◌∷◌, refl, sym, ap, ◌∙◌, subst, arith, Option, Some, None}
+use Rattle.std.proofs.Common.{◌≡◌, ℕ, ◌<◌, Bool, true, false, cond, ◌⊎◌, inl, inr, List, [], ◌∷◌, refl, sym, ap, subst, arith, Option, Some, None}
 use Rattle.std.specs.Ordering.{is_lt}
 use Rattle.std.specs.declared.cmp.Ordering.{Ordering}
 use Rattle.std.proofs.lemmas.Bool.Decides.{nat_tests}
@@ -9,7 +9,6 @@ use Rattle.swarm_model.proofs.Moves.Worlds.{IsGood, TaskMoves}
 use Rattle.swarm_model.specs.Laws.Rises.{KeepsNode}
 use Rattle.swarm_objects.proofs.RowLemmas.{Has-filter_cases}
 use Rattle.swarm_objects.specs.Changes.{placed}
-use Rattle.swarm_objects.specs.Loops.Scheduler.{is_to_place}
 use Rattle.swarm_objects.specs.Nodes.BestNode.{best_node, node_cmp}
 use Rattle.swarm_objects.specs.Nodes.Filters.{admits, admitting_nodes, is_tested_on, tested_nodes}
 use Rattle.swarm_objects.specs.Rows.{Has, keep_least, least_by}
@@ -50,12 +49,12 @@ pub best-is : (t : Tables) (x : Task) (m : Node) → best_node t x ≡ Some m �
 best-is t x m e = go (least-has (node_cmp t x) None (admitting_nodes t x) m e)
   where
     go : (◌≡◌ {A = Option Node} None (Some m)) ⊎ Has (admitting_nodes t x) m →
-      Has t.nodes m × (is_tested_on x.place m.id ≡ true) × (admits t x m ≡ true)
+        Has t.nodes m × (is_tested_on x.place m.id ≡ true) × (admits t x m ≡ true)
     go (inl wrong) = absurd cc
     go (inr h) =
-      let admitted = Has-filter_cases (admits t x) (tested_nodes t x) m h in
-      let tested = Has-filter_cases (λ n. is_tested_on x.place n.id) t.nodes m admitted.0 in
-      (tested.0, tested.1, admitted.1)
+        let admitted = Has-filter_cases (admits t x) (tested_nodes t x) m h in
+        let tested = Has-filter_cases (λ n. is_tested_on x.place n.id) t.nodes m admitted.0 in
+        (tested.0, tested.1, admitted.1)
 
 pending-below : (s : TaskState) → is_pending s ≡ true → (rank s < rank state.Assigned)
 pending-below state.Pending e = omega arith

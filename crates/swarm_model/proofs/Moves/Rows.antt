@@ -1,8 +1,8 @@
 -- What a step does to a table: rows change in their place or go, and further rows come behind them.
-use Rattle.std.proofs.Common.{◌≡◌, ℕ, ◌+◌, ◌<◌, ◌≤◌, Bool, true, false, cond, eqb, ◌⊎◌, inl, inr, List, [], ◌∷◌, ◌++◌, refl, sym, ap, ◌∙◌, subst, arith, append-nil, Some, None}
+use Rattle.std.proofs.Common.{◌≡◌, ℕ, ◌+◌, ◌<◌, ◌≤◌, Bool, true, false, cond, eqb, ◌⊎◌, inl, inr, List, [], ◌∷◌, ◌++◌, refl, sym, ap, ◌∙◌, subst, arith, Some}
 use Rattle.std.specs.Prelude.{map, filter, ⊤, is_some}
 use Rattle.std.proofs.lemmas.Bool.Decides.{nat_tests}
-use Rattle.swarm_objects.specs.Rows.{Has, IsBelow, RisesFrom, change_row, drop_row, has_row, row_at}
+use Rattle.swarm_objects.specs.Rows.{Has, change_row, has_row, row_at}
 
 -- each row stands for one that was there, changed as R says, in their order; the further rows follow
 abbrev pub Becomes : {X : Type 0} → (X → X → Type 0) → List X → List X → List X → Type 0
@@ -119,10 +119,12 @@ between-becomes R key keeps low mid high more (x ∷ xs) (y ∷ ys) le up r m (i
     between-lower key low (key x + 1) high (y ∷ ys) (omega (arith, r.0))
     (between-becomes R key keeps (key x + 1) mid high more xs (y ∷ ys) (omega (arith, r.1)) up r.2 m b)
 between-becomes R key keeps low mid high more (x ∷ xs) (y ∷ ys) le up r m (inr b) =
-    let same = keeps x y b.0 in
-    (omega (arith, same, r.0), omega (arith, same, r.1, up),
-    subst (λ k. RisesBetween key (k + 1) high ys) (sym same)
-    (between-becomes R key keeps (key x + 1) mid high more xs ys (omega (arith, r.1)) up r.2 m b.1))
+    let same = keeps x y b.0 in (
+      omega (arith, same, r.0),
+      omega (arith, same, r.1, up),
+      subst (λ k. RisesBetween key (k + 1) high ys) (sym same)
+          (between-becomes R key keeps (key x + 1) mid high more xs ys (omega (arith, r.1)) up r.2 m b.1),
+    )
 
 -- Changes of rows.
 
@@ -135,8 +137,8 @@ becomes-change R key low high f xs x same rises has one =
   where
     go : (y : _) → Has xs y → (b : Bool) → eqb (key y) (key x) ≡ b → R y (cond b (f y) y)
     go y h true e =
-      let is : x ≡ y = between-one key low high xs x y rises has h (grind (arith, nat_tests, e)) in
-      subst (λ z. R z (f z)) is one
+        let is : x ≡ y = between-one key low high xs x y rises has h (grind (arith, nat_tests, e)) in
+        subst (λ z. R z (f z)) is one
     go y h false e = same y
 
 -- whatever row has the number
@@ -175,8 +177,8 @@ has_row-Has key [] x id h e = absurd h
 has_row-Has key (y ∷ ys) x id h e = go (eqb (key y) id) refl h (has_row-Has key ys x id)
   where
     go : (b : Bool) → eqb (key y) id ≡ b → Has (y ∷ ys) x → (Has ys x → key x ≡ id → has_row key id ys ≡ true) →
-      is_some (cond b (Some y) (row_at key id ys)) ≡ true
+        is_some (cond b (Some y) (row_at key id ys)) ≡ true
     go true t h rest = refl
     go false t (inl same) rest = absurd (let wrong : eqb (key y) id ≡ true = grind (arith, nat_tests, e, ap key same) in
-      let both : false ≡ true = sym t ∙ wrong in cc)
+        let both : false ≡ true = sym t ∙ wrong in cc)
     go false t (inr h) rest = rest h e

@@ -1,21 +1,20 @@
 -- Moves of tables: one table changes, or a row comes.
-use Rattle.std.proofs.Common.{◌≡◌, ℕ, ◌+◌, ◌<◌, ◌≤◌, Bool, true, false, cond, get_or, eqb, ltb, leb, inl, inr, List, [], ◌∷◌, ◌++◌, refl, sym, ap, subst, arith, Option, Some, None, Result, Ok, Err}
-use Rattle.std.specs.Prelude.{map, ◌&&◌, nat_le, nat_lt, not, ◌==◌, filter}
+use Rattle.std.proofs.Common.{◌≡◌, ℕ, ◌+◌, ◌≤◌, Bool, true, false, cond, get_or, ltb, List, [], ◌∷◌, refl, ap, arith, Option, Some, None}
+use Rattle.std.specs.Prelude.{map, not, ◌==◌}
 use Rattle.std.proofs.lemmas.Bool.Decides.{nat_tests}
 use Rattle.swarm_model.proofs.Moves.Rows.{Becomes, RisesBetween, becomes-change, becomes-change_any, becomes-change_at, becomes-filter, becomes-same, becomes-where}
-use Rattle.swarm_model.proofs.Moves.Worlds.{Any, ComesFrom, IsGood, Moves, SameId, TablesMove, TaskMoves, sessions-same, tables-same, tables-then, task-moves, task-same, turns-by, turns-ids, turns-more}
+use Rattle.swarm_model.proofs.Moves.Worlds.{IsGood, SameId, TablesMove, TaskMoves, sessions-same, tables-same, task-moves, task-same, turns-by, turns-ids, turns-more}
 use Rattle.swarm_model.specs.Laws.Rises.{KeepsMaking}
-use Rattle.swarm_objects.specs.Changes.{change_node, change_service, change_task, change_where, in_state, noted, on_service, on_task, raised_to, wanted, with_new, with_tables, without_place}
-use Rattle.swarm_objects.specs.Rows.{Has, change_row, drop_row, network_id, node_id, on_row, row_at, service_id, session_node, task_id, watcher_id}
+use Rattle.swarm_objects.specs.Changes.{change_node, change_service, change_task, change_where, in_state, on_service, raised_to, wanted, with_new, without_place}
+use Rattle.swarm_objects.specs.Rows.{Has, change_row, drop_row, node_id, on_row, row_at, service_id, task_id}
 use Rattle.swarm_objects.specs.Tasks.New.{goal_of, new_task, with_task}
 use Rattle.swarm_objects.specs.Tasks.Places.{place_at}
 use Rattle.swarm_objects.specs.Values.Ranks.{desired_rank, rank}
-use Rattle.swarm_objects.specs.World.{Tables, World}
+use Rattle.swarm_objects.specs.World.{Tables}
 use Rattle.swarm_objects.specs.declared.nodes.Node.{Node}
 use Rattle.swarm_objects.specs.declared.services.Mode.{Mode}
 use Rattle.swarm_objects.specs.declared.services.Mode.TheVariants as mode
 use Rattle.swarm_objects.specs.declared.services.Service.{Service}
-use Rattle.swarm_objects.specs.declared.sessions.NodeSession.{NodeSession}
 use Rattle.swarm_objects.specs.declared.tasks.Desired.{Desired}
 use Rattle.swarm_objects.specs.declared.tasks.Desired.TheVariants as desired
 use Rattle.swarm_objects.specs.declared.tasks.Place.{Place}
@@ -186,7 +185,7 @@ move-add t x id good = record {
   nodes = turns-ids t.nodes;
   services = turns-ids t.services;
   tasks =
-    turns-more task_id TaskMoves IsGood t.next_id t.tasks t.tasks x (becomes-same TaskMoves task-same t.tasks) id good;
+      turns-more task_id TaskMoves IsGood t.next_id t.tasks t.tasks x (becomes-same TaskMoves task-same t.tasks) id good;
   networks = turns-ids t.networks;
   sessions = sessions-same t.sessions t.next_id (t.next_id + 1);
 }

@@ -1,20 +1,16 @@
 -- What a step does to a world: each table's rows change, go and come.
-use Rattle.std.proofs.Common.{◌≡◌, ℕ, ◌+◌, ◌<◌, ◌≤◌, Bool, true, false, cond, eqb, ◌⊎◌, inl, inr, List, [], ◌∷◌, ◌++◌, refl, sym, ap, ◌∙◌, subst, arith, Option, Some, None}
-use Rattle.std.specs.Prelude.{map, ⊤}
-use Rattle.swarm_model.proofs.Moves.Rows.{Becomes, RisesBetween, becomes-cases, becomes-more, becomes-same, becomes-then, between-becomes, between-has}
+use Rattle.std.proofs.Common.{◌≡◌, ℕ, ◌+◌, ◌<◌, ◌≤◌, ◌⊎◌, inl, inr, List, [], ◌∷◌, ◌++◌, refl, sym, ap, ◌∙◌, subst, arith, Option, Some, None}
+use Rattle.std.specs.Prelude.{⊤}
+use Rattle.swarm_model.proofs.Moves.Rows.{Becomes, RisesBetween, becomes-cases, becomes-more, becomes-same, becomes-then, between-becomes}
 use Rattle.swarm_model.specs.Laws.Rises.{KeepsMaking, KeepsNode, TaskRises}
-use Rattle.swarm_objects.specs.Rows.{Has, network_id, node_id, service_id, session_node, task_id, watcher_id}
+use Rattle.swarm_objects.specs.Rows.{Has, network_id, node_id, service_id, task_id, watcher_id}
 use Rattle.swarm_objects.specs.Tasks.New.{bound_node}
 use Rattle.swarm_objects.specs.Values.Ranks.{desired_rank, rank}
 use Rattle.swarm_objects.specs.World.{Tables, World}
-use Rattle.swarm_objects.specs.declared.networks.Network.{Network}
-use Rattle.swarm_objects.specs.declared.nodes.Node.{Node}
-use Rattle.swarm_objects.specs.declared.services.Service.{Service}
 use Rattle.swarm_objects.specs.declared.sessions.NodeSession.{NodeSession}
 use Rattle.swarm_objects.specs.declared.tasks.Desired.TheVariants as desired
 use Rattle.swarm_objects.specs.declared.tasks.Task.{Task}
 use Rattle.swarm_objects.specs.declared.tasks.TaskState.TheVariants as state
-use Rattle.swarm_objects.specs.declared.watches.Watcher.{Watcher}
 
 -- Tasks.
 
@@ -165,7 +161,7 @@ turns-then key R Asked join keeps still next mid high a b c low up first second 
       more = both.0;
       rows = both.1;
       fresh =
-        between-becomes R key keeps next mid high second.more first.more both.0 low up first.fresh second.fresh both.2;
+          between-becomes R key keeps next mid high second.more first.more both.0 low up first.fresh second.fresh both.2;
       asked = λ y h.
           elim (becomes-cases R second.more first.more both.0 both.2 y h) [
             | inl r ↦ still r.0 y r.2 (first.asked r.0 r.1)
@@ -206,7 +202,7 @@ sessions-then : (a b c : List NodeSession) (next mid high : ℕ) → next ≤ mi
 sessions-then a b c next mid high low up first second s h = by_second (second s h)
   where
     by_first : (r : NodeSession) → r.node ≡ s.node → r.session.id ≡ s.session.id → ComesFrom a next mid r →
-      ComesFrom a next high s
+        ComesFrom a next high s
     by_first r node id (inl q) = inl (q.0, q.1, q.2 ∙ node, q.3 ∙ id)
     by_first r node id (inr n) = inr (omega (arith, n.0, id), omega (arith, n.1, id, up))
 
@@ -219,41 +215,41 @@ tables-then t u v h k = record {
   next = omega (arith, h.next, k.next);
   nodes = ids-then node_id t.next_id u.next_id v.next_id t.nodes u.nodes v.nodes h.next k.next h.nodes k.nodes;
   services =
-    ids-then service_id t.next_id u.next_id v.next_id t.services u.services v.services h.next k.next
-    h.services k.services;
+      ids-then service_id t.next_id u.next_id v.next_id t.services u.services v.services h.next k.next
+      h.services k.services;
   tasks =
-    turns-then task_id TaskMoves IsGood task-then (λ x y m. m.id) good-moves t.next_id u.next_id v.next_id
-    t.tasks u.tasks v.tasks h.next k.next h.tasks k.tasks;
+      turns-then task_id TaskMoves IsGood task-then (λ x y m. m.id) good-moves t.next_id u.next_id v.next_id
+      t.tasks u.tasks v.tasks h.next k.next h.tasks k.tasks;
   networks =
-    ids-then network_id t.next_id u.next_id v.next_id t.networks u.networks v.networks h.next k.next
-    h.networks k.networks;
+      ids-then network_id t.next_id u.next_id v.next_id t.networks u.networks v.networks h.next k.next
+      h.networks k.networks;
   sessions =
-    sessions-then t.sessions u.sessions v.sessions t.next_id u.next_id v.next_id h.next k.next h.sessions k.sessions;
+      sessions-then t.sessions u.sessions v.sessions t.next_id u.next_id v.next_id h.next k.next h.sessions k.sessions;
 }
 
 pub moves-then : (w v u : World) → Moves w v → Moves v u → Moves w u
 moves-then w v u h k = record {
   tables = tables-then w.tables v.tables u.tables h.tables k.tables;
   watchers =
-    ids-then watcher_id w.tables.next_id v.tables.next_id u.tables.next_id w.watchers v.watchers u.watchers
-    h.tables.next k.tables.next h.watchers k.watchers;
+      ids-then watcher_id w.tables.next_id v.tables.next_id u.tables.next_id w.watchers v.watchers u.watchers
+      h.tables.next k.tables.next h.watchers k.watchers;
 }
 
 pub orderly-moves : (w v : World) → IsOrderly w → Moves w v → IsOrderly v
 orderly-moves w v is m = record {
   next = omega (arith, is.next, m.tables.next);
   nodes =
-    turns-between node_id (SameId node_id) Any (λ x y h. h) _ _ _ _ is.next m.tables.next is.nodes m.tables.nodes;
+      turns-between node_id (SameId node_id) Any (λ x y h. h) _ _ _ _ is.next m.tables.next is.nodes m.tables.nodes;
   services =
-    turns-between service_id (SameId service_id) Any (λ x y h. h) _ _ _ _ is.next m.tables.next
-    is.services m.tables.services;
+      turns-between service_id (SameId service_id) Any (λ x y h. h) _ _ _ _ is.next m.tables.next
+      is.services m.tables.services;
   tasks =
-    turns-between task_id TaskMoves IsGood (λ x y h. h.id) _ _ _ _ is.next m.tables.next is.tasks m.tables.tasks;
+      turns-between task_id TaskMoves IsGood (λ x y h. h.id) _ _ _ _ is.next m.tables.next is.tasks m.tables.tasks;
   networks =
-    turns-between network_id (SameId network_id) Any (λ x y h. h) _ _ _ _ is.next m.tables.next
-    is.networks m.tables.networks;
+      turns-between network_id (SameId network_id) Any (λ x y h. h) _ _ _ _ is.next m.tables.next
+      is.networks m.tables.networks;
   watchers =
-    turns-between watcher_id (SameId watcher_id) Any (λ x y h. h) _ _ _ _ is.next m.tables.next is.watchers m.watchers;
+      turns-between watcher_id (SameId watcher_id) Any (λ x y h. h) _ _ _ _ is.next m.tables.next is.watchers m.watchers;
   good = λ y h.
       elim (becomes-cases TaskMoves m.tables.tasks.more w.tables.tasks v.tables.tasks m.tables.tasks.rows y h) [
         | inl r ↦ good-moves r.0 y r.2 (is.good r.0 r.1)
