@@ -30,6 +30,7 @@ orderly-empty = record {
   networks = tt;
   watchers = tt;
   good = λ x h. absurd h;
+  subnets = λ n h. absurd h;
 }
 
 pub orderly-replay : (h : List Entry) → IsLegal h → IsOrderly (replay h)

@@ -1,8 +1,8 @@
 -- Tasks rise, and no id comes back, wherever a step is a move.
-use Rattle.std.proofs.Common.{◌≡◌, ℕ, ◌<◌, ◌≤◌, ◌⊎◌, inl, inr, List, [], ◌∷◌, true, refl, sym, ◌∙◌, subst, arith}
+use Rattle.std.proofs.Common.{ap, ◌≡◌, ℕ, ◌<◌, ◌≤◌, ◌⊎◌, inl, inr, List, [], ◌∷◌, true, refl, sym, ◌∙◌, subst, arith}
 use Rattle.std.specs.Prelude.{All, length, slice_index_or, zero, suc}
 use Rattle.swarm_model.proofs.Moves.Rows.{RisesBetween, becomes-cases, between-has, between-one, has_row-Has}
-use Rattle.swarm_model.proofs.Moves.Worlds.{Any, ComesFrom, IsGood, IsOrderly, Moves, SameId, TaskMoves, Turns}
+use Rattle.swarm_model.proofs.Moves.Worlds.{IsSubnet, Stays, Any, ComesFrom, IsGood, IsOrderly, Moves, SameId, TaskMoves, Turns}
 use Rattle.swarm_model.specs.Laws.Rises.{ComeAbove, EachTaskRises, Rises, TaskRises, session_id}
 use Rattle.swarm_objects.specs.Rows.{Has, has_row, network_id, node_id, service_id, task_id, watcher_id}
 use Rattle.swarm_objects.specs.World.{World}
@@ -67,7 +67,8 @@ rises-moves w v is m = record {
         come-above task_id TaskMoves IsGood w.tables.next_id v.tables.next_id w.tables.tasks v.tables.tasks
         (λ x y h. h.id) m.tables.tasks;
     networks =
-        ids-above network_id w.tables.next_id v.tables.next_id w.tables.networks v.tables.networks m.tables.networks;
+        come-above network_id Stays IsSubnet w.tables.next_id v.tables.next_id w.tables.networks v.tables.networks
+        (λ x y h. ap network_id h) m.tables.networks;
     sessions =
         sessions-above w.tables.next_id v.tables.next_id w.tables.sessions v.tables.sessions m.tables.sessions;
     watchers = ids-above watcher_id w.tables.next_id v.tables.next_id w.watchers v.watchers m.watchers;

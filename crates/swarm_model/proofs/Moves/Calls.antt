@@ -8,7 +8,7 @@ use Rattle.swarm_model.proofs.Moves.Operations.{ops-moves}
 use Rattle.swarm_model.proofs.Moves.Rows.{becomes-change_any, becomes-filter, becomes-same}
 use Rattle.swarm_model.proofs.Moves.Sessions.{beat-moves}
 use Rattle.swarm_model.proofs.Moves.Tables.{move-any_task, moves-raised_to}
-use Rattle.swarm_model.proofs.Moves.Worlds.{Any, Moves, SameId, TaskMoves, sessions-same, tables-same, task-same, turns-by, turns-ids, turns-more}
+use Rattle.swarm_model.proofs.Moves.Worlds.{networks-stay, Any, Moves, SameId, TaskMoves, sessions-same, tables-same, task-same, turns-by, turns-ids, turns-more}
 use Rattle.swarm_model.specs.Calls.{answer, answered, call_outcome, ticked, txn_answer, viewed}
 use Rattle.swarm_model.specs.Calls.Remote.{begin_with, given_or, not_admitted, on_remote, on_session, pulled, remote_beat, remote_begin, remote_pull, remote_status, report}
 use Rattle.swarm_model.specs.Calls.Faults.{on_agent}
@@ -65,7 +65,7 @@ watcher-comes entry w f = record {
     nodes = turns-ids w.tables.nodes;
     services = turns-ids w.tables.services;
     tasks = turns-by (becomes-same TaskMoves task-same w.tables.tasks);
-    networks = turns-ids w.tables.networks;
+    networks = networks-stay w.tables.networks;
     sessions = sessions-same w.tables.sessions w.tables.next_id (w.tables.next_id + 1);
   };
   watchers =
@@ -110,7 +110,7 @@ tick-moves w ms =
       nodes = turns-ids w.tables.nodes;
       services = turns-ids w.tables.services;
       tasks = turns-by (becomes-same TaskMoves task-same w.tables.tasks);
-      networks = turns-ids w.tables.networks;
+      networks = networks-stay w.tables.networks;
       sessions = sessions-same w.tables.sessions w.tables.next_id w.tables.next_id;
     }) refl
 

@@ -5,7 +5,7 @@ use Rattle.std.proofs.lemmas.Bool.Decides.{nat_tests}
 use Rattle.swarm_model.proofs.Base.IsDuty.{OfRow}
 use Rattle.swarm_model.proofs.Moves.Rows.{RisesBetween, between-one}
 use Rattle.swarm_model.proofs.Moves.Tables.{desired-least, good-new, move-add, move-any_task, move-new, move-on_service, move-service, move-task, move-where, moves-by, moves-in_state, moves-wanted}
-use Rattle.swarm_model.proofs.Moves.Worlds.{IsGood, TablesMove, TaskMoves, sessions-same, tables-same, tables-then, turns-ids}
+use Rattle.swarm_model.proofs.Moves.Worlds.{networks-stay, IsGood, TablesMove, TaskMoves, sessions-same, tables-same, tables-then, turns-ids}
 use Rattle.swarm_objects.proofs.RowLemmas.{Has-from_row_at}
 use Rattle.swarm_objects.specs.Changes.{change_task, change_where, in_state, noted, on_service, wanted}
 use Rattle.swarm_objects.specs.Loops.Allocator.{gets_address, with_addresses}
@@ -81,7 +81,7 @@ attempt-moves t s p = record {
   nodes = turns-ids t.nodes;
   services = turns-ids t.services;
   tasks = (tables-same t).tasks;
-  networks = turns-ids t.networks;
+  networks = networks-stay t.networks;
   sessions = sessions-same t.sessions t.next_id t.next_id;
 }
 

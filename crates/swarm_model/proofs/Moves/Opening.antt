@@ -5,7 +5,7 @@ use Rattle.swarm_model.proofs.Moves.Duties.{and-left, placed-most}
 use Rattle.swarm_model.proofs.Moves.Rows.{Becomes, becomes-change_any}
 use Rattle.swarm_model.proofs.Moves.Sessions.{opened}
 use Rattle.swarm_model.proofs.Moves.Tables.{moves-in_state}
-use Rattle.swarm_model.proofs.Moves.Worlds.{SameId, TablesMove, TaskMoves, task-same, turns-by, turns-ids}
+use Rattle.swarm_model.proofs.Moves.Worlds.{networks-stay, SameId, TablesMove, TaskMoves, task-same, turns-by, turns-ids}
 use Rattle.swarm_model.specs.Calls.Remote.{Kept, begun_tables, fits_in, keep_or_reject, keep_other, keep_task, tasks_within, with_resources}
 use Rattle.swarm_objects.specs.Changes.{in_state}
 use Rattle.swarm_objects.specs.Nodes.Holdings.{is_placed_on}
@@ -77,6 +77,6 @@ opening-moves version t node cpu mem = record {
       (λ n h. refl));
   services = turns-ids t.services;
   tasks = turns-by (within-becomes version t.clock node cpu mem t.tasks);
-  networks = turns-ids t.networks;
+  networks = networks-stay t.networks;
   sessions = opened t node;
 }

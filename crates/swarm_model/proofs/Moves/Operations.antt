@@ -1,19 +1,20 @@
 -- Every operation is a move.
-use Rattle.std.proofs.Common.{◌≡◌, ℕ, ◌+◌, true, inl, List, [], refl, sym, arith, Option, Some, None, Ok, Err}
-use Rattle.std.specs.Prelude.{not, ◌==◌}
-use Rattle.swarm_model.proofs.Base.Answers.{OnDone, OnGiven, given-found, given-unless, given-unless_some, ops-keep}
+use Rattle.std.proofs.Common.{◌∷◌, ◌≡◌, ℕ, ◌+◌, true, inl, List, [], refl, sym, arith, Option, Some, None, Ok, Err}
+use Rattle.std.specs.Prelude.{find, is_none, not, ◌==◌}
+use Rattle.swarm_model.proofs.Base.Answers.{none_of, OnDone, OnGiven, given-found, given-unless, given-unless_some, ops-keep}
 use Rattle.swarm_model.proofs.Moves.EachDuty.{tables-moves}
 use Rattle.swarm_model.proofs.Moves.Rows.{Becomes, becomes-filter, becomes-same}
 use Rattle.swarm_model.proofs.Moves.Tables.{move-node_at, move-service, move-where, moves-in_state, rank-most}
-use Rattle.swarm_model.proofs.Moves.Worlds.{Any, ComesFrom, Moves, SameId, TablesMove, TaskMoves, moves-then, sessions-same, tables-same, tables-then, task-same, turns-by, turns-ids, turns-more}
+use Rattle.swarm_model.proofs.Moves.Worlds.{IsSubnet, Stays, networks-stay, Any, ComesFrom, Moves, SameId, TablesMove, TaskMoves, moves-then, sessions-same, tables-same, tables-then, task-same, turns-by, turns-ids, turns-more}
 use Rattle.swarm_model.specs.Calls.Networks.{new_network, remove_network, with_network}
 use Rattle.swarm_model.specs.Calls.Nodes.{is_left_behind, new_node, remove_node, respecified_node, tables_without_node, update_node, with_node, without_node}
 use Rattle.swarm_model.specs.Calls.Operations.{apply_op, apply_ops}
-use Rattle.swarm_model.specs.Calls.Refusals.{Done, conflict, network_by, node_by, service_by}
+use Rattle.swarm_model.specs.Calls.Refusals.{bad_spec, first_refusal, Done, conflict, network_by, node_by, service_by}
 use Rattle.swarm_model.specs.Calls.Services.{go_back, new_service, put_service, remove_service, respecified, rollback_service, update_service, with_service, without_service}
 use Rattle.swarm_objects.proofs.RowLemmas.{Has-filter_cases}
 use Rattle.swarm_objects.specs.Changes.{in_state, with_tables}
 use Rattle.swarm_objects.specs.Rows.{Has, drop_row, network_id, node_id, service_id, session_node}
+use Rattle.swarm_objects.specs.Rules.Networks.{subnet_breaks, subnet_rules}
 use Rattle.swarm_objects.specs.World.{Tables, World}
 use Rattle.swarm_objects.specs.declared.calls.Op.{Op}
 use Rattle.swarm_objects.specs.declared.calls.Op.TheVariants as op
@@ -21,6 +22,8 @@ use Rattle.swarm_objects.specs.declared.ids.Kind.TheVariants as kind
 use Rattle.swarm_objects.specs.declared.networks.Network.{Network}
 use Rattle.swarm_objects.specs.declared.nodes.Node.{Node}
 use Rattle.swarm_objects.specs.declared.replies.Wanted.TheVariants as wanted_by
+use Rattle.swarm_objects.specs.declared.replies.Refusal.{Refusal}
+use Rattle.swarm_objects.specs.declared.rules.SpecRule.{SpecRule}
 use Rattle.swarm_objects.specs.declared.services.Service.{Service}
 use Rattle.swarm_objects.specs.declared.services.ServiceSpec.{ServiceSpec}
 use Rattle.swarm_objects.specs.declared.sessions.NodeSession.{NodeSession}
@@ -41,7 +44,7 @@ node-comes w n id = record {
         (becomes-same (SameId node_id) (λ x. refl) w.tables.nodes) id tt;
     services = turns-ids w.tables.services;
     tasks = turns-by (becomes-same TaskMoves task-same w.tables.tasks);
-    networks = turns-ids w.tables.networks;
+    networks = networks-stay w.tables.networks;
     sessions = sessions-same w.tables.sessions w.tables.next_id (w.tables.next_id + 1);
   };
   watchers = turns-ids w.watchers;
@@ -55,21 +58,32 @@ service-comes t s id = record {
       turns-more service_id (SameId service_id) Any t.next_id t.services t.services s
       (becomes-same (SameId service_id) (λ x. refl) t.services) id tt;
   tasks = turns-by (becomes-same TaskMoves task-same t.tasks);
-  networks = turns-ids t.networks;
+  networks = networks-stay t.networks;
   sessions = sessions-same t.sessions t.next_id (t.next_id + 1);
 }
 
-network-comes : (t : Tables) (n : Network) → n.id ≡ t.next_id → TablesMove t (with_network t n)
-network-comes t n id = record {
+network-comes : (t : Tables) (n : Network) → n.id ≡ t.next_id → IsSubnet n → TablesMove t (with_network t n)
+network-comes t n id subnet = record {
   next = omega arith;
   nodes = turns-ids t.nodes;
   services = turns-ids t.services;
   tasks = turns-by (becomes-same TaskMoves task-same t.tasks);
   networks =
-      turns-more network_id (SameId network_id) Any t.next_id t.networks t.networks n
-      (becomes-same (SameId network_id) (λ x. refl) t.networks) id tt;
+      turns-more network_id Stays IsSubnet t.next_id t.networks t.networks n
+      (becomes-same Stays (λ x. refl) t.networks) id subnet;
   sessions = sessions-same t.sessions t.next_id (t.next_id + 1);
 }
+
+-- a subnet that isn't refused breaks no rule
+subnet-is : (n : Network) (rest : List (Option Refusal)) →
+    first_refusal (bad_spec (find (subnet_breaks n.base n.length) subnet_rules) ∷ rest) ≡ None → IsSubnet n
+subnet-is n rest e =
+    go (find (subnet_breaks n.base n.length) subnet_rules)
+    (none_of (bad_spec (find (subnet_breaks n.base n.length) subnet_rules)) rest e).0
+  where
+    go : (o : Option SpecRule) → bad_spec o ≡ None → is_none o ≡ true
+    go None k = refl
+    go (Some r) k = absurd cc
 
 -- An object goes.
 
@@ -85,7 +99,7 @@ node-goes t id = record {
   nodes = turns-by (dropped node_id id t.nodes);
   services = turns-ids t.services;
   tasks = turns-by (becomes-same TaskMoves task-same t.tasks);
-  networks = turns-ids t.networks;
+  networks = networks-stay t.networks;
   sessions = sessions-left id t.sessions t.next_id t.next_id;
 }
 
@@ -102,7 +116,7 @@ service-goes t id = record {
   nodes = turns-ids t.nodes;
   services = turns-by (dropped service_id id t.services);
   tasks = turns-by (becomes-same TaskMoves task-same t.tasks);
-  networks = turns-ids t.networks;
+  networks = networks-stay t.networks;
   sessions = sessions-same t.sessions t.next_id t.next_id;
 }
 
@@ -112,7 +126,7 @@ network-goes t id = record {
   nodes = turns-ids t.nodes;
   services = turns-ids t.services;
   tasks = turns-by (becomes-same TaskMoves task-same t.tasks);
-  networks = turns-by (dropped network_id id t.networks);
+  networks = turns-by (becomes-filter Stays (λ n. not (network_id n == id)) (λ n. refl) t.networks);
   sessions = sessions-same t.sessions t.next_id t.next_id;
 }
 
@@ -122,7 +136,7 @@ settings-move t settings = record {
   nodes = turns-ids t.nodes;
   services = turns-ids t.services;
   tasks = turns-by (becomes-same TaskMoves task-same t.tasks);
-  networks = turns-ids t.networks;
+  networks = networks-stay t.networks;
   sessions = sessions-same t.sessions t.next_id t.next_id;
 }
 
@@ -170,7 +184,8 @@ op-moves version w (op.RollbackService name asked) =
     (λ ok. goes-back version w s s.previous))
 op-moves version w (op.CreateNetwork name base bits) =
     given-unless (λ (d : World × ℕ). Moves w d.0) _ _
-    (λ e. with-tables w _ (network-comes w.tables (new_network version w.tables.next_id name base bits) refl))
+    (λ e. with-tables w _ (network-comes w.tables (new_network version w.tables.next_id name base bits) refl
+        (subnet-is (new_network version w.tables.next_id name base bits) _ e)))
 op-moves version w (op.RemoveNetwork name) =
     given-found (λ (d : World × ℕ). Moves w d.0) kind.Network (wanted_by.Name name) (network_by w.tables name)
     (remove_network w)

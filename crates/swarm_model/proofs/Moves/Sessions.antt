@@ -1,7 +1,7 @@
 -- A session opens, or a beat moves its deadline.
 use Rattle.std.proofs.Common.{◌≡◌, ℕ, ◌+◌, Bool, true, false, cond, eqb, ltb, ◌⊎◌, inl, inr, List, [], ◌∷◌, refl, ap, arith}
 use Rattle.swarm_model.proofs.Moves.Rows.{becomes-change_any, becomes-same}
-use Rattle.swarm_model.proofs.Moves.Worlds.{ComesFrom, SameId, TablesMove, TaskMoves, task-same, turns-by, turns-ids}
+use Rattle.swarm_model.proofs.Moves.Worlds.{networks-stay, ComesFrom, SameId, TablesMove, TaskMoves, task-same, turns-by, turns-ids}
 use Rattle.swarm_objects.proofs.RowLemmas.{Has-map_cases}
 use Rattle.swarm_objects.specs.Loops.Agents.{after_beat, beaten}
 use Rattle.swarm_objects.specs.Nodes.Sessions.{new_session, ready_node, registered}
@@ -42,7 +42,7 @@ register-moves version t node = record {
       turns-by (becomes-change_any (SameId node_id) node_id node (ready_node version) t.nodes (λ n. refl) (λ n h. refl));
   services = turns-ids t.services;
   tasks = turns-by (becomes-same TaskMoves task-same t.tasks);
-  networks = turns-ids t.networks;
+  networks = networks-stay t.networks;
   sessions = opened t node;
 }
 
@@ -63,6 +63,6 @@ beat-moves t node = record {
   nodes = turns-ids t.nodes;
   services = turns-ids t.services;
   tasks = turns-by (becomes-same TaskMoves task-same t.tasks);
-  networks = turns-ids t.networks;
+  networks = networks-stay t.networks;
   sessions = beat-from t node;
 }

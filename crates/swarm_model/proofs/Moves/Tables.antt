@@ -3,7 +3,7 @@ use Rattle.std.proofs.Common.{◌≡◌, ℕ, ◌+◌, ◌≤◌, Bool, true, fa
 use Rattle.std.specs.Prelude.{map, not, ◌==◌}
 use Rattle.std.proofs.lemmas.Bool.Decides.{nat_tests}
 use Rattle.swarm_model.proofs.Moves.Rows.{Becomes, RisesBetween, becomes-change, becomes-change_any, becomes-change_at, becomes-filter, becomes-same, becomes-where}
-use Rattle.swarm_model.proofs.Moves.Worlds.{IsGood, SameId, TablesMove, TaskMoves, sessions-same, tables-same, task-moves, task-same, turns-by, turns-ids, turns-more}
+use Rattle.swarm_model.proofs.Moves.Worlds.{networks-stay, IsGood, SameId, TablesMove, TaskMoves, sessions-same, tables-same, task-moves, task-same, turns-by, turns-ids, turns-more}
 use Rattle.swarm_model.specs.Laws.Rises.{KeepsMaking}
 use Rattle.swarm_objects.specs.Changes.{change_node, change_service, change_task, change_where, in_state, on_service, raised_to, wanted, with_new, without_place}
 use Rattle.swarm_objects.specs.Rows.{Has, change_row, drop_row, node_id, on_row, row_at, service_id, task_id}
@@ -102,7 +102,7 @@ move-tasks t tasks rows = record {
   nodes = turns-ids t.nodes;
   services = turns-ids t.services;
   tasks = turns-by rows;
-  networks = turns-ids t.networks;
+  networks = networks-stay t.networks;
   sessions = sessions-same t.sessions t.next_id t.next_id;
 }
 
@@ -113,7 +113,7 @@ move-services t services rows = record {
   nodes = turns-ids t.nodes;
   services = turns-by rows;
   tasks = turns-by (becomes-same TaskMoves task-same t.tasks);
-  networks = turns-ids t.networks;
+  networks = networks-stay t.networks;
   sessions = sessions-same t.sessions t.next_id t.next_id;
 }
 
@@ -124,7 +124,7 @@ move-nodes t nodes rows = record {
   nodes = turns-by rows;
   services = turns-ids t.services;
   tasks = turns-by (becomes-same TaskMoves task-same t.tasks);
-  networks = turns-ids t.networks;
+  networks = networks-stay t.networks;
   sessions = sessions-same t.sessions t.next_id t.next_id;
 }
 
@@ -186,7 +186,7 @@ move-add t x id good = record {
   services = turns-ids t.services;
   tasks =
       turns-more task_id TaskMoves IsGood t.next_id t.tasks t.tasks x (becomes-same TaskMoves task-same t.tasks) id good;
-  networks = turns-ids t.networks;
+  networks = networks-stay t.networks;
   sessions = sessions-same t.sessions t.next_id (t.next_id + 1);
 }
 

@@ -1,13 +1,15 @@
 -- What a step does to a world: each table's rows change, go and come.
-use Rattle.std.proofs.Common.{◌≡◌, ℕ, ◌+◌, ◌<◌, ◌≤◌, ◌⊎◌, inl, inr, List, [], ◌∷◌, ◌++◌, refl, sym, ap, ◌∙◌, subst, arith, Option, Some, None}
+use Rattle.std.proofs.Common.{true, ◌≡◌, ℕ, ◌+◌, ◌<◌, ◌≤◌, ◌⊎◌, inl, inr, List, [], ◌∷◌, ◌++◌, refl, sym, ap, ◌∙◌, subst, arith, Option, Some, None}
 use Rattle.std.specs.Prelude.{⊤}
 use Rattle.swarm_model.proofs.Moves.Rows.{Becomes, RisesBetween, becomes-cases, becomes-more, becomes-same, becomes-then, between-becomes}
 use Rattle.swarm_model.specs.Laws.Rises.{KeepsMaking, KeepsNode, TaskRises}
 use Rattle.swarm_objects.specs.Rows.{Has, network_id, node_id, service_id, task_id, watcher_id}
+use Rattle.swarm_objects.specs.Sound.{is_subnet}
 use Rattle.swarm_objects.specs.Tasks.New.{bound_node}
 use Rattle.swarm_objects.specs.Values.Ranks.{desired_rank, rank}
 use Rattle.swarm_objects.specs.World.{Tables, World}
 use Rattle.swarm_objects.specs.declared.sessions.NodeSession.{NodeSession}
+use Rattle.swarm_objects.specs.declared.networks.Network.{Network}
 use Rattle.swarm_objects.specs.declared.tasks.Desired.TheVariants as desired
 use Rattle.swarm_objects.specs.declared.tasks.Task.{Task}
 use Rattle.swarm_objects.specs.declared.tasks.TaskState.TheVariants as state
@@ -103,6 +105,13 @@ pub record Turns {X : Type 0} (key : X → ℕ) (R : X → X → Type 0) (Asked 
 abbrev pub Any : {X : Type 0} → X → Type 0
 Any x = ⊤
 
+-- a network stays as it is, and its subnet breaks no rule
+abbrev pub Stays : Network → Network → Type 0
+Stays x y = y ≡ x
+
+abbrev pub IsSubnet : Network → Type 0
+IsSubnet n = is_subnet n ≡ true
+
 -- a session is one that was there, of its node, or one with a new id
 abbrev pub ComesFrom : List NodeSession → ℕ → ℕ → NodeSession → Type 0
 ComesFrom old next high s =
@@ -114,7 +123,7 @@ pub record TablesMove (t u : Tables) : Type 0 where
   pub nodes : Turns node_id (SameId node_id) Any t.next_id u.next_id t.nodes u.nodes
   pub services : Turns service_id (SameId service_id) Any t.next_id u.next_id t.services u.services
   pub tasks : Turns task_id TaskMoves IsGood t.next_id u.next_id t.tasks u.tasks
-  pub networks : Turns network_id (SameId network_id) Any t.next_id u.next_id t.networks u.networks
+  pub networks : Turns network_id Stays IsSubnet t.next_id u.next_id t.networks u.networks
   pub sessions : (s : NodeSession) → Has u.sessions s → ComesFrom t.sessions t.next_id u.next_id s
 
 pub record Moves (w v : World) : Type 0 where
@@ -130,6 +139,7 @@ pub record IsOrderly (w : World) : Type 0 where
   pub networks : RisesBetween network_id 1 w.tables.next_id w.tables.networks
   pub watchers : RisesBetween watcher_id 1 w.tables.next_id w.watchers
   pub good : (x : Task) → Has w.tables.tasks x → IsGood x
+  pub subnets : (n : Network) → Has w.tables.networks n → IsSubnet n
 
 -- Turns.
 
@@ -140,6 +150,9 @@ turns-by rows = record { more = []; rows = rows; fresh = tt; asked = λ x h. abs
 
 pub turns-ids : {X : Type 0} {key : X → ℕ} {next high : ℕ} (rows : List X) → Turns key (SameId key) Any next high rows rows
 turns-ids {key = key} rows = turns-by (becomes-same (SameId key) (λ x. refl) rows)
+
+pub networks-stay : {next high : ℕ} (rows : List Network) → Turns network_id Stays IsSubnet next high rows rows
+networks-stay rows = turns-by (becomes-same Stays (λ x. refl) rows)
 
 -- one row comes, with the next number
 pub turns-more : {X : Type 0} (key : X → ℕ) (R : X → X → Type 0) (Asked : X → Type 0) (next : ℕ) (old new : List X) (x : X) →
@@ -192,7 +205,7 @@ tables-same t = record {
   nodes = turns-ids t.nodes;
   services = turns-ids t.services;
   tasks = turns-by (becomes-same TaskMoves task-same t.tasks);
-  networks = turns-ids t.networks;
+  networks = networks-stay t.networks;
   sessions = sessions-same t.sessions t.next_id t.next_id;
 }
 
@@ -221,8 +234,9 @@ tables-then t u v h k = record {
       turns-then task_id TaskMoves IsGood task-then (λ x y m. m.id) good-moves t.next_id u.next_id v.next_id
       t.tasks u.tasks v.tasks h.next k.next h.tasks k.tasks;
   networks =
-      ids-then network_id t.next_id u.next_id v.next_id t.networks u.networks v.networks h.next k.next
-      h.networks k.networks;
+      turns-then network_id Stays IsSubnet (λ x y z h k. k ∙ h) (λ x y h. ap network_id h)
+      (λ x y e is. subst IsSubnet (sym e) is) t.next_id u.next_id v.next_id t.networks u.networks v.networks
+      h.next k.next h.networks k.networks;
   sessions =
       sessions-then t.sessions u.sessions v.sessions t.next_id u.next_id v.next_id h.next k.next h.sessions k.sessions;
 }
@@ -246,7 +260,7 @@ orderly-moves w v is m = record {
   tasks =
       turns-between task_id TaskMoves IsGood (λ x y h. h.id) _ _ _ _ is.next m.tables.next is.tasks m.tables.tasks;
   networks =
-      turns-between network_id (SameId network_id) Any (λ x y h. h) _ _ _ _ is.next m.tables.next
+      turns-between network_id Stays IsSubnet (λ x y h. ap network_id h) _ _ _ _ is.next m.tables.next
       is.networks m.tables.networks;
   watchers =
       turns-between watcher_id (SameId watcher_id) Any (λ x y h. h) _ _ _ _ is.next m.tables.next is.watchers m.watchers;
@@ -254,5 +268,10 @@ orderly-moves w v is m = record {
       elim (becomes-cases TaskMoves m.tables.tasks.more w.tables.tasks v.tables.tasks m.tables.tasks.rows y h) [
         | inl r ↦ good-moves r.0 y r.2 (is.good r.0 r.1)
         | inr x ↦ m.tables.tasks.asked y x
+      ];
+  subnets = λ y h.
+      elim (becomes-cases Stays m.tables.networks.more w.tables.networks v.tables.networks m.tables.networks.rows y h) [
+        | inl r ↦ subst IsSubnet (sym r.2) (is.subnets r.0 r.1)
+        | inr x ↦ m.tables.networks.asked y x
       ];
 }
