@@ -1,0 +1,6 @@
+pub mod Answers
+pub mod DutyLists
+pub mod FromLists
+pub mod Histories
+pub mod IsDuty
+pub mod ToLists

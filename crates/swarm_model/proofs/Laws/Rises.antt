@@ -1,0 +1,77 @@
+-- Tasks rise, and no id comes back, wherever a step is a move.
+use Rattle.std.proofs.Common.{ap, ◌≡◌, ℕ, ◌<◌, ◌≤◌, ◌⊎◌, inl, inr, List, [], ◌∷◌, true, refl, sym, ◌∙◌, subst, arith}
+use Rattle.std.specs.Prelude.{All, length, slice_index_or, zero, suc}
+use Rattle.swarm_model.proofs.Moves.Rows.{RisesBetween, becomes-cases, between-has, between-one, has_row-Has}
+use Rattle.swarm_model.proofs.Moves.Worlds.{IsSubnet, Stays, Any, ComesFrom, IsGood, IsOrderly, Moves, SameId, TaskMoves, Turns}
+use Rattle.swarm_model.specs.Laws.Rises.{ComeAbove, EachTaskRises, Rises, TaskRises, session_id}
+use Rattle.swarm_objects.specs.Rows.{Has, has_row, network_id, node_id, service_id, task_id, watcher_id}
+use Rattle.swarm_objects.specs.World.{World}
+use Rattle.swarm_objects.specs.declared.sessions.NodeSession.{NodeSession}
+use Rattle.swarm_objects.specs.declared.tasks.Task.{Task}
+
+has-index : {X : Type 0} (xs : List X) (k : ℕ) (d : X) → k < length xs → Has xs (slice_index_or xs k d)
+has-index [] k d less = absurd (omega (arith, less))
+has-index (x ∷ xs) zero d less = inl refl
+has-index (x ∷ xs) (suc k) d less = inr (has-index xs k d (omega (arith, less)))
+
+all-has : {X : Type 0} (P : X → Type 0) (xs : List X) → ((x : X) → Has xs x → P x) → All P xs
+all-has P xs each = λ k d less. each (slice_index_or xs k d) (has-index xs k d less)
+
+come-above : {X : Type 0} (key : X → ℕ) (R : X → X → Type 0) (Asked : X → Type 0) (next high : ℕ) (old new : List X) →
+    ((x y : X) → R x y → key y ≡ key x) → Turns key R Asked next high old new → ComeAbove key next old new
+come-above key R Asked next high old new keeps turns =
+    all-has (λ row. (has_row key (key row) old ≡ true) ⊎ (next ≤ key row)) new (λ y h. go y (becomes-cases R turns.more old new turns.rows y h))
+  where
+    go : (y : _) → ((x : _) × Has old x × R x y) ⊎ Has turns.more y →
+        (has_row key (key y) old ≡ true) ⊎ (next ≤ key y)
+    go y (inl r) = inl (has_row-Has key old r.0 (key y) r.1 (sym (keeps r.0 y r.2)))
+    go y (inr m) = inr (between-has key next high turns.more y turns.fresh m).0
+
+sessions-above : (next high : ℕ) (old new : List NodeSession) →
+    ((s : NodeSession) → Has new s → ComesFrom old next high s) → ComeAbove session_id next old new
+sessions-above next high old new each =
+    all-has (λ row. (has_row session_id (session_id row) old ≡ true) ⊎ (next ≤ session_id row)) new (λ s h. go s (each s h))
+  where
+    go : (s : NodeSession) → ComesFrom old next high s →
+        (has_row session_id (session_id s) old ≡ true) ⊎ (next ≤ session_id s)
+    go s (inl r) = inl (has_row-Has session_id old r.0 (session_id s) r.1 r.3)
+    go s (inr n) = inr n.0
+
+tasks-rise : (next high : ℕ) (old new : List Task) → RisesBetween task_id 1 next old →
+    Turns task_id TaskMoves IsGood next high old new → EachTaskRises old new
+tasks-rise next high old new rises turns x y hx hy same =
+    go (becomes-cases TaskMoves turns.more old new turns.rows y hy)
+  where
+    go : ((z : Task) × Has old z × TaskMoves z y) ⊎ Has turns.more y → TaskRises x y
+    go (inl r) =
+        let is : r.0 ≡ x = between-one task_id 1 next old r.0 x rises r.1 hx (sym r.2.id ∙ sym same) in
+        subst (λ z. TaskRises z y) is r.2.rises
+    go (inr m) =
+        let above = between-has task_id next high turns.more y turns.fresh m in
+        let below = between-has task_id 1 next old x rises hx in
+        absurd (omega (arith, above.0, below.1, same))
+
+ids-above : {X : Type 0} (key : X → ℕ) (next high : ℕ) (old new : List X) → Turns key (SameId key) Any next high old new →
+    ComeAbove key next old new
+ids-above key next high old new turns = come-above key (SameId key) Any next high old new (λ x y h. h) turns
+
+-- every move of an orderly world is a rise
+pub rises-moves : (w v : World) → IsOrderly w → Moves w v → Rises w v
+rises-moves w v is m = record {
+  tasks = tasks-rise w.tables.next_id v.tables.next_id w.tables.tasks v.tables.tasks is.tasks m.tables.tasks;
+  ids = record {
+    nodes = ids-above node_id w.tables.next_id v.tables.next_id w.tables.nodes v.tables.nodes m.tables.nodes;
+    services =
+        ids-above service_id w.tables.next_id v.tables.next_id w.tables.services v.tables.services m.tables.services;
+    tasks =
+        come-above task_id TaskMoves IsGood w.tables.next_id v.tables.next_id w.tables.tasks v.tables.tasks
+        (λ x y h. h.id) m.tables.tasks;
+    networks =
+        come-above network_id Stays IsSubnet w.tables.next_id v.tables.next_id w.tables.networks v.tables.networks
+        (λ x y h. ap network_id h) m.tables.networks;
+    sessions =
+        sessions-above w.tables.next_id v.tables.next_id w.tables.sessions v.tables.sessions m.tables.sessions;
+    watchers = ids-above watcher_id w.tables.next_id v.tables.next_id w.watchers v.watchers m.watchers;
+    next_id = m.tables.next;
+  };
+}

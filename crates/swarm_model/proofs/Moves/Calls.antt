@@ -1,0 +1,205 @@
+-- Every call is a move.
+use Rattle.std.proofs.Common.{ℕ, ◌+◌, ◌*◌, Bool, true, false, cond, List, refl, arith, Option, Some, None, Result, Ok, Err, length, nat_lt}
+use Rattle.std.specs.Prelude.{not, ◌==◌}
+use Rattle.swarm_model.proofs.Base.Answers.{OnGiven, given-found, given-if, given-if_not, given-unless, given-unless_some}
+use Rattle.swarm_model.proofs.Moves.EachDuty.{entered-moves, tables-moves, with-tables}
+use Rattle.swarm_model.proofs.Moves.Opening.{opening-moves}
+use Rattle.swarm_model.proofs.Moves.Operations.{ops-moves}
+use Rattle.swarm_model.proofs.Moves.Rows.{becomes-change_any, becomes-filter, becomes-same}
+use Rattle.swarm_model.proofs.Moves.Sessions.{beat-moves}
+use Rattle.swarm_model.proofs.Moves.Tables.{move-any_task, moves-raised_to}
+use Rattle.swarm_model.proofs.Moves.Worlds.{networks-stay, Any, Moves, SameId, TaskMoves, sessions-same, tables-same, task-same, turns-by, turns-ids, turns-more}
+use Rattle.swarm_model.specs.Calls.{answer, answered, call_outcome, ticked, txn_answer, viewed}
+use Rattle.swarm_model.specs.Calls.Remote.{begin_with, given_or, not_admitted, on_remote, on_session, pulled, remote_beat, remote_begin, remote_pull, remote_status, report}
+use Rattle.swarm_model.specs.Calls.Faults.{on_agent}
+use Rattle.swarm_model.specs.Calls.Refusals.{found, node_by}
+use Rattle.swarm_model.specs.Calls.Views.{View, shows}
+use Rattle.swarm_model.specs.Calls.Watches.{new_watcher, polled, told_all, told_at, waiting_events, watch_finish, watch_poll, with_watcher, without_watcher}
+use Rattle.swarm_model.specs.Outcome.{Answered}
+use Rattle.swarm_objects.specs.Agents.Messages.{message_for}
+use Rattle.swarm_objects.specs.Changes.{with_tables}
+use Rattle.swarm_objects.specs.Limits.{most_events, most_ops}
+use Rattle.swarm_objects.specs.Loops.Agents.{after_beat, change_agent}
+use Rattle.swarm_objects.specs.Nodes.Sessions.{session_of}
+use Rattle.swarm_objects.specs.Rows.{row_at, task_id, watcher_id}
+use Rattle.swarm_objects.specs.World.{World}
+use Rattle.swarm_objects.specs.declared.agents.NodeAgent.{NodeAgent}
+use Rattle.swarm_objects.specs.declared.calls.Call.{Call}
+use Rattle.swarm_objects.specs.declared.calls.Call.TheVariants as call
+use Rattle.swarm_objects.specs.declared.ids.Kind.TheVariants as kind
+use Rattle.swarm_objects.specs.declared.messages.Message.{Message}
+use Rattle.swarm_objects.specs.declared.nodes.Node.{Node}
+use Rattle.swarm_objects.specs.declared.replies.Refusal.{Refusal}
+use Rattle.swarm_objects.specs.declared.replies.Refusal.TheVariants as refusal
+use Rattle.swarm_objects.specs.declared.replies.Reply.{Reply}
+use Rattle.swarm_objects.specs.declared.replies.Reply.TheVariants as reply
+use Rattle.swarm_objects.specs.declared.replies.Wanted.TheVariants as wanted_by
+use Rattle.swarm_objects.specs.declared.tasks.Task.{Task}
+use Rattle.swarm_objects.specs.declared.tasks.TaskState.{TaskState}
+use Rattle.swarm_objects.specs.declared.watches.Event.{Event}
+use Rattle.swarm_objects.specs.declared.watches.Filter.{Filter}
+use Rattle.swarm_objects.specs.declared.watches.Watcher.{Watcher}
+
+-- where the call is answered, its world is a move
+abbrev Answers : World → Answered → Type 0
+Answers w given = OnGiven (λ (d : Reply × World). Moves w d.1) given
+
+same : (w : World) → Moves w w
+same w = tables-moves w w (tables-same w.tables) refl
+
+txn-answers : (w : World) (r : Result (World × List ℕ) Refusal) → OnGiven (λ (d : World × List ℕ). Moves w d.0) r →
+    Answers w (txn_answer r)
+txn-answers w (Ok done) moves = moves
+txn-answers w (Err r) moves = tt
+
+view-answers : (w : World) (v : View) → Answers w (viewed w v)
+view-answers w (Ok v) = same w
+view-answers w (Err r) = tt
+
+-- Watchers.
+
+watcher-comes : (entry : ℕ) (w : World) (f : Filter) → Moves w (with_watcher entry w f)
+watcher-comes entry w f = record {
+  tables = record {
+    next = omega arith;
+    nodes = turns-ids w.tables.nodes;
+    services = turns-ids w.tables.services;
+    tasks = turns-by (becomes-same TaskMoves task-same w.tables.tasks);
+    networks = networks-stay w.tables.networks;
+    sessions = sessions-same w.tables.sessions w.tables.next_id (w.tables.next_id + 1);
+  };
+  watchers =
+      turns-more watcher_id (SameId watcher_id) Any w.tables.next_id w.watchers w.watchers
+      (new_watcher entry w.tables.next_id f) (becomes-same (SameId watcher_id) (λ x. refl) w.watchers) refl tt;
+}
+
+watcher-goes : (id : ℕ) (w : World) → Moves w (without_watcher id w)
+watcher-goes id w = record {
+  tables = tables-same w.tables;
+  watchers = turns-by (becomes-filter (SameId watcher_id) (λ x. not (watcher_id x == id)) (λ x. refl) w.watchers);
+}
+
+watcher-told : (entry id : ℕ) (w : World) → Moves w (told_at entry id w)
+watcher-told entry id w = record {
+  tables = tables-same w.tables;
+  watchers =
+      turns-by (becomes-change_any (SameId watcher_id) watcher_id id (told_all entry) w.watchers (λ x. refl) (λ x h. refl));
+}
+
+polled-moves : (entry : ℕ) (w : World) (id : ℕ) (events : List Event) → Moves w (polled entry w id events).1
+polled-moves entry w id events = go (nat_lt most_events (length events))
+  where
+    go : (lagged : Bool) → Moves w (cond {A = Reply × World} lagged (reply.Refused (refusal.Lagged (length events)), without_watcher id w) (reply.Events events, told_at entry id w)).1
+    go true = watcher-goes id w
+    go false = watcher-told entry id w
+
+poll-answers : (entry : ℕ) (w : World) (id : ℕ) (x : Option Watcher) → Answers w (watch_poll entry w id x)
+poll-answers entry w id None = tt
+poll-answers entry w id (Some x) = polled-moves entry w id (waiting_events w x)
+
+finish-answers : (w : World) (id : ℕ) (x : Option Watcher) → Answers w (watch_finish w id x)
+finish-answers w id None = tt
+finish-answers w id (Some x) = watcher-goes id w
+
+-- Time and agents.
+
+tick-moves : (w : World) (ms : ℕ) → Moves w (ticked w ms)
+tick-moves w ms =
+    tables-moves w (ticked w ms) (record {
+      next = omega arith;
+      nodes = turns-ids w.tables.nodes;
+      services = turns-ids w.tables.services;
+      tasks = turns-by (becomes-same TaskMoves task-same w.tables.tasks);
+      networks = networks-stay w.tables.networks;
+      sessions = sessions-same w.tables.sessions w.tables.next_id w.tables.next_id;
+    }) refl
+
+agent-answers : (w : World) (name : List ℕ) (change : NodeAgent → NodeAgent) → Answers w (on_agent w name change)
+agent-answers w name change =
+    given-found (λ (d : Reply × World). Moves w d.1) kind.Node (wanted_by.Name name) (node_by w.tables name)
+    (λ n. cond n.remote (Err (refusal.WrongKind n.id)) (Ok (reply.AgentDone n.id, change_agent n.id change w)))
+    (λ (n : Node) e. given-if_not (λ (d : Reply × World). Moves w d.1) n.remote
+    (Ok (reply.AgentDone n.id, change_agent n.id change w)) (refusal.WrongKind n.id)
+    (λ k. tables-moves w (change_agent n.id change w) (tables-same w.tables) refl))
+
+-- Remote nodes.
+
+remote-answers : (w : World) (name : List ℕ) (next : Node → Answered) → ((n : Node) → Answers w (next n)) →
+    Answers w (on_remote w.tables name next)
+remote-answers w name next each =
+    given-found (λ (d : Reply × World). Moves w d.1) kind.Node (wanted_by.Name name) (node_by w.tables name)
+    (λ n. cond n.remote (next n) (Err (refusal.WrongKind n.id)))
+    (λ (n : Node) e. given-if (λ (d : Reply × World). Moves w d.1) n.remote (next n) (refusal.WrongKind n.id) (λ k. each n))
+
+session-answers : (w : World) (name : List ℕ) (session : ℕ) (next : Node → Answered) → ((n : Node) → Answers w (next n)) →
+    Answers w (on_session w.tables name session next)
+session-answers w name session next each =
+    remote-answers w name
+    (λ n. elim (not_admitted w.tables.clock session (session_of w.tables n.id)) [ Some r ↦ Err r | None ↦ next n ])
+    (λ n. given-unless_some (λ (d : Reply × World). Moves w d.1)
+    (not_admitted w.tables.clock session (session_of w.tables n.id)) (next n) (λ e. each n))
+
+begin-answers : (version : ℕ) (w : World) (name : List ℕ) (cpu mem : Option ℕ) →
+    Answers w (remote_begin version w name cpu mem)
+begin-answers version w name cpu mem =
+    remote-answers w name (λ n. begin_with version w n.id (given_or cpu n.cpu) (given_or mem n.mem))
+    (λ n. given-unless (λ (d : Reply × World). Moves w d.1) _ _
+    (λ e. tables-moves w _
+    (opening-moves version w.tables n.id (given_or cpu n.cpu) (given_or mem n.mem)) refl))
+
+beat-answers : (w : World) (name : List ℕ) (session : ℕ) → Answers w (remote_beat w name session)
+beat-answers w name session =
+    session-answers w name session
+    (λ n. Ok (reply.Beat (w.tables.clock + 3 * w.tables.settings.heartbeat), with_tables w (after_beat w.tables n.id)))
+    (λ n. with-tables w _ (beat-moves w.tables n.id))
+
+pulled-moves : (w : World) (node : ℕ) (m : Option Message) → Moves w (pulled w node m)
+pulled-moves w node None = same w
+pulled-moves w node (Some m) = tables-moves w (pulled w node (Some m)) (tables-same w.tables) refl
+
+pull-answers : (w : World) (name : List ℕ) (session : ℕ) → Answers w (remote_pull w name session)
+pull-answers w name session = session-answers w name session
+    (λ n. Ok (reply.Pulled (message_for w n.id), pulled w n.id (message_for w n.id)))
+    (λ n. pulled-moves w n.id (message_for w n.id))
+
+status-answers : (version : ℕ) (w : World) (name : List ℕ) (session task : ℕ) (s : TaskState) →
+    Answers w (remote_status version w name session task s)
+status-answers version w name session task s =
+    session-answers w name session
+    (λ n. found kind.Task (wanted_by.Id task) (row_at task_id task w.tables.tasks) (report version w n.id s))
+    (λ n. given-found (λ (d : Reply × World). Moves w d.1) kind.Task (wanted_by.Id task)
+    (row_at task_id task w.tables.tasks) (report version w n.id s)
+    (λ (x : Task) e. given-unless (λ (d : Reply × World). Moves w d.1) _ _
+    (λ ok. with-tables w _
+    (move-any_task w.tables x.id _ (λ y h. moves-raised_to version w.tables.clock s y)))))
+
+-- Any call.
+
+call-answers : (version : ℕ) (w : World) (c : Call) → Answers w (answer version w c)
+call-answers version w (call.Txn ops) =
+    given-if_not (λ (d : Reply × World). Moves w d.1) (nat_lt most_ops (length ops)) _ _
+    (λ e. txn-answers w _ (ops-moves version w ops))
+call-answers version w (call.View asked) = view-answers w (shows w.tables asked)
+call-answers version w (call.WatchBegin f) =
+    given-unless (λ (d : Reply × World). Moves w d.1) _ _ (λ e. watcher-comes version w f)
+call-answers version w (call.WatchPoll id) = poll-answers version w id (row_at watcher_id id w.watchers)
+call-answers version w (call.WatchFinish id) = finish-answers w id (row_at watcher_id id w.watchers)
+call-answers version w (call.Tick ms) =
+    given-unless (λ (d : Reply × World). Moves w d.1) _ _ (λ e. tick-moves w ms)
+call-answers version w (call.Settle budget) = same w
+call-answers version w (call.NodeFail name) = agent-answers w name _
+call-answers version w (call.NodeStart name) = agent-answers w name _
+call-answers version w (call.AgentStop name) = agent-answers w name _
+call-answers version w (call.AgentStart name) = agent-answers w name _
+call-answers version w (call.RemoteBegin name cpu mem) = begin-answers version w name cpu mem
+call-answers version w (call.RemoteBeat name session) = beat-answers w name session
+call-answers version w (call.RemotePull name session) = pull-answers w name session
+call-answers version w (call.RemoteStatus name session task s) = status-answers version w name session task s
+call-answers version w call.Halt = tables-moves w _ (tables-same w.tables) refl
+
+answered-moves : (w : World) (given : Answered) → Answers w given → Moves w (answered w given).after
+answered-moves w (Ok done) moves = entered-moves w done.1 moves
+answered-moves w (Err r) moves = tables-moves w _ (tables-same w.tables) refl
+
+pub call-moves : (w : World) (c : Call) → Moves w (call_outcome w c).after
+call-moves w c = answered-moves w (answer (w.entries + 1) w c) (call-answers (w.entries + 1) w c)
