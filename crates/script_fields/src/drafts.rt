@@ -11,8 +11,8 @@ ghost use Rattle.script_grammar.specs.Drafts.{named_or, number_in, number_named,
 
 use crate::labels::{engines_named, labels_named};
 use crate::tables::number_default;
-use std::alloc::Global;
 use script_grammar::{Field, NumberField, Table};
+use std::alloc::Global;
 use swarm_objects::{
     Availability, Constraint, Draft, Duplicate, End, FailureAction, Key, List, Mode, Name,
     NoMemory, NodeDraft, NodeRole, Platform, Port, RestartCondition, RestartPolicy, ServiceSpec,

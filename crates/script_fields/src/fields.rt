@@ -6,9 +6,9 @@ ghost use Rattle.script_grammar.specs.declared.fields.Field.TheVariants as field
 
 use crate::spelling::number_text;
 use crate::values::{byte_number, number_of, port_number, split_at};
+use script_grammar::{Field, NumberField};
 use std::alloc::Global;
 use swarm_filters::{read_constraint, read_key, read_name};
-use script_grammar::{Field, NumberField};
 use swarm_objects::{
     Availability, End, FailureAction, Mode, Name, NoMemory, NodeRole, Platform, Port,
     RestartCondition, UpdateOrder,

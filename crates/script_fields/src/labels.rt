@@ -3,8 +3,8 @@ ghost use Rattle.std.specs.Prelude.{◌≡◌, ◌≤◌, length, IfOk, OnOk, fi
 ghost use Rattle.script_grammar.specs.Drafts.{label_in, engine_in, label_place, with_label, labels_onto, labels_of};
 
 use crate::tables::comes_first;
-use std::alloc::Global;
 use script_grammar::Field;
+use std::alloc::Global;
 use swarm_objects::{Duplicate, Labels, List, Name, NoMemory};
 
 // How many labels come before this one.

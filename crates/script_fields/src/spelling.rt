@@ -6,8 +6,8 @@ ghost use Rattle.swarm_filters.specs.Spellings.{key_text, constraint_text};
 ghost use Rattle.script_grammar.specs.Fields.{number_word, udp_text, port_text, mode_text, end_text, condition_text, failure_text, order_text, availability_text, field_text};
 ghost use Rattle.script_grammar.specs.declared.fields.Field.TheVariants as field;
 
-use std::alloc::{AllocError, Global};
 use script_grammar::{Field, NumberField};
+use std::alloc::{AllocError, Global};
 use swarm_objects::{
     Availability, Constraint, End, FailureAction, Key, Mode, NoMemory, Platform, Port,
     RestartCondition, UpdateOrder,

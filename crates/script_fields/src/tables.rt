@@ -6,8 +6,8 @@ ghost use Rattle.script_fields.specs.Free.{is_free};
 ghost use Rattle.script_grammar.specs.Tables.{number_row, row, number_belongs, belongs, may_repeat, same_key, clashes, fits, number_default, has_defaults, is_default, bytes_lt, key_rises, comes_before, follows, may_stand};
 
 use crate::spelling::is_spelled;
-use std::alloc::Global;
 use script_grammar::{Field, Form, NumberField, Table};
+use std::alloc::Global;
 use swarm_objects::{
     Availability, End, FailureAction, Mode, Name, NoMemory, NodeRole, RestartCondition, UpdateOrder,
 };

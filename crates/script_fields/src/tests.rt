@@ -3,9 +3,9 @@ use crate::{
     belongs, byte_number, clashes, comes_before, draft_of, engines_named, field_of, is_default,
     labels_named, may_stand, node_draft_of, number_of, port_number, put_field,
 };
+use script_grammar::{Field, Form, NumberField, Table};
 use std::alloc::Global;
 use std::test::Fail;
-use script_grammar::{Field, Form, NumberField, Table};
 use swarm_objects::{
     Availability, Draft, End, FailureAction, List, Mode, NoMemory, NodeDraft, NodeRole, Port,
     RestartCondition, UpdateOrder, add,

@@ -9,10 +9,10 @@ use crate::openings::{
 };
 use crate::operations::{in_fields, in_operation, next_field, op_of, session_call};
 use crate::values::{BUDGET, budget_of, filter_of, state_of, subnet_of};
-use std::alloc::Global;
 use script_fields::number_of;
-use swarm_filters::read_name;
 use script_grammar::{CallVerb, Field, Form, NumberVerb, SessionVerb, State, Table, Verb};
+use std::alloc::Global;
+use swarm_filters::read_name;
 use swarm_objects::{Call, Filter, Id, List, Name, NoMemory, Op, Query, add};
 
 fn named_op(

@@ -9,9 +9,9 @@ ghost use Rattle.script_grammar.specs.Words.{words_of};
 use crate::calls::{step, whole};
 use crate::duties::{duty_step, duty_whole};
 use crate::lines::is_printable;
-use std::alloc::Global;
 use script_fields::{Words, number_of};
 use script_grammar::{DutyState, EntryState, Form, LineFault, State};
+use std::alloc::Global;
 use swarm_objects::{Entry, List, NoMemory, What};
 
 /// The most bytes of an entry's line, with its newline.

@@ -6,9 +6,9 @@ ghost use Rattle.script_grammar.specs.Machines.{ended, meaning};
 ghost use Rattle.script_grammar.specs.Words.{words_of};
 
 use crate::calls::{step, whole};
-use std::alloc::Global;
 use script_fields::{Words, number_of};
 use script_grammar::{Form, Line, LineFault, LineState, State};
+use std::alloc::Global;
 use swarm_objects::{Call, List, Ms, NoMemory};
 
 /// The most bytes of a line, without its newline.

@@ -4,8 +4,8 @@ ghost use Rattle.script_grammar.specs.Calls.{call_named, call_numbered, call_ope
 ghost use Rattle.script_grammar.specs.declared.states.CallNoun.TheVariants as call_noun;
 ghost use Rattle.script_grammar.specs.declared.states.Noun.TheVariants as noun;
 
-use std::alloc::Global;
 use script_grammar::{CallNoun, CallVerb, Form, Head, Noun, NumberVerb, SessionVerb, State, Verb};
+use std::alloc::Global;
 use swarm_objects::{Call, Id, List, Name, Op, Query};
 
 pub const fn is_empty<T>(items: &[T]) -> bool

@@ -4,12 +4,12 @@ ghost use Rattle.script_grammar.specs.Calls.{behind_op, in_fields, in_operation,
 
 use crate::openings::is_empty;
 use crate::values::{begins_version, version_of};
-use std::alloc::Global;
 use script_fields::{
     availability_named, draft_of, field_of, labels_named, may_stand, node_draft_of, number_given,
     role_named, settings_of,
 };
 use script_grammar::{Field, Form, Head, NumberField, State, Table};
+use std::alloc::Global;
 use swarm_objects::{Call, List, Name, NoMemory, Op, Version, add};
 
 const fn table_of(head: &Head) -> Table

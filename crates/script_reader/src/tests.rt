@@ -1,8 +1,8 @@
 // Lines of scripts and of journals, by their texts.
 use crate::{read_entry, read_line};
+use script_grammar::{Line, LineFault};
 use std::alloc::Global;
 use std::test::Fail;
-use script_grammar::{Line, LineFault};
 use swarm_objects::{Call, Entry, Op, Query, What, put_duty};
 
 fn fault_of(alloc: Global, text: &str) -> Option<LineFault> {

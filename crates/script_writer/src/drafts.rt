@@ -10,8 +10,8 @@ use crate::rows::{
     put_given, put_hosts, put_ingress, put_labels, put_mode, put_nets, put_numbers, put_order,
     put_os, put_platforms, put_remote, put_role, put_spread,
 };
-use std::alloc::AllocError;
 use script_grammar::{NumberField, Table};
+use std::alloc::AllocError;
 use swarm_objects::{
     Availability, Draft, Mode, Name, NodeDraft, NodeRole, Port, RestartPolicy, Settings, Template,
     UpdateConfig,

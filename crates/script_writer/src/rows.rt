@@ -4,10 +4,10 @@ ghost use Rattle.script_grammar.specs.declared.fields.Field.TheVariants as field
 ghost use Rattle.script_grammar.specs.Pieces.{arch_piece, availability_piece, condition_piece, end_piece, engine_field, failure_piece, given_piece, label_field, mode_piece, number_piece, order_piece, os_piece, remote_piece, role_piece};
 ghost use Rattle.script_writer.specs.Behind.{fields_text, number_rows, rows_text};
 
-use std::alloc::AllocError;
-use std::fmt::Write;
 use script_fields::{number_default, put_constraint, put_field, put_key, put_port};
 use script_grammar::{Field, NumberField, Table};
+use std::alloc::AllocError;
+use std::fmt::Write;
 use swarm_objects::{
     Availability, Constraint, End, FailureAction, Key, Mode, Name, NodeRole, Platform, Port,
     RestartCondition, UpdateOrder,

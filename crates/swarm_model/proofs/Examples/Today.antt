@@ -40,12 +40,12 @@ create_between = refl
 -- a task that is to go holds its slot no longer, unless it closes it
 create_again : replicated
     (tables 5 [] (service 2 ∷ []) (record (new 3 1 3) { desired = desired.Shutdown } ∷ new 4 2 4 ∷ []) [])
-      ≡ duty.ReplicatedCreate 2 1 ∷ []
+    ≡ duty.ReplicatedCreate 2 1 ∷ []
 create_again = refl
 
 create_none : replicated
     (tables 5 [] (service 2 ∷ [])
-      (record (new 3 1 3) { desired = desired.Shutdown; closed = Some closed.Condition } ∷ new 4 2 4 ∷ []) []) ≡ []
+    (record (new 3 1 3) { desired = desired.Shutdown; closed = Some closed.Condition } ∷ new 4 2 4 ∷ []) []) ≡ []
 create_none = refl
 
 -- Both tasks are there.
@@ -64,23 +64,29 @@ addressed_first = refl
 
 abbrev waiting : Tables
 waiting =
-    record created { tasks = later 5 None state.Pending note.Empty (new 3 1 3)
-      ∷ later 6 None state.Pending note.Empty (new 4 2 4) ∷ [] }
+    record created {
+      tasks = later 5 None state.Pending note.Empty (new 3 1 3)
+          ∷ later 6 None state.Pending note.Empty (new 4 2 4) ∷ [];
+    }
 
 explain_both : scheduler waiting ≡ duty.Explain 3 ∷ duty.Explain 4 ∷ []
 explain_both = refl
 
 explained_first : after_duty 7 waiting (duty.Explain 3)
-    ≡ record waiting { tasks = later 7 None state.Pending not_ready (new 3 1 3)
-      ∷ later 6 None state.Pending note.Empty (new 4 2 4) ∷ [] }
+    ≡ record waiting {
+      tasks = later 7 None state.Pending not_ready (new 3 1 3)
+          ∷ later 6 None state.Pending note.Empty (new 4 2 4) ∷ [];
+    }
 explained_first = refl
 
 -- The agent opens a session.
 
 abbrev noted : Tables
 noted =
-    record created { tasks = later 7 None state.Pending not_ready (new 3 1 3)
-      ∷ later 8 None state.Pending not_ready (new 4 2 4) ∷ [] }
+    record created {
+      tasks = later 7 None state.Pending not_ready (new 3 1 3)
+          ∷ later 8 None state.Pending not_ready (new 4 2 4) ∷ [];
+    }
 
 explain_none : scheduler noted ≡ []
 explain_none = refl
@@ -103,15 +109,17 @@ place_both : scheduler ready ≡ duty.Place 3 1 ∷ duty.Place 4 1 ∷ []
 place_both = refl
 
 placed_first : after_duty 10 ready (duty.Place 3 1)
-    ≡ record ready { tasks = later 10 (Some 1) state.Assigned note.Empty (new 3 1 3)
-      ∷ later 8 None state.Pending not_ready (new 4 2 4) ∷ [] }
+    ≡ record ready {
+      tasks = later 10 (Some 1) state.Assigned note.Empty (new 3 1 3)
+          ∷ later 8 None state.Pending not_ready (new 4 2 4) ∷ [];
+    }
 placed_first = refl
 
 -- the other node has fewer tasks
 place_beside : scheduler
     (tables 9 (node 1 node_state.Ready 9 ∷ node 6 node_state.Ready 9 ∷ []) (service 2 ∷ [])
-      (later 10 (Some 1) state.Assigned note.Empty (new 3 1 3) ∷ later 8 None state.Pending not_ready (new 4 2 4) ∷ [])
-        (session 1 5 ∷ session 6 7 ∷ [])) ≡ duty.Place 4 6 ∷ []
+    (later 10 (Some 1) state.Assigned note.Empty (new 3 1 3) ∷ later 8 None state.Pending not_ready (new 4 2 4) ∷ [])
+    (session 1 5 ∷ session 6 7 ∷ [])) ≡ duty.Place 4 6 ∷ []
 place_beside = refl
 
 -- The settle test, from the first duty to the last.
@@ -125,8 +133,10 @@ settle_waiting = refl
 settle_placed : settle_answer (record empty_world {
   entries = 11;
   tables =
-      record ready { tasks = later 10 (Some 1) state.Assigned note.Empty (new 3 1 3)
-        ∷ later 11 (Some 1) state.Assigned note.Empty (new 4 2 4) ∷ [] };
+      record ready {
+        tasks = later 10 (Some 1) state.Assigned note.Empty (new 3 1 3)
+            ∷ later 11 (Some 1) state.Assigned note.Empty (new 4 2 4) ∷ [];
+      };
 }) ≡ Settled
 settle_placed = refl
 

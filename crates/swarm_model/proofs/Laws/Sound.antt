@@ -47,9 +47,10 @@ rows-below w is = record {
 
 pub watchers-rise : (w : World) → IsOrderly w →
     RisesFrom watcher_id 0 w.watchers × IsBelow watcher_id w.tables.next_id w.watchers
-watchers-rise w is =
-    (rises-between watcher_id 0 1 w.tables.next_id w.watchers (omega arith) is.watchers,
-    below-between watcher_id 1 w.tables.next_id w.watchers is.watchers)
+watchers-rise w is = (
+  rises-between watcher_id 0 1 w.tables.next_id w.watchers (omega arith) is.watchers,
+  below-between watcher_id 1 w.tables.next_id w.watchers is.watchers,
+)
 
 pub rows-rise-replay : (h : List Entry) → IsLegal h → RowsRise (replay h).tables
 rows-rise-replay h legal = rows-rise (replay h) (orderly-replay h legal)

@@ -185,7 +185,7 @@ op-moves version w (op.RollbackService name asked) =
 op-moves version w (op.CreateNetwork name base bits) =
     given-unless (λ (d : World × ℕ). Moves w d.0) _ _
     (λ e. with-tables w _ (network-comes w.tables (new_network version w.tables.next_id name base bits) refl
-        (subnet-is (new_network version w.tables.next_id name base bits) _ e)))
+    (subnet-is (new_network version w.tables.next_id name base bits) _ e)))
 op-moves version w (op.RemoveNetwork name) =
     given-found (λ (d : World × ℕ). Moves w d.0) kind.Network (wanted_by.Name name) (network_by w.tables name)
     (remove_network w)
