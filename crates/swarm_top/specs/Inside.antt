@@ -1,0 +1,6 @@
+-- Words of private contracts; the run theorem rests on none of them.
+pub mod Endings
+pub mod LineBuffer
+pub mod LineSteps
+pub mod RunState
+pub mod ScriptSteps

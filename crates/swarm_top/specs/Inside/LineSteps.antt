@@ -1,0 +1,76 @@
+-- What a line of a script does, step by step.
+use Rattle.std.specs.Prelude.{List, Bool, ◌≡◌, ◌+◌, ◌++◌, ℕ, take, ◌<◌, length, Option, Result, Ok, Err, ⊤}
+use Rattle.std.specs.List.{list_any}
+use Rattle.swarm_objects.specs.declared.calls.Entry.{Entry}
+use Rattle.script_grammar.specs.declared.lines.Line.{Line}
+use Rattle.swarm_top.specs.Serial.{is_refused, line_replies, line_entries, entries, output_text, line_out, settle_entries}
+use Rattle.swarm_model.specs.Today.History.{replay}
+use Rattle.std.specs.Io.KnownBytes.{Appends}
+use Rattle.swarm_objects.specs.Limits.{most_entries}
+use Rattle.swarm_objects.specs.Outside.{AppendsPrefix}
+use Rattle.swarm_top.specs.declared.endings.Ending.{Ending}
+use Rattle.swarm_top.specs.declared.endings.Ending.TheVariants.{Done, Refused, ReadFault, OutFault, JournalFault, NoMemory, NoMemoryAt, BadLine, Full}
+use Rattle.swarm_top.specs.declared.faults.Fault.{Fault}
+
+-- A line.
+
+abbrev pub line_refused : List Entry → Line → Bool
+line_refused history line = list_any is_refused (line_replies history line)
+
+-- the new history has all of the line's entries more
+abbrev pub TakesLine : Line → List Entry → List Entry → Type 0
+TakesLine line old new = new ≡ old ++ line_entries (replay old) line
+
+-- the new history has the first n of the line's entries more
+abbrev pub TakesPart : Line → ℕ → List Entry → List Entry → Type 0
+TakesPart line n old new = new ≡ old ++ take n (line_entries (replay old) line)
+
+-- what a line did to the history and to the output, by its result: whether it was refused, or how the run ends
+abbrev pub DoesLine : Result Bool Ending → Line → List Entry → List Entry → Option (List ℕ) → Option (List ℕ) → Type 0
+DoesLine (Ok refused) line old new out out_after =
+    TakesLine line old new × Appends out out_after (line_out old line) × (refused ≡ line_refused old line)
+DoesLine (Err OutFault) line old new out out_after =
+    TakesLine line old new × AppendsPrefix out out_after (line_out old line)
+DoesLine (Err NoMemory) line old new out out_after = (n : ℕ) × TakesPart line n old new × (out_after ≡ out)
+DoesLine (Err Full) line old new out out_after =
+    (n : ℕ) × TakesPart line n old new × (n < length (line_entries (replay old) line)) × (length new ≡ most_entries) × (out_after ≡ out)
+DoesLine (Err Done) line old new out out_after = ⊥
+DoesLine (Err Refused) line old new out out_after = ⊥
+DoesLine (Err ReadFault) line old new out out_after = ⊥
+DoesLine (Err JournalFault) line old new out out_after = ⊥
+DoesLine (Err (NoMemoryAt number fault)) line old new out out_after = ⊥
+DoesLine (Err (BadLine number fault)) line old new out out_after = ⊥
+
+-- A settle line's duties.
+
+-- of the duties that the settle test names, the first were taken, and these are left
+pub record Settling (budget left : ℕ) (old now : List Entry) : Type 0 where
+  pub taken : List Entry
+  pub history : now ≡ old ++ taken
+  pub whole : settle_entries budget (replay old) ≡ taken ++ settle_entries left (replay now)
+
+-- how the run ends where not all of them were taken
+abbrev pub StopsSettling : Ending → ℕ → List Entry → List Entry → Type 0
+StopsSettling NoMemory budget old new = (n : ℕ) × (new ≡ old ++ take n (settle_entries budget (replay old)))
+StopsSettling Full budget old new =
+    (n : ℕ) × (new ≡ old ++ take n (settle_entries budget (replay old))) × (n < length (settle_entries budget (replay old))) × (length new ≡ most_entries)
+StopsSettling Done budget old new = ⊥
+StopsSettling Refused budget old new = ⊥
+StopsSettling ReadFault budget old new = ⊥
+StopsSettling OutFault budget old new = ⊥
+StopsSettling JournalFault budget old new = ⊥
+StopsSettling (NoMemoryAt number fault) budget old new = ⊥
+StopsSettling (BadLine number fault) budget old new = ⊥
+
+-- what the text of the line with this number says, or how the run ends there
+abbrev pub SaysLine : ℕ → Result Line Fault → Result Line Ending → Type 0
+SaysLine number meaning (Ok said) = meaning ≡ Ok said
+SaysLine number meaning (Err (BadLine n fault)) = (n ≡ number) × (meaning ≡ Err fault)
+SaysLine number meaning (Err NoMemory) = ⊤
+SaysLine number meaning (Err Done) = ⊥
+SaysLine number meaning (Err Refused) = ⊥
+SaysLine number meaning (Err ReadFault) = ⊥
+SaysLine number meaning (Err OutFault) = ⊥
+SaysLine number meaning (Err JournalFault) = ⊥
+SaysLine number meaning (Err Full) = ⊥
+SaysLine number meaning (Err (NoMemoryAt n fault)) = ⊥
