@@ -2,7 +2,7 @@
 use Rattle.std.specs.Prelude.{List, Bool, ◌≡◌, ◌+◌, ◌++◌, ℕ, take, ◌<◌, length, Option, Result, Ok, Err, ⊤}
 use Rattle.std.specs.List.{list_any}
 use Rattle.swarm_objects.specs.declared.calls.Entry.{Entry}
-use Rattle.script_grammar.specs.declared.lines.Line.{Line}
+use Rattle.swarm_script.specs.Line.{Line}
 use Rattle.swarm_top.specs.Serial.{is_refused, line_replies, line_entries, entries, output_text, line_out, settle_entries}
 use Rattle.swarm_model.specs.Today.History.{replay}
 use Rattle.std.specs.Io.KnownBytes.{Appends}
@@ -33,7 +33,8 @@ DoesLine (Err OutFault) line old new out out_after =
     TakesLine line old new × AppendsPrefix out out_after (line_out old line)
 DoesLine (Err NoMemory) line old new out out_after = (n : ℕ) × TakesPart line n old new × (out_after ≡ out)
 DoesLine (Err Full) line old new out out_after =
-    (n : ℕ) × TakesPart line n old new × (n < length (line_entries (replay old) line)) × (length new ≡ most_entries) × (out_after ≡ out)
+    (n : ℕ) × TakesPart line n old new × (n < length (line_entries (replay old) line))
+    × (length new ≡ most_entries) × (out_after ≡ out)
 DoesLine (Err Done) line old new out out_after = ⊥
 DoesLine (Err Refused) line old new out out_after = ⊥
 DoesLine (Err ReadFault) line old new out out_after = ⊥
@@ -53,7 +54,8 @@ pub record Settling (budget left : ℕ) (old now : List Entry) : Type 0 where
 abbrev pub StopsSettling : Ending → ℕ → List Entry → List Entry → Type 0
 StopsSettling NoMemory budget old new = (n : ℕ) × (new ≡ old ++ take n (settle_entries budget (replay old)))
 StopsSettling Full budget old new =
-    (n : ℕ) × (new ≡ old ++ take n (settle_entries budget (replay old))) × (n < length (settle_entries budget (replay old))) × (length new ≡ most_entries)
+    (n : ℕ) × (new ≡ old ++ take n (settle_entries budget (replay old)))
+    × (n < length (settle_entries budget (replay old))) × (length new ≡ most_entries)
 StopsSettling Done budget old new = ⊥
 StopsSettling Refused budget old new = ⊥
 StopsSettling ReadFault budget old new = ⊥

@@ -1,7 +1,7 @@
 -- How far a script is read, and how the reading ends.
 use Rattle.std.specs.Prelude.{ℕ, ◌≡◌, ◌+◌, List, ◌++◌, ◌≤◌, [], length, true, false, None, Option, Some, ⊤, ◌∷◌}
 use Rattle.swarm_top.specs.Lines.{lines_of, whole_lines}
-use Rattle.script_grammar.specs.declared.lines.Line.{Line}
+use Rattle.swarm_script.specs.Line.{Line}
 use Rattle.swarm_top.specs.Script.{reading, most_bytes}
 use Rattle.swarm_top.specs.Inside.LineBuffer.{LineBuffer}
 use Rattle.swarm_objects.specs.declared.calls.Entry.{Entry}
