@@ -1,5 +1,5 @@
 -- What fields say together is written in no more bytes than the fields.
-use Rattle.std.proofs.Common.{◌≡◌, ℕ, ◌≤◌, ◌+◌, List, [], ◌∷◌, ◌++◌, take, drop, zero, suc, map, length, codes, Bool, true, false, cond, refl, sym, ◌∙◌, ap, subst, Option, Some, None, arith, nat_eq}
+use Rattle.std.proofs.Common.{◌≡◌, ℕ, ◌≤◌, ◌+◌, List, [], ◌∷◌, ◌++◌, take, drop, zero, suc, map, length, codes, Bool, true, false, cond, refl, sym, ◌∙◌, ap, subst, Option, Some, None, arith, nat_eq, rules}
 use Rattle.std.specs.List.{cons_option, filter_map}
 use Rattle.std.specs.Option.{option_or}
 use Rattle.std.specs.Prelude.{unwrap_or}
@@ -47,7 +47,7 @@ room [] = 0
 room (w ∷ ws) = length w + 1 + room ws
 
 pub room-append : (xs ys : List (List ℕ)) → room (xs ++ ys) ≡ room xs + room ys
-room-append [] ys = refl
+room-append [] ys = omega arith
 room-append (x ∷ xs) ys = omega (arith, room-append xs ys)
 
 -- the bytes of fields
@@ -60,7 +60,7 @@ room-size [] = refl
 room-size (f ∷ fs) = ap (λ n. length (field_text f) + 1 + n) (room-size fs)
 
 pub size-append : (fs gs : List Field) → size (fs ++ gs) ≡ size fs + size gs
-size-append [] gs = refl
+size-append [] gs = omega arith
 size-append (f ∷ fs) gs = omega (arith, size-append fs gs)
 
 -- ## Row by row
@@ -285,33 +285,32 @@ sorted_many r p make looks kept fs = omega (arith, onto_size make (filter_map p 
 -- ## Tables
 
 service_size : (fs : List Field) → room (pieces_words (service_pieces (draft_of fs))) ≤ size fs
-service_size fs = pieces_within (service_pieces (draft_of fs)) service_rows fs (search rules) (
-  once 0 mode_in mode_piece (mode.Replicated 1) looks_mode small_mode refl fs,
-  once 1 end_in end_piece end.Never looks_end small_end refl fs,
-  numbers table.Service number.Prepare fs,
-  numbers table.Service number.Start fs,
-  numbers table.Service number.Stop fs,
-  numbers table.Service number.Cpu fs,
-  numbers table.Service number.Mem fs,
-  many 15 constraint_in field.Constraint looks_constraint kept_constraint fs,
-  many 16 spread_in field.Spread looks_spread kept_spread fs,
-  many 17 platform_in field.Platform looks_platform kept_platform fs,
-  numbers table.Service number.MaxReplicas fs,
-  many 19 net_in field.Net looks_net kept_net fs,
-  once 20 restart_in condition_piece condition.Any looks_condition small_condition refl fs,
-  numbers table.Service number.RestartDelay fs,
-  numbers table.Service number.RestartMax fs,
-  numbers table.Service number.RestartWindow fs,
-  many 24 port_in field.Port looks_port kept_port fs,
-  many 25 host_in field.Host looks_host kept_host fs,
-  numbers table.Service number.Parallelism fs,
-  numbers table.Service number.UpdateDelay fs,
-  numbers table.Service number.Monitor fs,
-  once 29 failure_in failure_piece action.Pause looks_failure small_failure refl fs,
-  numbers table.Service number.Ratio fs,
-  once 31 order_in order_piece order.StopFirst looks_order small_order refl fs,
-  tt,
-)
+service_size fs = pieces_within (service_pieces (draft_of fs)) service_rows fs (search rules)
+  (once 0 mode_in mode_piece (mode.Replicated 1) looks_mode small_mode refl fs,
+  (once 1 end_in end_piece end.Never looks_end small_end refl fs,
+  (numbers table.Service number.Prepare fs,
+  (numbers table.Service number.Start fs,
+  (numbers table.Service number.Stop fs,
+  (numbers table.Service number.Cpu fs,
+  (numbers table.Service number.Mem fs,
+  (many 15 constraint_in field.Constraint looks_constraint kept_constraint fs,
+  (many 16 spread_in field.Spread looks_spread kept_spread fs,
+  (many 17 platform_in field.Platform looks_platform kept_platform fs,
+  (numbers table.Service number.MaxReplicas fs,
+  (many 19 net_in field.Net looks_net kept_net fs,
+  (once 20 restart_in condition_piece condition.Any looks_condition small_condition refl fs,
+  (numbers table.Service number.RestartDelay fs,
+  (numbers table.Service number.RestartMax fs,
+  (numbers table.Service number.RestartWindow fs,
+  (many 24 port_in field.Port looks_port kept_port fs,
+  (many 25 host_in field.Host looks_host kept_host fs,
+  (numbers table.Service number.Parallelism fs,
+  (numbers table.Service number.UpdateDelay fs,
+  (numbers table.Service number.Monitor fs,
+  (once 29 failure_in failure_piece action.Pause looks_failure small_failure refl fs,
+  (numbers table.Service number.Ratio fs,
+  (once 31 order_in order_piece order.StopFirst looks_order small_order refl fs,
+  tt))))))))))))))))))))))))
 
 labels_size : (fs : List Field) → size (map label_field (labels_of (filter_map label_in fs))) ≤ size (at_row 5 fs)
 labels_size fs = sorted_many 5 label_in label_field looks_label kept_label fs
@@ -323,32 +322,33 @@ availability_size : (fs : List Field) → size (availability_piece (node_draft_o
 availability_size fs = once 7 availability_in availability_piece availability.Active looks_availability small_availability refl fs
 
 node_size : (fs : List Field) → room (pieces_words (node_pieces (node_draft_of fs))) ≤ size fs
-node_size fs = pieces_within (node_pieces (node_draft_of fs)) (5 ∷ 6 ∷ 7 ∷ 8 ∷ 9 ∷ 11 ∷ 12 ∷ 13 ∷ 14 ∷ []) fs (search rules) (
-  labels_size fs,
-  role_size fs,
-  availability_size fs,
-  numbers table.NewNode number.Cpu fs,
-  numbers table.NewNode number.Mem fs,
-  once 11 os_in os_piece (codes "linux") looks_os small_os refl fs,
-  once 12 arch_in arch_piece (codes "amd64") looks_arch small_arch refl fs,
-  sorted_many 13 engine_in engine_field looks_engine kept_engine fs,
-  once 14 remote_in remote_piece false looks_remote small_remote refl fs,
-  tt,
-)
+node_size fs = pieces_within (node_pieces (node_draft_of fs)) (5 ∷ 6 ∷ 7 ∷ 8 ∷ 9 ∷ 11 ∷ 12 ∷ 13 ∷ 14 ∷ []) fs (search rules)
+  (labels_size fs,
+  (role_size fs,
+  (availability_size fs,
+  (numbers table.NewNode number.Cpu fs,
+  (numbers table.NewNode number.Mem fs,
+  (once 11 os_in os_piece (codes "linux") looks_os small_os refl fs,
+  (once 12 arch_in arch_piece (codes "amd64") looks_arch small_arch refl fs,
+  (sorted_many 13 engine_in engine_field looks_engine kept_engine fs,
+  (once 14 remote_in remote_piece false looks_remote small_remote refl fs,
+  tt)))))))))
 
 old_size : (fs : List Field) → let d = node_draft_of fs in room (pieces_words (old_node_pieces d.labels d.role d.availability)) ≤ size fs
 old_size fs =
     let d = node_draft_of fs in
-    pieces_within (old_node_pieces d.labels d.role d.availability) (5 ∷ 6 ∷ 7 ∷ []) fs (search rules) (labels_size fs, role_size fs, availability_size fs, tt)
+    pieces_within (old_node_pieces d.labels d.role d.availability) (5 ∷ 6 ∷ 7 ∷ []) fs (search rules) (labels_size fs, (role_size fs, (availability_size fs, tt)))
 
 settings_size : (fs : List Field) → room (pieces_words (settings_pieces (settings_of fs))) ≤ size fs
-settings_size fs = pieces_within (settings_pieces (settings_of fs)) (32 ∷ 33 ∷ 34 ∷ []) fs (search rules) (
-  numbers table.Cluster number.Heartbeat fs, numbers table.Cluster number.Orphan fs, numbers table.Cluster number.History fs, tt,
-)
+settings_size fs = pieces_within (settings_pieces (settings_of fs)) (32 ∷ 33 ∷ 34 ∷ []) fs (search rules)
+  (numbers table.Cluster number.Heartbeat fs,
+  (numbers table.Cluster number.Orphan fs,
+  (numbers table.Cluster number.History fs,
+  tt)))
 
 pub session_size : (fs : List Field) → room (pieces_words (session_pieces (number_given number.Cpu fs) (number_given number.Mem fs))) ≤ size fs
 session_size fs =
-    pieces_within (session_pieces (number_given number.Cpu fs) (number_given number.Mem fs)) (8 ∷ 9 ∷ []) fs (search rules) (given number.Cpu fs, given number.Mem fs, tt)
+    pieces_within (session_pieces (number_given number.Cpu fs) (number_given number.Mem fs)) (8 ∷ 9 ∷ []) fs (search rules) (given number.Cpu fs, (given number.Mem fs, tt))
 
 -- ## Operations
 
