@@ -33,3 +33,5 @@ pub mod Fitting
 pub mod Running
 pub mod LengthsWords
 pub mod LengthsDrafts
+pub mod LengthsCalls
+pub mod Lengths
