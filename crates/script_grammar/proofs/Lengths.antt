@@ -1,9 +1,7 @@
 -- Every line of a journal is short enough to be read back.
-use Rattle.std.proofs.Common.{◌≡◌, ℕ, ◌≤◌, ◌<◌, ◌+◌, ◌*◌, ◌^◌, List, [], ◌∷◌, ◌++◌, length, codes, decimal, map, Bool, true, false, cond, not, refl, sym, ◌∙◌, ap, subst, Option, Some, None, Result, Ok, Err, arith, nat_lt}
+use Rattle.std.proofs.Common.{◌≡◌, ℕ, ◌≤◌, ◌<◌, ◌+◌, ◌*◌, ◌^◌, List, [], ◌∷◌, length, codes, decimal, map, Bool, true, false, cond, not, refl, sym, ◌∙◌, ap, subst, Option, Some, None, Ok, Err, arith}
 use Rattle.std.specs.Fmt.{digits}
 use Rattle.std.specs.List.{AllByRecursion, list_all}
-use Rattle.std.specs.Option.{option_map}
-use Rattle.std.specs.Prelude.{⊤}
 use Rattle.std.specs.Str.{bytes_eq}
 use Rattle.std.proofs.lemmas.Bool.Decides.{nat_tests}
 use Rattle.std.proofs.lemmas.Fmt.{length-decimal-le}
@@ -19,16 +17,14 @@ use Rattle.swarm_objects.specs.declared.loops.Role.{Role}
 use Rattle.swarm_objects.specs.declared.loops.Role.TheVariants as role
 use Rattle.script_grammar.specs.declared.lines.Line.{Line}
 use Rattle.script_grammar.specs.declared.lines.Line.TheVariants as line
-use Rattle.script_grammar.specs.declared.lines.LineFault.{LineFault}
 use Rattle.script_grammar.specs.declared.lines.LineFault.TheVariants as fault
 use Rattle.script_grammar.specs.declared.lines.LineState.{LineState}
 use Rattle.script_grammar.specs.declared.lines.LineState.TheVariants as line_state
 use Rattle.script_grammar.specs.declared.states.Form.TheVariants as form
 use Rattle.script_grammar.specs.declared.states.State.TheVariants as state
 use Rattle.script_grammar.proofs.EntryLaws.{held_said}
-use Rattle.script_grammar.proofs.Inversions.{bound}
 use Rattle.script_grammar.proofs.LengthsCalls.{call_room}
-use Rattle.script_grammar.proofs.LengthsDrafts.{room, room-append}
+use Rattle.script_grammar.proofs.LengthsDrafts.{room}
 use Rattle.script_grammar.proofs.Numbers.{below_only, both}
 use Rattle.script_grammar.proofs.LineLaws.{says_line}
 use Rattle.script_grammar.proofs.Spaces.{spaced_words}
@@ -37,7 +33,7 @@ use Rattle.script_grammar.specs.Entries.{call_entry, duty_entry}
 use Rattle.script_grammar.specs.HasText.{duty_has_text, is_number, is_port}
 use Rattle.script_grammar.specs.Lines.{is_blank, is_long, is_printable, line_of, meaning_of, script_grammar, wait_of}
 use Rattle.script_grammar.specs.Machines.{IsSaid, Says, meaning, run}
-use Rattle.script_grammar.specs.Texts.{call_words, entry_text, entry_words}
+use Rattle.script_grammar.specs.Texts.{call_words, entry_text}
 use Rattle.script_grammar.specs.Words.{words_of, ◌>>=◌}
 
 -- ## A line of words
@@ -202,7 +198,12 @@ pub duty_length : (by : ℕ) (d : Duty) → is_number by ≡ true → duty_has_t
 duty_length by d h k =
     let words = duty_words d in
     omega (
-    arith, spaced_room (decimal by) (codes "duty" ∷ words), length-append (spaced (decimal by ∷ codes "duty" ∷ words)) (codes "\n"),
-    decimal_short by (below_only by (2 ^ 64) h), loop_short (role_of d), kind_short d, few_numbers d,
-    numbers_short (duty_numbers d) (duty_fits d k)
+      arith,
+      spaced_room (decimal by) (codes "duty" ∷ words),
+      length-append (spaced (decimal by ∷ codes "duty" ∷ words)) (codes "\n"),
+      decimal_short by (below_only by (2 ^ 64) h),
+      loop_short (role_of d),
+      kind_short d,
+      few_numbers d,
+      numbers_short (duty_numbers d) (duty_fits d k),
     )

@@ -1,19 +1,16 @@
 -- A call is written in no more bytes than the words of a script that say it.
-use Rattle.std.proofs.Common.{◌≡◌, ℕ, ◌≤◌, ◌+◌, ◌^◌, List, [], ◌∷◌, ◌++◌, length, codes, decimal, map, Bool, true, false, cond, refl, sym, ◌∙◌, ap, subst, Option, Some, None, arith, nat_eq}
+use Rattle.std.proofs.Common.{◌≡◌, ℕ, ◌≤◌, ◌+◌, ◌^◌, List, [], ◌∷◌, ◌++◌, length, codes, decimal, map, Bool, true, false, cond, refl, ◌∙◌, ap, subst, Option, Some, None, arith, nat_eq}
 use Rattle.std.specs.Str.{bytes_eq}
 use Rattle.std.proofs.lemmas.Option.{same_Some}
 use Rattle.swarm_objects.specs.declared.calls.Call.{Call}
 use Rattle.swarm_objects.specs.declared.calls.Call.TheVariants as call
 use Rattle.swarm_objects.specs.declared.calls.Op.{Op}
-use Rattle.swarm_objects.specs.declared.calls.Query.TheVariants as query
 use Rattle.script_grammar.specs.declared.fields.Field.{Field}
 use Rattle.script_grammar.specs.declared.fields.Head.{Head}
 use Rattle.script_grammar.specs.declared.fields.Table.{Table}
 use Rattle.script_grammar.specs.declared.fields.Table.TheVariants as table
-use Rattle.script_grammar.specs.declared.states.CallNoun.TheVariants as call_noun
 use Rattle.script_grammar.specs.declared.states.Form.TheVariants as form
 use Rattle.script_grammar.specs.declared.states.Noun.{Noun}
-use Rattle.script_grammar.specs.declared.states.NumberVerb.TheVariants as number_verb
 use Rattle.script_grammar.specs.declared.states.State.{State}
 use Rattle.script_grammar.specs.declared.states.State.TheVariants as state
 use Rattle.script_grammar.proofs.Inversions.{bound, same}
@@ -74,8 +71,13 @@ in_fields_room ops h fs =
 
 ended_room : (ops : List Op) (h : Head) (fs : List Field) (w : List ℕ) → w ≡ codes ";" → Within (state.Fields ops h fs) w (state.Opening (ops ++ op_of h fs ∷ []))
 ended_room ops h fs w e = omega (
-  arith, ap length e, in_fields_room ops h fs, op_size h fs, ap room (before_snoc ops (op_of h fs)),
-  room-append (before_ops ops) (op_words (op_of h fs) ++ codes ";" ∷ []), room-append (op_words (op_of h fs)) (codes ";" ∷ [])
+  arith,
+  ap length e,
+  in_fields_room ops h fs,
+  op_size h fs,
+  ap room (before_snoc ops (op_of h fs)),
+  room-append (before_ops ops) (op_words (op_of h fs) ++ codes ";" ∷ []),
+  room-append (op_words (op_of h fs)) (codes ";" ∷ []),
 )
 
 -- a version is a journal's too
@@ -150,8 +152,12 @@ run_room (w ∷ ws) s t e =
 
 whole_room : (s : State) (c : Call) → whole s ≡ Some c → room (call_words c) ≤ room (written s)
 whole_room (state.Fields ops h fs) c e = omega (
-  arith, ap (λ x. room (call_words x)) (same_Some _ c e), ap room (ops_snoc ops (op_of h fs)),
-  room-append (before_ops ops) (op_words (op_of h fs)), op_size h fs, in_fields_room ops h fs
+  arith,
+  ap (λ x. room (call_words x)) (same_Some _ c e),
+  ap room (ops_snoc ops (op_of h fs)),
+  room-append (before_ops ops) (op_words (op_of h fs)),
+  op_size h fs,
+  in_fields_room ops h fs,
 )
 whole_room (state.Operation ops o) c e = omega (arith, ap (λ x. room (call_words x)) (same_Some _ c e), ap room (ops_snoc ops o))
 whole_room (state.SessionFields n fs) c e = omega (arith, ap (λ x. room (call_words x)) (same_Some _ c e), session_size fs, session_room n fs)

@@ -4,21 +4,13 @@ use Rattle.std.specs.List.{cons_option, filter_map}
 use Rattle.std.specs.Option.{option_or}
 use Rattle.std.specs.Prelude.{unwrap_or}
 use Rattle.std.proofs.lemmas.Bool.Decides.{nat_tests}
-use Rattle.std.proofs.lemmas.List.{length-append}
 use Rattle.std.proofs.lemmas.Option.{same_Some}
-use Rattle.swarm_objects.specs.declared.nodes.Availability.{Availability}
 use Rattle.swarm_objects.specs.declared.nodes.Availability.TheVariants as availability
-use Rattle.swarm_objects.specs.declared.nodes.NodeRole.{NodeRole}
 use Rattle.swarm_objects.specs.declared.nodes.NodeRole.TheVariants as role
-use Rattle.swarm_objects.specs.declared.services.FailureAction.{FailureAction}
 use Rattle.swarm_objects.specs.declared.services.FailureAction.TheVariants as action
-use Rattle.swarm_objects.specs.declared.services.Mode.{Mode}
 use Rattle.swarm_objects.specs.declared.services.Mode.TheVariants as mode
-use Rattle.swarm_objects.specs.declared.services.UpdateOrder.{UpdateOrder}
 use Rattle.swarm_objects.specs.declared.services.UpdateOrder.TheVariants as order
-use Rattle.swarm_objects.specs.declared.templates.End.{End}
 use Rattle.swarm_objects.specs.declared.templates.End.TheVariants as end
-use Rattle.swarm_objects.specs.declared.templates.RestartCondition.{RestartCondition}
 use Rattle.swarm_objects.specs.declared.templates.RestartCondition.TheVariants as condition
 use Rattle.script_grammar.specs.declared.fields.Field.{Field}
 use Rattle.script_grammar.specs.declared.fields.Field.TheVariants as field
@@ -28,7 +20,7 @@ use Rattle.script_grammar.specs.declared.fields.NumberField.{NumberField}
 use Rattle.script_grammar.specs.declared.fields.NumberField.TheVariants as number
 use Rattle.script_grammar.specs.declared.fields.Table.{Table}
 use Rattle.script_grammar.specs.declared.fields.Table.TheVariants as table
-use Rattle.script_grammar.proofs.FieldRows.{LooksAt, at_row, number_same, same_number}
+use Rattle.script_grammar.proofs.FieldRows.{LooksAt, at_row, same_number}
 use Rattle.script_grammar.proofs.Nodes.{Labels, looks_arch, looks_availability, looks_engine, looks_label, looks_os, looks_remote, looks_role}
 use Rattle.script_grammar.proofs.OneSpelling.{head_words}
 use Rattle.script_grammar.proofs.RowPieces.{looks_number, same_which}
@@ -285,32 +277,79 @@ sorted_many r p make looks kept fs = omega (arith, onto_size make (filter_map p 
 -- ## Tables
 
 service_size : (fs : List Field) → room (pieces_words (service_pieces (draft_of fs))) ≤ size fs
-service_size fs = pieces_within (service_pieces (draft_of fs)) service_rows fs (search rules)
-  (once 0 mode_in mode_piece (mode.Replicated 1) looks_mode small_mode refl fs,
-  (once 1 end_in end_piece end.Never looks_end small_end refl fs,
-  (numbers table.Service number.Prepare fs,
-  (numbers table.Service number.Start fs,
-  (numbers table.Service number.Stop fs,
-  (numbers table.Service number.Cpu fs,
-  (numbers table.Service number.Mem fs,
-  (many 15 constraint_in field.Constraint looks_constraint kept_constraint fs,
-  (many 16 spread_in field.Spread looks_spread kept_spread fs,
-  (many 17 platform_in field.Platform looks_platform kept_platform fs,
-  (numbers table.Service number.MaxReplicas fs,
-  (many 19 net_in field.Net looks_net kept_net fs,
-  (once 20 restart_in condition_piece condition.Any looks_condition small_condition refl fs,
-  (numbers table.Service number.RestartDelay fs,
-  (numbers table.Service number.RestartMax fs,
-  (numbers table.Service number.RestartWindow fs,
-  (many 24 port_in field.Port looks_port kept_port fs,
-  (many 25 host_in field.Host looks_host kept_host fs,
-  (numbers table.Service number.Parallelism fs,
-  (numbers table.Service number.UpdateDelay fs,
-  (numbers table.Service number.Monitor fs,
-  (once 29 failure_in failure_piece action.Pause looks_failure small_failure refl fs,
-  (numbers table.Service number.Ratio fs,
-  (once 31 order_in order_piece order.StopFirst looks_order small_order refl fs,
-  tt))))))))))))))))))))))))
+service_size fs = pieces_within (service_pieces (draft_of fs)) service_rows fs (search rules) (
+  once 0 mode_in mode_piece (mode.Replicated 1) looks_mode small_mode refl fs,
+  (
+    once 1 end_in end_piece end.Never looks_end small_end refl fs,
+    (
+      numbers table.Service number.Prepare fs,
+      (
+        numbers table.Service number.Start fs,
+        (
+          numbers table.Service number.Stop fs,
+          (
+            numbers table.Service number.Cpu fs,
+            (
+              numbers table.Service number.Mem fs,
+              (
+                many 15 constraint_in field.Constraint looks_constraint kept_constraint fs,
+                (
+                  many 16 spread_in field.Spread looks_spread kept_spread fs,
+                  (
+                    many 17 platform_in field.Platform looks_platform kept_platform fs,
+                    (
+                      numbers table.Service number.MaxReplicas fs,
+                      (
+                        many 19 net_in field.Net looks_net kept_net fs,
+                        (
+                          once 20 restart_in condition_piece condition.Any looks_condition small_condition refl fs,
+                          (
+                            numbers table.Service number.RestartDelay fs,
+                            (
+                              numbers table.Service number.RestartMax fs,
+                              (
+                                numbers table.Service number.RestartWindow fs,
+                                (
+                                  many 24 port_in field.Port looks_port kept_port fs,
+                                  (
+                                    many 25 host_in field.Host looks_host kept_host fs,
+                                    (
+                                      numbers table.Service number.Parallelism fs,
+                                      (
+                                        numbers table.Service number.UpdateDelay fs,
+                                        (
+                                          numbers table.Service number.Monitor fs,
+                                          (
+                                            once 29 failure_in failure_piece action.Pause looks_failure small_failure refl fs,
+                                            (
+                                              numbers table.Service number.Ratio fs,
+                                              (
+                                                once 31 order_in order_piece order.StopFirst looks_order small_order refl fs,
+                                                tt,
+                                              ),
+                                            ),
+                                          ),
+                                        ),
+                                      ),
+                                    ),
+                                  ),
+                                ),
+                              ),
+                            ),
+                          ),
+                        ),
+                      ),
+                    ),
+                  ),
+                ),
+              ),
+            ),
+          ),
+        ),
+      ),
+    ),
+  ),
+)
 
 labels_size : (fs : List Field) → size (map label_field (labels_of (filter_map label_in fs))) ≤ size (at_row 5 fs)
 labels_size fs = sorted_many 5 label_in label_field looks_label kept_label fs
@@ -322,17 +361,34 @@ availability_size : (fs : List Field) → size (availability_piece (node_draft_o
 availability_size fs = once 7 availability_in availability_piece availability.Active looks_availability small_availability refl fs
 
 node_size : (fs : List Field) → room (pieces_words (node_pieces (node_draft_of fs))) ≤ size fs
-node_size fs = pieces_within (node_pieces (node_draft_of fs)) (5 ∷ 6 ∷ 7 ∷ 8 ∷ 9 ∷ 11 ∷ 12 ∷ 13 ∷ 14 ∷ []) fs (search rules)
-  (labels_size fs,
-  (role_size fs,
-  (availability_size fs,
-  (numbers table.NewNode number.Cpu fs,
-  (numbers table.NewNode number.Mem fs,
-  (once 11 os_in os_piece (codes "linux") looks_os small_os refl fs,
-  (once 12 arch_in arch_piece (codes "amd64") looks_arch small_arch refl fs,
-  (sorted_many 13 engine_in engine_field looks_engine kept_engine fs,
-  (once 14 remote_in remote_piece false looks_remote small_remote refl fs,
-  tt)))))))))
+node_size fs = pieces_within (node_pieces (node_draft_of fs)) (5 ∷ 6 ∷ 7 ∷ 8 ∷ 9 ∷ 11 ∷ 12 ∷ 13 ∷ 14 ∷ []) fs (search rules) (
+  labels_size fs,
+  (
+    role_size fs,
+    (
+      availability_size fs,
+      (
+        numbers table.NewNode number.Cpu fs,
+        (
+          numbers table.NewNode number.Mem fs,
+          (
+            once 11 os_in os_piece (codes "linux") looks_os small_os refl fs,
+            (
+              once 12 arch_in arch_piece (codes "amd64") looks_arch small_arch refl fs,
+              (
+                sorted_many 13 engine_in engine_field looks_engine kept_engine fs,
+                (
+                  once 14 remote_in remote_piece false looks_remote small_remote refl fs,
+                  tt,
+                ),
+              ),
+            ),
+          ),
+        ),
+      ),
+    ),
+  ),
+)
 
 old_size : (fs : List Field) → let d = node_draft_of fs in room (pieces_words (old_node_pieces d.labels d.role d.availability)) ≤ size fs
 old_size fs =
@@ -340,11 +396,16 @@ old_size fs =
     pieces_within (old_node_pieces d.labels d.role d.availability) (5 ∷ 6 ∷ 7 ∷ []) fs (search rules) (labels_size fs, (role_size fs, (availability_size fs, tt)))
 
 settings_size : (fs : List Field) → room (pieces_words (settings_pieces (settings_of fs))) ≤ size fs
-settings_size fs = pieces_within (settings_pieces (settings_of fs)) (32 ∷ 33 ∷ 34 ∷ []) fs (search rules)
-  (numbers table.Cluster number.Heartbeat fs,
-  (numbers table.Cluster number.Orphan fs,
-  (numbers table.Cluster number.History fs,
-  tt)))
+settings_size fs = pieces_within (settings_pieces (settings_of fs)) (32 ∷ 33 ∷ 34 ∷ []) fs (search rules) (
+  numbers table.Cluster number.Heartbeat fs,
+  (
+    numbers table.Cluster number.Orphan fs,
+    (
+      numbers table.Cluster number.History fs,
+      tt,
+    ),
+  ),
+)
 
 pub session_size : (fs : List Field) → room (pieces_words (session_pieces (number_given number.Cpu fs) (number_given number.Mem fs))) ≤ size fs
 session_size fs =

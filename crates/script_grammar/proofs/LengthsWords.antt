@@ -1,7 +1,7 @@
 -- A field is written in no more bytes than the word that it was read from.
-use Rattle.std.proofs.Common.{◌≡◌, ℕ, ◌≤◌, ◌+◌, ◌^◌, List, [], ◌∷◌, ◌++◌, length, codes, decimal, Bool, true, false, cond, refl, sym, ◌∙◌, ap, subst, Option, Some, None, append-nil, append_assoc, arith}
+use Rattle.std.proofs.Common.{◌≡◌, ℕ, ◌≤◌, ◌+◌, ◌^◌, List, ◌∷◌, ◌++◌, length, codes, decimal, Bool, true, false, cond, refl, sym, ◌∙◌, ap, subst, Option, Some, None, append-nil, append_assoc, arith}
 use Rattle.std.specs.Char.{to_ascii_lowercase}
-use Rattle.std.specs.Str.{bytes_eq, str_to_ascii_lowercase}
+use Rattle.std.specs.Str.{bytes_eq}
 use Rattle.std.proofs.lemmas.List.{length-append, length-map}
 use Rattle.std.proofs.lemmas.Option.{some_pair_parts, same_Some}
 use Rattle.swarm_objects.specs.declared.nodes.Availability.TheVariants as availability
@@ -60,12 +60,17 @@ constraint_length text c is =
     let sign = sign_of c.equal in
     let behind = is.third ++ (c.value ++ is.fourth) in
     omega (
-    arith, ap length is.whole, key_length is.key_text c.key is.is_key,
-    length-append is.first (is.key_text ++ (is.second ++ (sign ++ behind))),
-    length-append is.key_text (is.second ++ (sign ++ behind)),
-    length-append is.second (sign ++ behind), length-append sign behind,
-    length-append is.third (c.value ++ is.fourth), length-append c.value is.fourth,
-    length-append (key_text c.key) (sign ++ c.value), length-append sign c.value
+      arith,
+      ap length is.whole,
+      key_length is.key_text c.key is.is_key,
+      length-append is.first (is.key_text ++ (is.second ++ (sign ++ behind))),
+      length-append is.key_text (is.second ++ (sign ++ behind)),
+      length-append is.second (sign ++ behind),
+      length-append sign behind,
+      length-append is.third (c.value ++ is.fourth),
+      length-append c.value is.fourth,
+      length-append (key_text c.key) (sign ++ c.value),
+      length-append sign c.value,
     )
 
 -- ## Values behind a sign of equality
