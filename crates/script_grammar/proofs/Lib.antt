@@ -31,3 +31,7 @@ pub mod EntryWords
 pub mod EntryLaws
 pub mod Fitting
 pub mod Running
+pub mod LengthsWords
+pub mod LengthsDrafts
+pub mod LengthsCalls
+pub mod Lengths
