@@ -7,3 +7,4 @@ pub mod Moves
 pub mod ReplyLaws
 pub mod SettleLaws
 pub mod Times
+pub mod Watching

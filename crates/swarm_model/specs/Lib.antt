@@ -2,6 +2,7 @@ pub mod Calls
 pub mod Changed
 pub mod Closing
 pub mod Content
+pub mod Events
 pub mod Follows
 pub mod History
 pub mod Laws

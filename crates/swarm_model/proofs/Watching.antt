@@ -1,0 +1,5 @@
+pub mod Changes
+pub mod Content
+pub mod Lists
+pub mod Waiting
+pub mod Watchers

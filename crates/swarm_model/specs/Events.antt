@@ -1,0 +1,53 @@
+-- The events of a history, and what a watcher is told of them.
+use Rattle.std.specs.Prelude.{List, [], ◌∷◌, ◌++◌, ◌+◌, ◌≡◌, ℕ, Some, filter, if◌then◌else◌, length, nat_lt}
+use Rattle.swarm_model.specs.Calls.Watches.{waiting_events, waits_for}
+use Rattle.swarm_model.specs.Changed.{changes_between}
+use Rattle.swarm_model.specs.History.{replay, step, step_world}
+use Rattle.swarm_objects.specs.Limits.{most_events}
+use Rattle.swarm_objects.specs.Rows.{Has, row_at, watcher_id}
+use Rattle.swarm_objects.specs.World.{World, empty_world}
+use Rattle.swarm_objects.specs.declared.calls.Call.TheVariants as call
+use Rattle.swarm_objects.specs.declared.calls.Entry.{Entry}
+use Rattle.swarm_objects.specs.declared.calls.What.TheVariants as what
+use Rattle.swarm_objects.specs.declared.replies.Refusal.TheVariants as refusal
+use Rattle.swarm_objects.specs.declared.replies.Reply.{Reply}
+use Rattle.swarm_objects.specs.declared.replies.Reply.TheVariants as reply
+use Rattle.swarm_objects.specs.declared.watches.Event.{Event}
+use Rattle.swarm_objects.specs.declared.watches.Watcher.{Watcher}
+
+-- the changes that each of these entries makes, in order
+abbrev pub events_from : World → List Entry → List Event
+events_from w [] = []
+events_from w (e ∷ es) =
+    changes_between (w.entries + 1) w.tables (step_world w e).tables ++ events_from (step_world w e) es
+
+abbrev pub events_of_history : List Entry → List Event
+events_of_history = events_from empty_world
+
+-- the changes of every entry after the watcher's cursor that its filter admits
+abbrev pub events_for : List Entry → Watcher → List Event
+events_for h x = filter (waits_for x) (events_of_history h)
+
+-- after any history, what waits for a watcher is all of that
+abbrev pub WaitingLaw : Type 0
+WaitingLaw = (h : List Entry) (x : Watcher) → Has (replay h).watchers x → waiting_events (replay h) x ≡ events_for h x
+
+-- what a watcher is told, where these events wait for it
+abbrev pub told_events : List Event → Reply
+told_events events =
+    if nat_lt most_events (length events) then reply.Refused (refusal.Lagged (length events)) else reply.Events events
+
+abbrev pub poll_of : World → ℕ → Reply
+poll_of w id = (step w (what.Call (call.WatchPoll id))).reply
+
+-- so a poll tells all of that, unless it is too much
+abbrev pub PollLaw : Type 0
+PollLaw =
+    (h : List Entry) (id : ℕ) (x : Watcher) → row_at watcher_id id (replay h).watchers ≡ Some x →
+    poll_of (replay h) id ≡ told_events (events_for h x)
+
+-- and once: the watcher that was told, where it is still there, has its cursor at the poll
+abbrev pub ToldOnceLaw : Type 0
+ToldOnceLaw =
+    (w : World) (id : ℕ) (x : Watcher) → Has (step w (what.Call (call.WatchPoll id))).after.watchers x → x.id ≡ id →
+    x.cursor ≡ w.entries + 1
