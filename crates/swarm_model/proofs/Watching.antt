@@ -1,3 +1,4 @@
+pub mod AllChanges
 pub mod Changes
 pub mod Content
 pub mod Lists

@@ -1,19 +1,44 @@
 -- The events of a history, and what a watcher is told of them.
-use Rattle.std.specs.Prelude.{List, [], ◌∷◌, ◌++◌, ◌+◌, ◌≡◌, ℕ, Some, filter, if◌then◌else◌, length, nat_lt}
+use Rattle.std.specs.Prelude.{List, [], ◌∷◌, ◌++◌, ◌+◌, ◌≡◌, ◌≢◌, ◌↔◌, ⊤, ℕ, None, Option, Some, filter, if◌then◌else◌, length, nat_lt}
 use Rattle.swarm_model.specs.Calls.Watches.{waiting_events, waits_for}
 use Rattle.swarm_model.specs.Changed.{changes_between}
 use Rattle.swarm_model.specs.History.{replay, step, step_world}
 use Rattle.swarm_objects.specs.Limits.{most_events}
-use Rattle.swarm_objects.specs.Rows.{Has, row_at, watcher_id}
-use Rattle.swarm_objects.specs.World.{World, empty_world}
+use Rattle.swarm_objects.specs.Rows.{Has, network_id, node_id, row_at, service_id, task_id, watcher_id}
+use Rattle.swarm_objects.specs.World.{Tables, World, empty_world}
 use Rattle.swarm_objects.specs.declared.calls.Call.TheVariants as call
 use Rattle.swarm_objects.specs.declared.calls.Entry.{Entry}
 use Rattle.swarm_objects.specs.declared.calls.What.TheVariants as what
+use Rattle.swarm_objects.specs.declared.ids.Kind.{Kind}
+use Rattle.swarm_objects.specs.declared.ids.Kind.TheVariants as kind
 use Rattle.swarm_objects.specs.declared.replies.Refusal.TheVariants as refusal
 use Rattle.swarm_objects.specs.declared.replies.Reply.{Reply}
 use Rattle.swarm_objects.specs.declared.replies.Reply.TheVariants as reply
 use Rattle.swarm_objects.specs.declared.watches.Event.{Event}
+use Rattle.swarm_objects.specs.declared.watches.Verb.{Verb}
+use Rattle.swarm_objects.specs.declared.watches.Verb.TheVariants as verb
 use Rattle.swarm_objects.specs.declared.watches.Watcher.{Watcher}
+
+-- this happened to a row
+abbrev pub IsVerb : {X : Type 0} → Option X → Option X → Verb → Type 0
+IsVerb None (Some new) verb.Created = ⊤
+IsVerb (Some old) None verb.Deleted = ⊤
+IsVerb (Some old) (Some new) verb.Updated = old ≢ new
+IsVerb _ _ _ = ⊥
+
+-- this happened to the object of that kind and id
+abbrev pub IsChange : Tables → Tables → Kind → ℕ → Verb → Type 0
+IsChange old new kind.Node id v = IsVerb (row_at node_id id old.nodes) (row_at node_id id new.nodes) v
+IsChange old new kind.Service id v = IsVerb (row_at service_id id old.services) (row_at service_id id new.services) v
+IsChange old new kind.Task id v = IsVerb (row_at task_id id old.tasks) (row_at task_id id new.tasks) v
+IsChange old new kind.Network id v = IsVerb (row_at network_id id old.networks) (row_at network_id id new.networks) v
+IsChange old new kind.Watcher id v = ⊥
+
+-- the events between two worlds are all that happened to their objects, and nothing else
+abbrev pub ChangesLaw : Type 0
+ChangesLaw =
+    (entry : ℕ) (old new : Tables) (e : Event) →
+    Has (changes_between entry old new) e ↔ ((e.entry ≡ entry) × IsChange old new e.kind e.id e.verb)
 
 -- the changes that each of these entries makes, in order
 abbrev pub events_from : World → List Entry → List Event

@@ -13,6 +13,20 @@ use Rattle.swarm_objects.specs.declared.watches.Event.{Event}
 use Rattle.swarm_objects.specs.declared.watches.Verb.{Verb}
 use Rattle.swarm_objects.specs.declared.watches.Verb.TheVariants as verb
 
+-- The events of each kind.
+
+abbrev pub node_events : ℕ → Tables → Tables → List Event
+node_events n t u = events_of n kind.Node node_id same_node t.nodes u.nodes
+
+abbrev pub service_events : ℕ → Tables → Tables → List Event
+service_events n t u = events_of n kind.Service service_id same_service t.services u.services
+
+abbrev pub task_events : ℕ → Tables → Tables → List Event
+task_events n t u = events_of n kind.Task task_id same_task t.tasks u.tasks
+
+abbrev pub network_events : ℕ → Tables → Tables → List Event
+network_events n t u = events_of n kind.Network network_id same_network t.networks u.networks
+
 -- They are of the entry with that number.
 
 events-at : {X : Type 0} (n : ℕ) (k : Kind) (key : X → ℕ) (same : X → X → Bool) (old new : List X) (e : Event) →
@@ -23,7 +37,7 @@ events-at n k key same old new e h =
     ap (λ (z : Event). z.entry) (sym v.2)
 
 -- what holds of each of four lists holds of all of them
-in_four : {X : Type 0} (P : X → Type 0) (ps qs rs ss : List X) (x : X) → Has (ps ++ qs ++ rs ++ ss) x → (Has ps x → P x) →
+pub in_four : {X : Type 0} (P : X → Type 0) (ps qs rs ss : List X) (x : X) → Has (ps ++ qs ++ rs ++ ss) x → (Has ps x → P x) →
     (Has qs x → P x) → (Has rs x → P x) → (Has ss x → P x) → P x
 in_four P ps qs rs ss x h a b c d = last (Has-append_cases (ps ++ qs ++ rs) ss x h)
   where
@@ -42,10 +56,7 @@ in_four P ps qs rs ss x h a b c d = last (Has-append_cases (ps ++ qs ++ rs) ss x
 pub changes-at : (n : ℕ) (t u : Tables) (e : Event) → Has (changes_between n t u) e → e.entry ≡ n
 changes-at n t u e h =
     in_four (λ (z : Event). z.entry ≡ n)
-    (events_of n kind.Node node_id same_node t.nodes u.nodes)
-    (events_of n kind.Service service_id same_service t.services u.services)
-    (events_of n kind.Task task_id same_task t.tasks u.tasks)
-    (events_of n kind.Network network_id same_network t.networks u.networks) e h
+    (node_events n t u) (service_events n t u) (task_events n t u) (network_events n t u) e h
     (events-at n kind.Node node_id same_node t.nodes u.nodes e)
     (events-at n kind.Service service_id same_service t.services u.services e)
     (events-at n kind.Task task_id same_task t.tasks u.tasks e)
@@ -73,7 +84,7 @@ four-none ps qs rs ss a b c d = rw (a, b, c, d) refl
 
 pub changes-none : (n : ℕ) (t : Tables) → changes_between n t t ≡ []
 changes-none n t =
-    four-none _ _ _ _
+    four-none (node_events n t t) (service_events n t t) (task_events n t t) (network_events n t t)
     (events-none n kind.Node node_id same_node node-itself t.nodes)
     (events-none n kind.Service service_id same_service service-itself t.services)
     (events-none n kind.Task task_id same_task task-itself t.tasks)
