@@ -2,5 +2,6 @@ pub mod AllChanges
 pub mod Changes
 pub mod Content
 pub mod Lists
+pub mod Polls
 pub mod Waiting
 pub mod Watchers

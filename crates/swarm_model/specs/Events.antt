@@ -3,6 +3,7 @@ use Rattle.std.specs.Prelude.{List, [], ◌∷◌, ◌++◌, ◌+◌, ◌≡◌,
 use Rattle.swarm_model.specs.Calls.Watches.{waiting_events, waits_for}
 use Rattle.swarm_model.specs.Changed.{changes_between}
 use Rattle.swarm_model.specs.History.{replay, step, step_world}
+use Rattle.swarm_model.specs.Outcome.{Outcome}
 use Rattle.swarm_objects.specs.Limits.{most_events}
 use Rattle.swarm_objects.specs.Rows.{Has, network_id, node_id, row_at, service_id, task_id, watcher_id}
 use Rattle.swarm_objects.specs.World.{Tables, World, empty_world}
@@ -62,17 +63,17 @@ abbrev pub told_events : List Event → Reply
 told_events events =
     if nat_lt most_events (length events) then reply.Refused (refusal.Lagged (length events)) else reply.Events events
 
-abbrev pub poll_of : World → ℕ → Reply
-poll_of w id = (step w (what.Call (call.WatchPoll id))).reply
+abbrev pub poll : World → ℕ → Outcome
+poll w id = step w (what.Call (call.WatchPoll id))
 
 -- so a poll tells all of that, unless it is too much
 abbrev pub PollLaw : Type 0
 PollLaw =
     (h : List Entry) (id : ℕ) (x : Watcher) → row_at watcher_id id (replay h).watchers ≡ Some x →
-    poll_of (replay h) id ≡ told_events (events_for h x)
+    (poll (replay h) id).reply ≡ told_events (events_for h x)
 
--- and once: the watcher that was told, where it is still there, has its cursor at the poll
+-- and once: nothing waits for the watcher after it
 abbrev pub ToldOnceLaw : Type 0
 ToldOnceLaw =
-    (w : World) (id : ℕ) (x : Watcher) → Has (step w (what.Call (call.WatchPoll id))).after.watchers x → x.id ≡ id →
-    x.cursor ≡ w.entries + 1
+    (h : List Entry) (id : ℕ) (x : Watcher) → Has (poll (replay h) id).after.watchers x → x.id ≡ id →
+    waiting_events (poll (replay h) id).after x ≡ []

@@ -109,7 +109,7 @@ past-more n events more past at e h = go (Has-append_cases events more e h)
     go (inr k) = let is = at e k in omega arith
 
 -- who has read up to the entry waits for nothing that has been
-none-past : (n : ℕ) (events : List Event) (x : Watcher) → UpTo n events → x.cursor ≡ n → filter (waits_for x) events ≡ []
+pub none-past : (n : ℕ) (events : List Event) (x : Watcher) → UpTo n events → x.cursor ≡ n → filter (waits_for x) events ≡ []
 none-past n events x past at =
     filter-none (waits_for x) events (λ e h. waits-past x e (let le = past e h in omega (arith, at)))
 
@@ -146,9 +146,6 @@ entered-watched w v is sees = record {
     upto : (e : Event) → Has w.events e ⊎ (e.entry ≡ w.entries + 1) → e.entry ≤ w.entries + 1
     upto e (inl k) = let le = is.past e k in omega arith
     upto e (inr k) = omega (arith, k)
-
-counted : World → World
-counted w = record w { entries = w.entries + 1 }
 
 counted-watched : (w : World) → IsWatched w → IsWatched (record w { entries = w.entries + 1 })
 counted-watched w is = record {
