@@ -162,5 +162,8 @@ change-has n t u kind.Network id v is =
 change-has n t u kind.Watcher id v is = absurd is
 
 pub all-changes : ChangesLaw
-all-changes n t u e = (change-is n t u e, λ is.
-    subst (Has (changes_between n t u)) (ap (λ m. event m e.kind e.id e.verb) (sym is.0)) (change-has n t u e.kind e.id e.verb is.1))
+all-changes n t u e = (
+  change-is n t u e,
+  λ is.
+      subst (Has (changes_between n t u)) (ap (λ m. event m e.kind e.id e.verb) (sym is.0)) (change-has n t u e.kind e.id e.verb is.1),
+)

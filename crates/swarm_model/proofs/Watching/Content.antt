@@ -91,14 +91,28 @@ pub Decides-same_node : (a b : Node) → a.id ≡ b.id → Decides (same_node a 
 Decides-same_node a b same =
     Decides-like (same_node a b)
     (λ e i. record {
-      id = same i; version = e.0.0 i; name = e.0.1.0.0.0 i; labels = e.0.1.0.0.1 i; role = e.0.1.0.1 i;
-      availability = e.0.1.1 i; state = e.1.0.0.0.0.0.0.0 i; down_since = e.1.0.0.0.0.0.0.1 i;
-      cpu = e.1.0.0.0.0.0.1 i; mem = e.1.0.0.0.0.1 i; os = e.1.0.0.0.1 i; arch = e.1.0.0.1 i;
-      engine = e.1.0.1 i; remote = e.1.1 i;
+      id = same i;
+      version = e.0.0 i;
+      name = e.0.1.0.0.0 i;
+      labels = e.0.1.0.0.1 i;
+      role = e.0.1.0.1 i;
+      availability = e.0.1.1 i;
+      state = e.1.0.0.0.0.0.0.0 i;
+      down_since = e.1.0.0.0.0.0.0.1 i;
+      cpu = e.1.0.0.0.0.0.1 i;
+      mem = e.1.0.0.0.0.1 i;
+      os = e.1.0.0.0.1 i;
+      arch = e.1.0.0.1 i;
+      engine = e.1.0.1 i;
+      remote = e.1.1 i;
     })
-    (λ e. ((ap (λ (x : Node). x.version) e,
-      (((ap (λ (x : Node). x.name) e, ap (λ (x : Node). x.labels) e), ap (λ (x : Node). x.role) e), ap (λ (x : Node). x.availability) e)),
-      (((((((ap (λ (x : Node). x.state) e, ap (λ (x : Node). x.down_since) e), ap (λ (x : Node). x.cpu) e), ap (λ (x : Node). x.mem) e), ap (λ (x : Node). x.os) e), ap (λ (x : Node). x.arch) e), ap (λ (x : Node). x.engine) e), ap (λ (x : Node). x.remote) e)))
+    (λ e. (
+      (
+        ap (λ (x : Node). x.version) e,
+        (((ap (λ (x : Node). x.name) e, ap (λ (x : Node). x.labels) e), ap (λ (x : Node). x.role) e), ap (λ (x : Node). x.availability) e),
+      ),
+      (((((((ap (λ (x : Node). x.state) e, ap (λ (x : Node). x.down_since) e), ap (λ (x : Node). x.cpu) e), ap (λ (x : Node). x.mem) e), ap (λ (x : Node). x.os) e), ap (λ (x : Node). x.arch) e), ap (λ (x : Node). x.engine) e), ap (λ (x : Node). x.remote) e),
+    ))
     (Decides-and _ _ (Decides-and _ _ (Decides-eqb a.version b.version) (Decides-same_node_wish a b)) (Decides-same_node_facts a b))
 
 -- Services.
@@ -185,13 +199,24 @@ pub Decides-same_service : (a b : Service) → a.id ≡ b.id → Decides (same_s
 Decides-same_service a b same =
     Decides-like (same_service a b)
     (λ e i. record {
-      id = same i; version = e.0.0 i; name = e.0.1.0.0 i; spec = e.0.1.0.1 i; previous = e.0.1.1 i;
-      template_version = e.1.0.0.0.0 i; rolling_back = e.1.0.0.0.1 i; iteration = e.1.0.0.1 i;
-      numbers = e.1.0.1 i; run = e.1.1 i;
+      id = same i;
+      version = e.0.0 i;
+      name = e.0.1.0.0 i;
+      spec = e.0.1.0.1 i;
+      previous = e.0.1.1 i;
+      template_version = e.1.0.0.0.0 i;
+      rolling_back = e.1.0.0.0.1 i;
+      iteration = e.1.0.0.1 i;
+      numbers = e.1.0.1 i;
+      run = e.1.1 i;
     })
-    (λ e. ((ap (λ (x : Service). x.version) e,
-      ((ap (λ (x : Service). x.name) e, ap (λ (x : Service). x.spec) e), ap (λ (x : Service). x.previous) e)),
-      ((((ap (λ (x : Service). x.template_version) e, ap (λ (x : Service). x.rolling_back) e), ap (λ (x : Service). x.iteration) e), ap (λ (x : Service). x.numbers) e), ap (λ (x : Service). x.run) e)))
+    (λ e. (
+      (
+        ap (λ (x : Service). x.version) e,
+        ((ap (λ (x : Service). x.name) e, ap (λ (x : Service). x.spec) e), ap (λ (x : Service). x.previous) e),
+      ),
+      ((((ap (λ (x : Service). x.template_version) e, ap (λ (x : Service). x.rolling_back) e), ap (λ (x : Service). x.iteration) e), ap (λ (x : Service). x.numbers) e), ap (λ (x : Service). x.run) e),
+    ))
     (Decides-and _ _ (Decides-and _ _ (Decides-eqb a.version b.version) (Decides-same_service_wish a b)) (Decides-same_service_facts a b))
 
 -- Tasks.
@@ -282,15 +307,31 @@ pub Decides-same_task : (a b : Task) → a.id ≡ b.id → Decides (same_task a 
 Decides-same_task a b same =
     Decides-like (same_task a b)
     (λ e i. record {
-      id = same i; version = e.0.0 i; service = e.0.1.0.0.0.0.0.0.0 i; place = e.0.1.0.0.0.0.0.0.1 i;
-      iteration = e.0.1.0.0.0.0.0.1 i; template = e.0.1.0.0.0.0.1 i; born = e.0.1.0.0.0.1 i;
-      goal = e.0.1.0.0.1 i; created = e.0.1.0.1 i; raise_at = e.0.1.1 i; node = e.1.0.0.0.0.0.0 i;
-      state = e.1.0.0.0.0.0.1 i; since = e.1.0.0.0.0.1 i; desired = e.1.0.0.0.1 i; addresses = e.1.0.0.1 i;
-      note = e.1.0.1 i; closed = e.1.1 i;
+      id = same i;
+      version = e.0.0 i;
+      service = e.0.1.0.0.0.0.0.0.0 i;
+      place = e.0.1.0.0.0.0.0.0.1 i;
+      iteration = e.0.1.0.0.0.0.0.1 i;
+      template = e.0.1.0.0.0.0.1 i;
+      born = e.0.1.0.0.0.1 i;
+      goal = e.0.1.0.0.1 i;
+      created = e.0.1.0.1 i;
+      raise_at = e.0.1.1 i;
+      node = e.1.0.0.0.0.0.0 i;
+      state = e.1.0.0.0.0.0.1 i;
+      since = e.1.0.0.0.0.1 i;
+      desired = e.1.0.0.0.1 i;
+      addresses = e.1.0.0.1 i;
+      note = e.1.0.1 i;
+      closed = e.1.1 i;
     })
-    (λ e. ((ap (λ (x : Task). x.version) e,
-      (((((((ap (λ (x : Task). x.service) e, ap (λ (x : Task). x.place) e), ap (λ (x : Task). x.iteration) e), ap (λ (x : Task). x.template) e), ap (λ (x : Task). x.born) e), ap (λ (x : Task). x.goal) e), ap (λ (x : Task). x.created) e), ap (λ (x : Task). x.raise_at) e)),
-      ((((((ap (λ (x : Task). x.node) e, ap (λ (x : Task). x.state) e), ap (λ (x : Task). x.since) e), ap (λ (x : Task). x.desired) e), ap (λ (x : Task). x.addresses) e), ap (λ (x : Task). x.note) e), ap (λ (x : Task). x.closed) e)))
+    (λ e. (
+      (
+        ap (λ (x : Task). x.version) e,
+        (((((((ap (λ (x : Task). x.service) e, ap (λ (x : Task). x.place) e), ap (λ (x : Task). x.iteration) e), ap (λ (x : Task). x.template) e), ap (λ (x : Task). x.born) e), ap (λ (x : Task). x.goal) e), ap (λ (x : Task). x.created) e), ap (λ (x : Task). x.raise_at) e),
+      ),
+      ((((((ap (λ (x : Task). x.node) e, ap (λ (x : Task). x.state) e), ap (λ (x : Task). x.since) e), ap (λ (x : Task). x.desired) e), ap (λ (x : Task). x.addresses) e), ap (λ (x : Task). x.note) e), ap (λ (x : Task). x.closed) e),
+    ))
     (Decides-and _ _ (Decides-and _ _ (Decides-eqb a.version b.version) (Decides-same_task_making a b)) (Decides-same_task_facts a b))
 
 -- Networks.

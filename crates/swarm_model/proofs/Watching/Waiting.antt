@@ -187,8 +187,8 @@ kept-stay old new is more =
     kept-is old new new.watchers
     ∙ filter-both (is_waited_for new.watchers) old.events _
     ∙ ap (λ es. es ++ filter (is_waited_for new.watchers) (changes_between (old.entries + 1) old.tables new.tables))
-        (filter-all (is_waited_for new.watchers) old.events
-        (λ e h. waited-more old.watchers new.watchers e more (is.waited e h)))
+    (filter-all (is_waited_for new.watchers) old.events
+    (λ e h. waited-more old.watchers new.watchers e more (is.waited e h)))
 
 -- Each entry tells its changes.
 
