@@ -1,6 +1,6 @@
 -- The events between two worlds are exactly the changes of their rows.
 use Rattle.std.proofs.Common.{◌≡◌, ◌≢◌, ℕ, Bool, true, false, cond, List, [], ◌∷◌, ◌++◌, refl, ap, sym, ◌∙◌, subst, Option, Some, None, ◌⊎◌, inl, inr}
-use Rattle.std.specs.Prelude.{flat_map, fold, map, ◌↔◌, ⊤}
+use Rattle.std.specs.Prelude.{fold, map}
 use Rattle.std.specs.Bool.{Decides}
 use Rattle.swarm_model.proofs.Watching.Changes.{in_four, network_events, node_events, service_events, task_events}
 use Rattle.swarm_model.proofs.Watching.Content.{Decides-same_network, Decides-same_node, Decides-same_service, Decides-same_task}

@@ -1,5 +1,5 @@
 -- The changes between two worlds.
-use Rattle.std.proofs.Common.{◌≡◌, ℕ, Bool, true, false, cond, List, [], ◌∷◌, ◌++◌, refl, ap, sym, ◌∙◌, subst, Option, Some, None, ◌⊎◌, inl, inr}
+use Rattle.std.proofs.Common.{◌≡◌, ℕ, Bool, true, cond, List, [], ◌∷◌, ◌++◌, refl, ap, sym, ◌∙◌, Option, Some, None, ◌⊎◌, inl, inr}
 use Rattle.std.specs.Prelude.{flat_map, map}
 use Rattle.swarm_model.proofs.Watching.Content.{network-itself, node-itself, service-itself, task-itself}
 use Rattle.swarm_model.specs.Changed.{changes_between, event, events_of, row_events, verb_of}
@@ -10,7 +10,6 @@ use Rattle.swarm_objects.specs.World.{Tables}
 use Rattle.swarm_objects.specs.declared.ids.Kind.{Kind}
 use Rattle.swarm_objects.specs.declared.ids.Kind.TheVariants as kind
 use Rattle.swarm_objects.specs.declared.watches.Event.{Event}
-use Rattle.swarm_objects.specs.declared.watches.Verb.{Verb}
 use Rattle.swarm_objects.specs.declared.watches.Verb.TheVariants as verb
 
 -- The events of each kind.

@@ -1,12 +1,12 @@
 -- Only a poll and the end of a watcher take events away; any other entry adds its changes to those that are kept.
-use Rattle.std.proofs.Common.{◌≡◌, ℕ, ◌+◌, Bool, true, false, List, [], ◌++◌, append-nil, refl, ap, sym, ◌∙◌, subst, Ok, Err}
+use Rattle.std.proofs.Common.{◌≡◌, ◌+◌, Bool, true, false, List, [], ◌++◌, append-nil, refl, ap, sym, ◌∙◌, subst, Ok, Err}
 use Rattle.std.specs.Prelude.{filter}
 use Rattle.swarm_model.proofs.Base.Answers.{OnGiven, given-unless}
 use Rattle.swarm_model.proofs.Watching.Changes.{changes-none}
 use Rattle.swarm_model.proofs.Watching.Waiting.{IsWatched, kept-stay, unwatched, watched-replay}
-use Rattle.swarm_model.proofs.Watching.Watchers.{CallKeeps, KeepsWatchers, answer-watchers, duty-watchers, is_on_watchers}
+use Rattle.swarm_model.proofs.Watching.Watchers.{KeepsWatchers, answer-watchers, duty-watchers, is_on_watchers}
 use Rattle.swarm_model.specs.Calls.{answer, answered, call_outcome}
-use Rattle.swarm_model.specs.Calls.Watches.{is_waited_for, new_watcher, with_watcher}
+use Rattle.swarm_model.specs.Calls.Watches.{is_waited_for}
 use Rattle.swarm_model.specs.Changed.{changes_between}
 use Rattle.swarm_model.specs.History.{effect, replay}
 use Rattle.swarm_model.specs.Outcome.{Answered}

@@ -1,19 +1,18 @@
 -- A poll tells all that waits, and once.
-use Rattle.std.proofs.Common.{◌≡◌, ℕ, ◌+◌, Bool, true, false, cond, eqb, List, [], ◌∷◌, refl, ap, sym, ◌∙◌, subst, arith, Option, Some, None, length, nat_lt, ◌⊎◌, inl, inr}
+use Rattle.std.proofs.Common.{◌≡◌, ℕ, ◌+◌, Bool, true, false, cond, eqb, List, [], ◌∷◌, refl, ap, sym, ◌∙◌, Option, Some, None, length, nat_lt, inl, inr}
 use Rattle.std.specs.Prelude.{not, ◌==◌}
-use Rattle.std.proofs.lemmas.Bool.Decides.{Decides-eqb, nat_tests}
+use Rattle.std.proofs.lemmas.Bool.Decides.{Decides-eqb}
 use Rattle.swarm_model.proofs.Base.Histories.{entries-step}
 use Rattle.swarm_model.proofs.Watching.Waiting.{all-wait, none-past, step-watched, watched-replay}
 use Rattle.swarm_model.specs.Calls.{answered}
 use Rattle.swarm_model.specs.Calls.Watches.{polled, told_all, told_at, waiting_events, watch_poll, without_watcher}
-use Rattle.swarm_model.specs.Events.{PollLaw, ToldOnceLaw, events_for, poll, told_events}
+use Rattle.swarm_model.specs.Events.{PollLaw, ToldOnceLaw, poll, told_events}
 use Rattle.swarm_model.specs.History.{replay}
 use Rattle.swarm_objects.proofs.RowLemmas.{Has-filter_cases, Has-from_row_at, Has-map_cases}
 use Rattle.swarm_objects.specs.Limits.{most_events}
 use Rattle.swarm_objects.specs.Rows.{Has, row_at, watcher_id}
 use Rattle.swarm_objects.specs.World.{World}
 use Rattle.swarm_objects.specs.declared.calls.Call.TheVariants as call
-use Rattle.swarm_objects.specs.declared.calls.Entry.{Entry}
 use Rattle.swarm_objects.specs.declared.calls.What.TheVariants as what
 use Rattle.swarm_objects.specs.declared.replies.Refusal.TheVariants as refusal
 use Rattle.swarm_objects.specs.declared.replies.Reply.{Reply}

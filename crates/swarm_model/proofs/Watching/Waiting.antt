@@ -1,7 +1,6 @@
 -- The events that a world keeps are those of the history, as far as a watcher waits for them.
-use Rattle.std.proofs.Common.{◌≡◌, ℕ, ◌+◌, ◌≤◌, Bool, true, false, cond, List, [], ◌∷◌, ◌++◌, refl, ap, sym, ◌∙◌, subst, arith, append-nil, append_assoc, nat_lt, Ok, Err, ◌⊎◌, inl, inr}
+use Rattle.std.proofs.Common.{◌≡◌, ℕ, ◌+◌, ◌≤◌, Bool, true, false, List, [], ◌∷◌, ◌++◌, refl, ap, sym, ◌∙◌, subst, arith, append-nil, append_assoc, nat_lt, Ok, Err, ◌⊎◌, inl, inr}
 use Rattle.std.specs.Prelude.{filter, ◌||◌, ◌&&◌}
-use Rattle.std.specs.List.{list_any}
 use Rattle.std.proofs.lemmas.Bool.Decides.{nat_tests}
 use Rattle.swarm_model.proofs.Watching.Changes.{changes-at, changes-none}
 use Rattle.swarm_model.proofs.Watching.Lists.{filter-all, filter-both, filter-none, filter-wider}
@@ -12,7 +11,7 @@ use Rattle.swarm_model.specs.Changed.{changes_between}
 use Rattle.swarm_model.specs.Events.{WaitingLaw, events_from, events_of_history}
 use Rattle.swarm_model.specs.History.{replay, replay_from, step, step_world}
 use Rattle.swarm_model.specs.Outcome.{Answered}
-use Rattle.swarm_objects.proofs.RowLemmas.{Has-append_cases, Has-append_left, Has-filter_cases}
+use Rattle.swarm_objects.proofs.RowLemmas.{Has-append_cases, Has-filter_cases}
 use Rattle.swarm_objects.specs.Duties.{effect_by}
 use Rattle.swarm_objects.specs.Rows.{Has}
 use Rattle.swarm_objects.specs.World.{World, empty_world}

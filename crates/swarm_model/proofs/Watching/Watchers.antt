@@ -1,19 +1,17 @@
 -- What an entry does to the watchers.
-use Rattle.std.proofs.Common.{◌≡◌, ℕ, ◌+◌, ◌*◌, Bool, true, false, cond, List, [], ◌∷◌, refl, ap, sym, ◌∙◌, subst, arith, Option, Some, None, Result, Ok, Err, length, nat_lt, ◌⊎◌, inl, inr}
-use Rattle.std.specs.Prelude.{not, ◌==◌}
-use Rattle.std.proofs.lemmas.Bool.Decides.{nat_tests}
+use Rattle.std.proofs.Common.{◌≡◌, ℕ, ◌+◌, ◌*◌, Bool, true, false, cond, List, [], ◌∷◌, refl, ap, sym, ◌∙◌, subst, Option, Some, None, Result, Ok, Err, length, nat_lt, ◌⊎◌, inl, inr}
+use Rattle.std.specs.Prelude.{◌==◌}
 use Rattle.swarm_model.proofs.Base.Answers.{OnDone, OnGiven, given-found, given-if, given-if_not, given-unless, given-unless_some, ops-keep}
-use Rattle.swarm_model.specs.Calls.{answer, answered, txn_answer, viewed}
+use Rattle.swarm_model.specs.Calls.{answer, txn_answer, viewed}
 use Rattle.swarm_model.specs.Calls.Faults.{on_agent}
 use Rattle.swarm_model.specs.Calls.Operations.{apply_op, apply_ops}
-use Rattle.swarm_model.specs.Calls.Refusals.{conflict, found, in_use, network_by, node_by, service_by}
+use Rattle.swarm_model.specs.Calls.Refusals.{conflict, found, network_by, node_by, service_by}
 use Rattle.swarm_model.specs.Calls.Networks.{remove_network}
 use Rattle.swarm_model.specs.Calls.Nodes.{remove_node, respecified_node, update_node}
 use Rattle.swarm_model.specs.Calls.Remote.{begin_with, given_or, not_admitted, on_remote, on_session, pulled, report}
-use Rattle.swarm_model.specs.Calls.Services.{go_back, put_service, remove_service, respecified, rollback_service, update_service}
+use Rattle.swarm_model.specs.Calls.Services.{go_back, remove_service, rollback_service, update_service}
 use Rattle.swarm_model.specs.Calls.Views.{View, shows}
-use Rattle.swarm_model.specs.Calls.Watches.{new_watcher, polled, told_all, told_at, waiting_events, watch_begin, watch_finish, watch_poll, with_watcher, without_watcher}
-use Rattle.swarm_model.specs.History.{step}
+use Rattle.swarm_model.specs.Calls.Watches.{new_watcher, told_all, told_at, waiting_events, watch_finish, watch_poll, without_watcher}
 use Rattle.swarm_model.specs.Outcome.{Answered}
 use Rattle.swarm_objects.proofs.RowLemmas.{Has-append_cases, Has-filter_cases, Has-map_cases}
 use Rattle.swarm_objects.specs.Agents.Messages.{message_for}
@@ -22,15 +20,13 @@ use Rattle.swarm_objects.specs.Duties.{effect_by}
 use Rattle.swarm_objects.specs.Limits.{most_events, most_ops}
 use Rattle.swarm_objects.specs.Loops.Agents.{after_beat, after_pull, change_agent}
 use Rattle.swarm_objects.specs.Nodes.Sessions.{session_of}
-use Rattle.swarm_objects.specs.Rows.{Has, change_row, drop_row, row_at, task_id, watcher_id}
+use Rattle.swarm_objects.specs.Rows.{Has, row_at, task_id, watcher_id}
 use Rattle.swarm_objects.specs.World.{World}
 use Rattle.swarm_objects.specs.declared.agents.NodeAgent.{NodeAgent}
 use Rattle.swarm_objects.specs.declared.calls.Call.{Call}
 use Rattle.swarm_objects.specs.declared.calls.Call.TheVariants as call
 use Rattle.swarm_objects.specs.declared.calls.Op.{Op}
 use Rattle.swarm_objects.specs.declared.calls.Op.TheVariants as op
-use Rattle.swarm_objects.specs.declared.calls.What.{What}
-use Rattle.swarm_objects.specs.declared.calls.What.TheVariants as what
 use Rattle.swarm_objects.specs.declared.duties.Duty.{Duty}
 use Rattle.swarm_objects.specs.declared.duties.Duty.TheVariants as duty
 use Rattle.swarm_objects.specs.declared.ids.Kind.TheVariants as kind
