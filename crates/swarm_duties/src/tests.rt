@@ -58,7 +58,7 @@ fn add_node(plain: &mut Plain, id: Id) -> Result<(), NoMemory> {
     let ready = node(plain.alloc, id, NodeState::Ready)?;
     add(&mut plain.nodes, ready)?;
     let session = Session {
-        id: id + 1,
+        id: id.saturating_add(1),
         deadline: 15_000,
         beat: 0,
     };
