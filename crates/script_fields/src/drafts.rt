@@ -1,12 +1,6 @@
 // What the fields of a line say together.
-ghost use Rattle.std.specs.Prelude.{◌≡◌, [], ◌∷◌, ◌++◌, codes, IfOk, filter_map, true, false};
-ghost use Rattle.swarm_objects.specs.declared.services.Mode.TheVariants as mode;
-ghost use Rattle.swarm_objects.specs.declared.templates.End.TheVariants as end;
-ghost use Rattle.swarm_objects.specs.declared.templates.RestartCondition.TheVariants as condition;
-ghost use Rattle.swarm_objects.specs.declared.services.FailureAction.TheVariants as action;
-ghost use Rattle.swarm_objects.specs.declared.services.UpdateOrder.TheVariants as order;
-ghost use Rattle.swarm_objects.specs.declared.nodes.NodeRole.TheVariants as role;
-ghost use Rattle.swarm_objects.specs.declared.nodes.Availability.TheVariants as availability;
+ghost use Rattle.std.specs.Prelude.{◌≡◌, IfOk, filter_map};
+ghost use Rattle.swarm_objects.specs.Defaults.{usual_mode, usual_node, usual_restart, usual_update, usual_workload};
 ghost use Rattle.script_grammar.specs.Drafts.{named_or, number_in, number_named, number_given, mode_in, end_in, restart_in, failure_in, order_in, role_in, availability_in, os_in, arch_in, remote_in, constraint_in, spread_in, net_in, port_in, host_in, platform_in, draft_of, node_draft_of, settings_of};
 
 use crate::labels::{engines_named, labels_named};
@@ -53,108 +47,108 @@ pub fn number_given(which: NumberField, fields: &[Field]) -> Option<u64>
 }
 
 fn mode_named(fields: &[Field]) -> Mode
-    ensures { result ≡ named_or mode_in (mode.Replicated 1) fields.now }
+    ensures { result ≡ named_or mode_in usual_mode fields.now }
 {
     for field in fields {
         if let Field::Mode(value) = field {
             return *value;
         }
     }
-    Mode::Replicated(1)
+    Mode::usual()
 }
 
 fn end_named(fields: &[Field]) -> End
-    ensures { result ≡ named_or end_in end.Never fields.now }
+    ensures { result ≡ named_or end_in usual_workload.end fields.now }
 {
     for field in fields {
         if let Field::End(value) = field {
             return *value;
         }
     }
-    End::Never
+    Workload::usual().end
 }
 
 fn restart_named(fields: &[Field]) -> RestartCondition
-    ensures { result ≡ named_or restart_in condition.Any fields.now }
+    ensures { result ≡ named_or restart_in usual_restart.condition fields.now }
 {
     for field in fields {
         if let Field::Restart(value) = field {
             return *value;
         }
     }
-    RestartCondition::Any
+    RestartPolicy::usual().condition
 }
 
 fn failure_named(fields: &[Field]) -> FailureAction
-    ensures { result ≡ named_or failure_in action.Pause fields.now }
+    ensures { result ≡ named_or failure_in usual_update.action fields.now }
 {
     for field in fields {
         if let Field::Failure(value) = field {
             return *value;
         }
     }
-    FailureAction::Pause
+    UpdateConfig::usual().action
 }
 
 fn order_named(fields: &[Field]) -> UpdateOrder
-    ensures { result ≡ named_or order_in order.StopFirst fields.now }
+    ensures { result ≡ named_or order_in usual_update.order fields.now }
 {
     for field in fields {
         if let Field::Order(value) = field {
             return *value;
         }
     }
-    UpdateOrder::StopFirst
+    UpdateConfig::usual().order
 }
 
 /// The role that the fields of a node name, or else a worker's.
 pub fn role_named(fields: &[Field]) -> NodeRole
-    ensures { result ≡ named_or role_in role.Worker fields.now }
+    ensures { result ≡ named_or role_in usual_node.role fields.now }
 {
     for field in fields {
         if let Field::Role(value) = field {
             return *value;
         }
     }
-    NodeRole::Worker
+    NodeDraft::USUAL_ROLE
 }
 
 /// The availability that the fields of a node name, or else an active node's.
 pub fn availability_named(fields: &[Field]) -> Availability
-    ensures { result ≡ named_or availability_in availability.Active fields.now }
+    ensures { result ≡ named_or availability_in usual_node.availability fields.now }
 {
     for field in fields {
         if let Field::Availability(value) = field {
             return *value;
         }
     }
-    Availability::Active
+    NodeDraft::USUAL_AVAILABILITY
 }
 
 fn os_named(alloc: Global, fields: &[Field]) -> Result<Name, NoMemory>
-    ensures { IfOk result (λ name. name ≡ named_or os_in (codes "linux") fields.now) }
+    ensures { IfOk result (λ name. name ≡ named_or os_in usual_node.os fields.now) }
 {
     for field in fields {
         if let Field::Os(name) = field {
             return name.duplicate(alloc);
         }
     }
-    Ok(Name::new(alloc, "linux")?)
+    Ok(Name::new(alloc, NodeDraft::USUAL_OS)?)
 }
 
 fn arch_named(alloc: Global, fields: &[Field]) -> Result<Name, NoMemory>
-    ensures { IfOk result (λ name. name ≡ named_or arch_in (codes "amd64") fields.now) }
+    ensures { IfOk result (λ name. name ≡ named_or arch_in usual_node.arch fields.now) }
 {
     for field in fields {
         if let Field::Arch(name) = field {
             return name.duplicate(alloc);
         }
     }
-    Ok(Name::new(alloc, "amd64")?)
+    Ok(Name::new(alloc, NodeDraft::USUAL_ARCH)?)
 }
 
 fn remote_named(fields: &[Field]) -> bool
-    ensures { result ≡ named_or remote_in false fields.now }
+    ensures { result ≡ named_or remote_in usual_node.remote fields.now }
 {
     for field in fields {
         if let Field::Remote = field {

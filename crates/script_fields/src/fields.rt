@@ -332,7 +332,8 @@ fn keyed_field(alloc: Global, key: &[u8], value: &[u8]) -> Result<Option<Field>,
     }
 }
 
-/// The field that the word is, if it is one: one of the words `global`, `reject` and `remote`, or a key, `=` and a value.
+/// The field that the word is, if it is one: one of the words `global`, `reject` and `remote`, or a key, `=` and a
+/// value.
 pub fn field_of(alloc: Global, word: &[u8]) -> Result<Option<Field>, NoMemory>
     ensures { IfOk result (λ f. f ≡ field_of word.now) }
 {

@@ -15,11 +15,8 @@ pub use drafts::{
     availability_named, draft_of, node_draft_of, number_given, role_named, settings_of,
 };
 pub use fields::field_of;
-pub use labels::{engines_named, labels_named};
-pub use spelling::{is_spelled, put_constraint, put_field, put_key, put_port};
-pub use tables::{
-    belongs, clashes, comes_before, fits, follows, is_default, may_repeat, may_stand,
-    number_default, row,
-};
+pub use labels::labels_named;
+pub use spelling::{put_constraint, put_field, put_key, put_port};
+pub use tables::{may_stand, number_default};
 pub use values::{byte_number, number_of, port_number, split_at};
 pub use words::Words;

@@ -1,6 +1,7 @@
 // The one spelling of fields.
-ghost use Rattle.std.specs.Prelude.{◌≡◌, ◌++◌, IfOk, OnOk, string_bytes};
+ghost use Rattle.std.specs.Prelude.{◌≡◌, ◌++◌, IfOk};
 ghost use Rattle.std.specs.Str.{bytes_eq};
+ghost use Rattle.swarm_objects.specs.Writers.{Puts};
 ghost use Rattle.swarm_filters.specs.Grammar.{sign_of};
 ghost use Rattle.swarm_filters.specs.Spellings.{key_text, constraint_text};
 ghost use Rattle.script_grammar.specs.Fields.{number_word, udp_text, port_text, mode_text, end_text, condition_text, failure_text, order_text, availability_text, field_text};
@@ -90,7 +91,7 @@ const fn availability_text(availability: Availability) -> &'static str
 
 // Writes one text behind the other.
 fn put_two(text: &mut String, left: &str, right: &str) -> Result<(), AllocError>
-    ensures { OnOk result (string_bytes text.new ≡ string_bytes text.old ++ (left.now ++ right.now)) }
+    ensures { Puts result text.old text.new (left.now ++ right.now) }
 {
     text.push_str(left)?;
     text.push_str(right)
@@ -98,7 +99,7 @@ fn put_two(text: &mut String, left: &str, right: &str) -> Result<(), AllocError>
 
 /// Writes the port's text at the end: its target, the number that stands for it where one does, and `/udp`.
 pub fn put_port(text: &mut String, port: &Port) -> Result<(), AllocError>
-    ensures { OnOk result (string_bytes text.new ≡ string_bytes text.old ++ port_text port.now) }
+    ensures { Puts result text.old text.new (port_text port.now) }
 {
     match port.number {
         Some(number) => write!(text, "{}:{number}{}", port.target, udp_text(port.udp)),
@@ -108,7 +109,7 @@ pub fn put_port(text: &mut String, port: &Port) -> Result<(), AllocError>
 
 /// Writes the key's text at the end, in small letters but for its name.
 pub fn put_key(text: &mut String, key: &Key) -> Result<(), AllocError>
-    ensures { OnOk result (string_bytes text.new ≡ string_bytes text.old ++ key_text key.now) }
+    ensures { Puts result text.old text.new (key_text key.now) }
 {
     match key {
         Key::NodeId => text.push_str("node.id"),
@@ -122,7 +123,7 @@ pub fn put_key(text: &mut String, key: &Key) -> Result<(), AllocError>
 }
 
 fn put_mode(text: &mut String, mode: Mode) -> Result<(), AllocError>
-    ensures { OnOk result (string_bytes text.new ≡ string_bytes text.old ++ mode_text mode) }
+    ensures { Puts result text.old text.new (mode_text mode) }
 {
     match mode {
         Mode::Replicated(n) => write!(text, "replicas={n}"),
@@ -132,7 +133,7 @@ fn put_mode(text: &mut String, mode: Mode) -> Result<(), AllocError>
 }
 
 fn put_end(text: &mut String, end: End) -> Result<(), AllocError>
-    ensures { OnOk result (string_bytes text.new ≡ string_bytes text.old ++ end_text end) }
+    ensures { Puts result text.old text.new (end_text end) }
 {
     match end {
         End::Never => Ok(()),
@@ -142,7 +143,7 @@ fn put_end(text: &mut String, end: End) -> Result<(), AllocError>
 }
 
 fn put_constraint_text(text: &mut String, constraint: &Constraint) -> Result<(), AllocError>
-    ensures { OnOk result (string_bytes text.new ≡ string_bytes text.old ++ constraint_text constraint.now) }
+    ensures { Puts result text.old text.new (constraint_text constraint.now) }
 {
     put_key(text, &constraint.key)?;
     put_two(text, sign_text(constraint.equal), constraint.value.as_str())
@@ -154,14 +155,14 @@ pub fn put_constraint(
     word: &str,
     constraint: &Constraint,
 ) -> Result<(), AllocError>
-    ensures { OnOk result (string_bytes text.new ≡ string_bytes text.old ++ (word.now ++ constraint_text constraint.now)) }
+    ensures { Puts result text.old text.new (word.now ++ constraint_text constraint.now) }
 {
     text.push_str(word)?;
     put_constraint_text(text, constraint)
 }
 
 fn put_platform(text: &mut String, platform: &Platform) -> Result<(), AllocError>
-    ensures { OnOk result (string_bytes text.new ≡ string_bytes text.old ++ field_text (field.Platform platform.now)) }
+    ensures { Puts result text.old text.new (field_text (field.Platform platform.now)) }
 {
     write!(
         text,
@@ -173,7 +174,7 @@ fn put_platform(text: &mut String, platform: &Platform) -> Result<(), AllocError
 
 /// Writes the field's word at the end, in its one spelling.
 pub fn put_field(text: &mut String, field: &Field) -> Result<(), AllocError>
-    ensures { OnOk result (string_bytes text.new ≡ string_bytes text.old ++ field_text field.now) }
+    ensures { Puts result text.old text.new (field_text field.now) }
 {
     match field {
         Field::Mode(mode) => put_mode(text, *mode),

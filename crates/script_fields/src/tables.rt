@@ -9,7 +9,7 @@ use crate::spelling::is_spelled;
 use script_grammar::{Field, Form, NumberField, Table};
 use std::alloc::Global;
 use swarm_objects::{
-    Availability, End, FailureAction, Mode, Name, NoMemory, NodeRole, RestartCondition, UpdateOrder,
+    Mode, Name, NoMemory, NodeDraft, RestartPolicy, Settings, UpdateConfig, Workload,
 };
 
 const fn number_row(which: NumberField) -> u8
@@ -185,23 +185,28 @@ pub fn fits(fields: &[Field], field: &Field) -> bool
     is_free(field) || !is_met(fields, field)
 }
 
-/// The number that holds where the field isn't named; 0 where there is no such field.
+/// The number that holds where the field isn't named.
 pub const fn number_default(table: Table, which: NumberField) -> u64
     ensures { result ≡ number_default table which }
 {
     match (table, which) {
-        (Table::NewNode, NumberField::Cpu) => 4_000,
-        (Table::NewNode, NumberField::Mem) => 8_589_934_592,
-        (_, NumberField::Prepare) => 1,
-        (_, NumberField::Start) => 1,
-        (_, NumberField::Stop) => 1,
-        (_, NumberField::RestartDelay) => 5_000,
-        (_, NumberField::Parallelism) => 1,
-        (_, NumberField::Monitor) => 5_000,
-        (_, NumberField::Heartbeat) => 5_000,
-        (_, NumberField::Orphan) => 86_400_000,
-        (_, NumberField::History) => 5,
-        _ => 0,
+        (Table::NewNode, NumberField::Cpu) => NodeDraft::USUAL_CPU,
+        (Table::NewNode, NumberField::Mem) => NodeDraft::USUAL_MEM,
+        (_, NumberField::Prepare) => Workload::usual().prepare,
+        (_, NumberField::Start) => Workload::usual().start,
+        (_, NumberField::Stop) => Workload::usual().stop,
+        // nothing is reserved, and a node may have any number of tasks
+        (_, NumberField::Cpu | NumberField::Mem | NumberField::MaxReplicas) => 0,
+        (_, NumberField::RestartDelay) => RestartPolicy::usual().delay,
+        (_, NumberField::RestartMax) => RestartPolicy::usual().max_attempts,
+        (_, NumberField::RestartWindow) => RestartPolicy::usual().window,
+        (_, NumberField::Parallelism) => UpdateConfig::usual().parallelism,
+        (_, NumberField::UpdateDelay) => UpdateConfig::usual().delay,
+        (_, NumberField::Monitor) => UpdateConfig::usual().monitor,
+        (_, NumberField::Ratio) => UpdateConfig::usual().ratio,
+        (_, NumberField::Heartbeat) => Settings::usual().heartbeat,
+        (_, NumberField::Orphan) => Settings::usual().orphan,
+        (_, NumberField::History) => Settings::usual().history,
     }
 }
 
@@ -234,15 +239,15 @@ pub fn is_default(table: Table, field: &Field) -> bool
 {
     match field {
         Field::Number(which, number) => is_usual(table, *which, *number),
-        Field::Mode(Mode::Replicated(number)) => *number == 1,
-        Field::End(End::Never) => true,
-        Field::Role(NodeRole::Worker) => true,
-        Field::Availability(Availability::Active) => true,
-        Field::Os(name) => is_name_text(name, "linux"),
-        Field::Arch(name) => is_name_text(name, "amd64"),
-        Field::Restart(RestartCondition::Any) => true,
-        Field::Failure(FailureAction::Pause) => true,
-        Field::Order(UpdateOrder::StopFirst) => true,
+        Field::Mode(mode) => *mode == Mode::usual(),
+        Field::End(end) => *end == Workload::usual().end,
+        Field::Role(role) => *role == NodeDraft::USUAL_ROLE,
+        Field::Availability(availability) => *availability == NodeDraft::USUAL_AVAILABILITY,
+        Field::Os(name) => is_name_text(name, NodeDraft::USUAL_OS),
+        Field::Arch(name) => is_name_text(name, NodeDraft::USUAL_ARCH),
+        Field::Restart(condition) => *condition == RestartPolicy::usual().condition,
+        Field::Failure(action) => *action == UpdateConfig::usual().action,
+        Field::Order(order) => *order == UpdateConfig::usual().order,
         _ => false,
     }
 }
@@ -304,7 +309,8 @@ fn comes_last(fields: &[Field], field: &Field) -> bool
     fields.iter().all(|earlier| comes_before(earlier, field))
 }
 
-/// Whether the field, read after these fields, may stand there in a journal: it is no default, and each of them comes before it.
+/// Whether the field, read after these fields, may stand there in a journal: it is no default, and each of them
+/// comes before it.
 pub fn follows(table: Table, fields: &[Field], field: &Field) -> bool
     ensures { result ≡ follows table fields.now field.now }
 {

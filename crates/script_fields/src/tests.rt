@@ -1,7 +1,9 @@
 // Words of lines, and what fields say together.
+use crate::labels::engines_named;
+use crate::tables::{belongs, clashes, comes_before, is_default};
 use crate::{
-    belongs, byte_number, clashes, comes_before, draft_of, engines_named, field_of, is_default,
-    labels_named, may_stand, node_draft_of, number_of, port_number, put_field,
+    byte_number, draft_of, field_of, labels_named, may_stand, node_draft_of, number_of,
+    port_number, put_field,
 };
 use script_grammar::{Field, Form, NumberField, Table};
 use std::alloc::Global;

@@ -34,7 +34,8 @@ use Rattle.script_grammar.specs.declared.states.Verb.{Verb}
 use Rattle.script_grammar.specs.declared.states.Verb.TheVariants as verb
 use Rattle.swarm_filters.specs.Grammar.{is_name}
 use Rattle.script_grammar.specs.Words.{name_of, number_of, ◌>>=◌}
-use Rattle.script_grammar.specs.Calls.{all_of, begins_version, behind_call, behind_op, budget_of, call_grammar, call_named, call_numbered, call_opening, call_second, filter_of, in_fields, is_budget, is_empty, may_write, next_field, node_call, noun_of, op_of, opening, second, state_of, step, subnet_of, table_of, usual_budget, version_of, versioned, whole, with_id, with_name, with_session}
+use Rattle.swarm_objects.specs.Limits.{largest_budget}
+use Rattle.script_grammar.specs.Calls.{all_of, begins_version, behind_call, behind_op, budget_of, call_grammar, call_named, call_numbered, call_opening, call_second, filter_of, in_fields, is_budget, is_empty, may_write, next_field, node_call, noun_of, op_of, opening, second, state_of, step, subnet_of, table_of, version_of, versioned, whole, with_id, with_name, with_session}
 use Rattle.script_grammar.specs.Drafts.{engine_in, label_in}
 use Rattle.script_grammar.specs.Fields.{field_of, field_text}
 use Rattle.script_grammar.specs.HasText.{call_has_text, has_word, is_number, is_watched, op_has_text, where_some}
@@ -347,7 +348,7 @@ filter_has w f e =
 
 may_write_budget : (m : Form) (n : ℕ) → may_write m n ≡ true → is_budget n ≡ true
 may_write_budget form.Script n e = e
-may_write_budget form.Journal n e = (both (is_budget n) (not (nat_eq n usual_budget)) e).0
+may_write_budget form.Journal n e = (both (is_budget n) (not (nat_eq n largest_budget)) e).0
 
 settle_has : (m : Form) (w : List ℕ) (next : State) → (budget_of m w >>= λ n. Some (state.Done (call.Settle n))) ≡ Some next → HasState next
 settle_has m w next e =

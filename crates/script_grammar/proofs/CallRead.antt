@@ -32,7 +32,8 @@ use Rattle.script_grammar.specs.declared.states.Verb.{Verb}
 use Rattle.script_grammar.specs.declared.states.Verb.TheVariants as verb
 use Rattle.swarm_filters.specs.Grammar.{is_name}
 use Rattle.script_grammar.specs.Words.{number_of, ◌>>=◌}
-use Rattle.script_grammar.specs.Calls.{call_grammar, call_named, call_numbered, is_budget, is_empty, may_write, op_of, state_of, step, usual_budget, version_of, whole, with_name, with_session}
+use Rattle.swarm_objects.specs.Limits.{largest_budget}
+use Rattle.script_grammar.specs.Calls.{call_grammar, call_named, call_numbered, is_budget, is_empty, may_write, op_of, state_of, step, version_of, whole, with_name, with_session}
 use Rattle.script_grammar.specs.HasText.{call_has_text, draft_has_text, has_word, have_words, is_address, is_byte, is_number, is_watched, keys_rise, node_has_text, op_has_text, query_has_text, where_some}
 use Rattle.script_grammar.specs.Machines.{IsSaid, run}
 use Rattle.script_grammar.specs.Pieces.{joined, node_pieces, old_node_pieces, service_pieces, session_pieces, settings_pieces}
@@ -285,15 +286,15 @@ state_run : (name : List ℕ) (s t : ℕ) (x : TaskState) → runs (state.Status
 state_run name s t x = ap (λ (o : Option TaskState). next_run [] (o >>= λ y. Some (state.Done (call.RemoteStatus name s t y)))) (state_back x)
 
 budget_number : (n : ℕ) → is_budget n ≡ true → n < 2 ^ 64
-budget_number n h = let b = both (nat_le 1 n) (nat_le n usual_budget) h in let k : n ≤ 100000 = at_most n b.1 in omega (arith, k) where
-  at_most : (n : ℕ) → nat_le n 100000 ≡ true → n ≤ 100000
+budget_number n h = let b = both (nat_le 1 n) (nat_le n largest_budget) h in let k : n ≤ largest_budget = at_most n b.1 in omega (arith, k) where
+  at_most : (n : ℕ) → nat_le n largest_budget ≡ true → n ≤ largest_budget
   at_most n e = grind (arith, nat_tests)
 
 settle_read : (n : ℕ) → is_budget n ≡ true → IsRead (call.Settle n)
-settle_read n h = go (nat_eq n usual_budget) refl where
-  go : (b : Bool) → nat_eq n usual_budget ≡ b → (runs (state.Opening []) (codes "settle" ∷ cond b [] (decimal n ∷ [])) >>= whole) ≡ Some (call.Settle n)
+settle_read n h = go (nat_eq n largest_budget) refl where
+  go : (b : Bool) → nat_eq n largest_budget ≡ b → (runs (state.Opening []) (codes "settle" ∷ cond b [] (decimal n ∷ [])) >>= whole) ≡ Some (call.Settle n)
   go true e = ap (λ m. Some (call.Settle m)) (sym (usual n e)) where
-    usual : (n : ℕ) → nat_eq n 100000 ≡ true → n ≡ 100000
+    usual : (n : ℕ) → nat_eq n largest_budget ≡ true → n ≡ largest_budget
     usual n e = grind (arith, nat_tests)
   go false e =
       let k = budget_number n h in

@@ -6,6 +6,7 @@ use Rattle.std.specs.Str.{bytes_eq}
 use Rattle.std.proofs.lemmas.Bool.Decides.{nat_tests}
 use Rattle.std.proofs.lemmas.Option.{same_Some}
 use Rattle.std.proofs.Math.Seq.{take-append_seam}
+use Rattle.swarm_objects.specs.Limits.{longest_entry}
 use Rattle.swarm_objects.specs.DutyTexts.{duty_words, spaced}
 use Rattle.swarm_objects.specs.declared.calls.Call.{Call}
 use Rattle.swarm_objects.specs.declared.calls.Call.TheVariants as call
@@ -227,7 +228,7 @@ front_of xs =
     ∙ ap (λ n. take n (xs ++ codes "\n")) (newline_at xs) ∙ take-append_seam xs (codes "\n")
 
 -- what was written is read back
-pub read_back : (e : Entry) → has_text e ≡ true → length (entry_text e) ≤ 8224 → entry_meaning (entry_text e) ≡ Ok e
+pub read_back : (e : Entry) → has_text e ≡ true → length (entry_text e) ≤ longest_entry → entry_meaning (entry_text e) ≡ Ok e
 read_back e h short =
     let g = entry_graphic e h in
     let text = spaced (entry_words e) in
@@ -241,7 +242,7 @@ read_back e h short =
     ∙ ap (λ b. closed b (meaning journal_grammar (words_of (before_newline (entry_text e))))) (ends_so text)
     ∙ said
   where
-    not_long : (n : ℕ) → n ≤ 8224 → nat_lt 8224 n ≡ false
+    not_long : (n : ℕ) → n ≤ longest_entry → nat_lt longest_entry n ≡ false
     not_long n k = grind (arith, nat_tests)
 
 -- ## Lines of scripts

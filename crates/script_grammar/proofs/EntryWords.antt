@@ -39,7 +39,8 @@ use Rattle.swarm_filters.specs.Spellings.{key_has_text}
 use Rattle.swarm_filters.specs.Grammar.{is_value}
 use Rattle.swarm_filters.specs.Grammar.{is_name, sign_of}
 use Rattle.swarm_filters.specs.Spellings.{key_text}
-use Rattle.script_grammar.specs.Calls.{is_budget, is_empty, usual_budget}
+use Rattle.swarm_objects.specs.Limits.{largest_budget}
+use Rattle.script_grammar.specs.Calls.{is_budget, is_empty}
 use Rattle.script_grammar.specs.Fields.{field_text, number_word, port_text, udp_text}
 use Rattle.script_grammar.specs.HasText.{call_has_text, draft_has_text, duty_has_text, has_text, has_word, have_words, is_address, is_byte, is_number, is_port, is_watched, keys_rise, node_has_text, op_has_text, query_has_text, what_has_text, where_some}
 use Rattle.script_grammar.specs.Pieces.{joined, node_pieces, old_node_pieces, service_pieces, session_pieces, settings_pieces}
@@ -225,14 +226,14 @@ id_graphic : (o : Option ℕ) → where_some is_number o ≡ true → AllGraphic
 id_graphic None h = tt
 id_graphic (Some n) h = (number_of_graphic n h, tt)
 
-budget_small : (n : ℕ) → nat_le n 100000 ≡ true → n < 2 ^ 64
-budget_small n h = let k : n ≤ 100000 = grind (arith, nat_tests) in omega (arith, k)
+budget_small : (n : ℕ) → nat_le n largest_budget ≡ true → n < 2 ^ 64
+budget_small n h = let k : n ≤ largest_budget = grind (arith, nat_tests) in omega (arith, k)
 
 budget_graphic : (n : ℕ) → is_budget n ≡ true → AllGraphic (budget_words n)
-budget_graphic n h = go (nat_eq n usual_budget) where
+budget_graphic n h = go (nat_eq n largest_budget) where
   go : (b : Bool) → AllGraphic (cond b [] (decimal n ∷ []))
   go true = tt
-  go false = (decimal_graphic n (budget_small n (both (nat_le 1 n) (nat_le n usual_budget) h).1), tt)
+  go false = (decimal_graphic n (budget_small n (both (nat_le 1 n) (nat_le n largest_budget) h).1), tt)
 
 state_graphic : (s : TaskState) → Graphic (state_text s)
 state_graphic task_state.New = refl

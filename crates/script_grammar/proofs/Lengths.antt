@@ -193,6 +193,10 @@ duty_fits (duty.Port s target udp) h =
     let b = both (is_number s) (is_port target) h in (below_only s (2 ^ 64) b.0, (port_fits target b.1, (bit_fits udp, tt)))
 duty_fits d h = all_fit (duty_numbers d) h
 
+-- a tick's line is short
+pub tick_length : (ms : ℕ) → ms < 2 ^ 64 → length (entry_text (call_entry 0 (call.Tick ms))) ≤ 40
+tick_length ms h = omega (arith, entry_length 0 (call.Tick ms), one_digit, decimal_short ms h)
+
 -- a duty's line is short, whoever takes it
 pub duty_length : (by : ℕ) (d : Duty) → is_number by ≡ true → duty_has_text d ≡ true → length (entry_text (duty_entry by d)) ≤ 109
 duty_length by d h k =

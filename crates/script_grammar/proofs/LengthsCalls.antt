@@ -18,7 +18,8 @@ use Rattle.script_grammar.proofs.LengthsDrafts.{op_size, room, room-append, room
 use Rattle.script_grammar.proofs.LengthsWords.{field_length}
 use Rattle.script_grammar.proofs.Numbers.{number_only, test_some}
 use Rattle.script_grammar.proofs.OneSpelling.{Grows, before_ops, before_snoc, head_words, open_words, ops_snoc, step_grows, written}
-use Rattle.script_grammar.specs.Calls.{begins_version, budget_of, call_grammar, call_opening, in_fields, is_budget, is_empty, next_field, noun_of, op_of, opening, step, table_of, usual_budget, versioned, whole}
+use Rattle.swarm_objects.specs.Limits.{largest_budget}
+use Rattle.script_grammar.specs.Calls.{begins_version, budget_of, call_grammar, call_opening, in_fields, is_budget, is_empty, next_field, noun_of, op_of, opening, step, table_of, versioned, whole}
 use Rattle.script_grammar.specs.Fields.{field_of, field_text}
 use Rattle.script_grammar.specs.Machines.{IsSaid, run}
 use Rattle.script_grammar.specs.Tables.{may_stand}
@@ -119,7 +120,7 @@ settle_room w next e =
     subst (Within state.Settle w) (ap (λ n. state.Done (call.Settle n)) t.1 ∙ same_Some _ next b.2) (told d.0 (number_only (2 ^ 64) d.0 w d.1).0)
   where
     told : (n : ℕ) → w ≡ decimal n → Within state.Settle w (state.Done (call.Settle n))
-    told n k = go (nat_eq n usual_budget) where
+    told n k = go (nat_eq n largest_budget) where
       go : (b : Bool) → room (codes "settle" ∷ cond b [] (decimal n ∷ [])) ≤ room (codes "settle" ∷ []) + (length w + 1)
       go true = omega arith
       go false = omega (arith, ap length k)

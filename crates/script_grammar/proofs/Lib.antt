@@ -18,6 +18,7 @@ pub mod Nodes
 pub mod NodeBack
 pub mod Inversions
 pub mod Subnets
+pub mod Usual
 pub mod OneSpelling
 pub mod ReadIsRight
 pub mod HasWord

@@ -1,8 +1,9 @@
 -- The drafts of nodes, settings and sessions, and their fields.
-use Rattle.std.proofs.Common.{◌≡◌, ℕ, List, [], ◌∷◌, ◌++◌, codes, map, Bool, true, false, cond, refl, sym, ◌∙◌, ap, Option, Some, None, arith}
+use Rattle.std.proofs.Common.{◌≡◌, ℕ, List, [], ◌∷◌, ◌++◌, map, Bool, true, false, cond, refl, sym, ◌∙◌, ap, Option, Some, None, arith}
 use Rattle.std.specs.List.{filter_map, list_all, AllByRecursion}
 use Rattle.std.specs.Str.{bytes_eq}
 use Rattle.std.proofs.lemmas.Slice.Eq.{bytes_eq-Decides}
+use Rattle.swarm_objects.specs.Defaults.{usual_node, usual_settings}
 use Rattle.swarm_objects.specs.declared.nodes.Availability.{Availability}
 use Rattle.swarm_objects.specs.declared.nodes.Availability.TheVariants as availability
 use Rattle.swarm_objects.specs.declared.nodes.NodeDraft.{NodeDraft}
@@ -81,20 +82,20 @@ old_availability_is availability.Pause = one_piece table.OldNode 7 (field.Availa
 old_availability_is availability.Drain = one_piece table.OldNode 7 (field.Availability availability.Drain) refl refl refl
 
 os_is : (n : List ℕ) → IsPiece table.NewNode 11 (os_piece n)
-os_is n = test_piece table.NewNode 11 (field.Os n) (bytes_eq n (codes "linux")) refl refl refl
+os_is n = test_piece table.NewNode 11 (field.Os n) (bytes_eq n usual_node.os) refl refl refl
 
 arch_is : (n : List ℕ) → IsPiece table.NewNode 12 (arch_piece n)
-arch_is n = test_piece table.NewNode 12 (field.Arch n) (bytes_eq n (codes "amd64")) refl refl refl
+arch_is n = test_piece table.NewNode 12 (field.Arch n) (bytes_eq n usual_node.arch) refl refl refl
 
 remote_is : (b : Bool) → IsPiece table.NewNode 14 (remote_piece b)
 remote_is false = none_piece table.NewNode 14
 remote_is true = one_piece table.NewNode 14 field.Remote refl refl refl
 
-role_back : (r : NodeRole) → named_or role_in role.Worker (role_piece r ++ []) ≡ r
+role_back : (r : NodeRole) → named_or role_in usual_node.role (role_piece r ++ []) ≡ r
 role_back role.Worker = refl
 role_back role.Manager = refl
 
-availability_back : (a : Availability) → named_or availability_in availability.Active (availability_piece a ++ []) ≡ a
+availability_back : (a : Availability) → named_or availability_in usual_node.availability (availability_piece a ++ []) ≡ a
 availability_back availability.Active = refl
 availability_back availability.Pause = refl
 availability_back availability.Drain = refl
@@ -102,16 +103,16 @@ availability_back availability.Drain = refl
 same_text : (x y : List ℕ) → bytes_eq x y ≡ true → x ≡ y
 same_text x y e = (bytes_eq-Decides x y).0 e
 
-os_back : (n : List ℕ) → named_or os_in (codes "linux") (os_piece n ++ []) ≡ n
-os_back n = go (bytes_eq n (codes "linux")) refl where
-  go : (b : Bool) → bytes_eq n (codes "linux") ≡ b → named_or os_in (codes "linux") (cond b [] (field.Os n ∷ []) ++ []) ≡ n
-  go true e = sym (same_text n (codes "linux") e)
+os_back : (n : List ℕ) → named_or os_in usual_node.os (os_piece n ++ []) ≡ n
+os_back n = go (bytes_eq n usual_node.os) refl where
+  go : (b : Bool) → bytes_eq n usual_node.os ≡ b → named_or os_in usual_node.os (cond b [] (field.Os n ∷ []) ++ []) ≡ n
+  go true e = sym (same_text n usual_node.os e)
   go false e = refl
 
-arch_back : (n : List ℕ) → named_or arch_in (codes "amd64") (arch_piece n ++ []) ≡ n
-arch_back n = go (bytes_eq n (codes "amd64")) refl where
-  go : (b : Bool) → bytes_eq n (codes "amd64") ≡ b → named_or arch_in (codes "amd64") (cond b [] (field.Arch n ∷ []) ++ []) ≡ n
-  go true e = sym (same_text n (codes "amd64") e)
+arch_back : (n : List ℕ) → named_or arch_in usual_node.arch (arch_piece n ++ []) ≡ n
+arch_back n = go (bytes_eq n usual_node.arch) refl where
+  go : (b : Bool) → bytes_eq n usual_node.arch ≡ b → named_or arch_in usual_node.arch (cond b [] (field.Arch n ∷ []) ++ []) ≡ n
+  go true e = sym (same_text n usual_node.arch e)
   go false e = refl
 
 remote_back : (b : Bool) → named_or remote_in false (remote_piece b ++ []) ≡ b
@@ -164,15 +165,15 @@ node_draft d l e =
     let fs = flat ps in
     let e5 : labels_of (filter_map label_in fs) ≡ d.labels =
     ap labels_of (row_all table.NewNode 0 ps a 5 label_in d.labels looks_label (list_back label_in label_field (λ x. refl) d.labels)) ∙ labels_kept d.labels l in
-    let e6 : named_or role_in role.Worker fs ≡ d.role = row_once table.NewNode 0 ps a 6 role_in role.Worker d.role looks_role (role_back d.role) in
-    let e7 : named_or availability_in availability.Active fs ≡ d.availability =
-    row_once table.NewNode 0 ps a 7 availability_in availability.Active d.availability looks_availability (availability_back d.availability) in
+    let e6 : named_or role_in usual_node.role fs ≡ d.role = row_once table.NewNode 0 ps a 6 role_in usual_node.role d.role looks_role (role_back d.role) in
+    let e7 : named_or availability_in usual_node.availability fs ≡ d.availability =
+    row_once table.NewNode 0 ps a 7 availability_in usual_node.availability d.availability looks_availability (availability_back d.availability) in
     let e8 : number_named table.NewNode number.Cpu fs ≡ d.cpu =
-    row_once table.NewNode 0 ps a 8 (number_in number.Cpu) 4000 d.cpu (looks_number number.Cpu) (number_back table.NewNode number.Cpu d.cpu) in
+    row_once table.NewNode 0 ps a 8 (number_in number.Cpu) usual_node.cpu d.cpu (looks_number number.Cpu) (number_back table.NewNode number.Cpu d.cpu) in
     let e9 : number_named table.NewNode number.Mem fs ≡ d.mem =
-    row_once table.NewNode 0 ps a 9 (number_in number.Mem) 8589934592 d.mem (looks_number number.Mem) (number_back table.NewNode number.Mem d.mem) in
-    let e11 : named_or os_in (codes "linux") fs ≡ d.os = row_once table.NewNode 0 ps a 11 os_in (codes "linux") d.os looks_os (os_back d.os) in
-    let e12 : named_or arch_in (codes "amd64") fs ≡ d.arch = row_once table.NewNode 0 ps a 12 arch_in (codes "amd64") d.arch looks_arch (arch_back d.arch) in
+    row_once table.NewNode 0 ps a 9 (number_in number.Mem) usual_node.mem d.mem (looks_number number.Mem) (number_back table.NewNode number.Mem d.mem) in
+    let e11 : named_or os_in usual_node.os fs ≡ d.os = row_once table.NewNode 0 ps a 11 os_in usual_node.os d.os looks_os (os_back d.os) in
+    let e12 : named_or arch_in usual_node.arch fs ≡ d.arch = row_once table.NewNode 0 ps a 12 arch_in usual_node.arch d.arch looks_arch (arch_back d.arch) in
     let e13 : labels_of (filter_map engine_in fs) ≡ d.engine =
     ap labels_of (row_all table.NewNode 0 ps a 13 engine_in d.engine looks_engine (list_back engine_in engine_field (λ x. refl) d.engine)) ∙ labels_kept d.engine e in
     let e14 : named_or remote_in false fs ≡ d.remote = row_once table.NewNode 0 ps a 14 remote_in false d.remote looks_remote (remote_back d.remote) in
@@ -222,11 +223,11 @@ settings_back s =
     let ps = settings_table s in
     let a = settings_is s in
     let e32 : number_named table.Cluster number.Heartbeat (flat ps) ≡ s.heartbeat =
-    row_once table.Cluster 0 ps a 32 (number_in number.Heartbeat) 5000 s.heartbeat (looks_number number.Heartbeat) (number_back table.Cluster number.Heartbeat s.heartbeat) in
+    row_once table.Cluster 0 ps a 32 (number_in number.Heartbeat) usual_settings.heartbeat s.heartbeat (looks_number number.Heartbeat) (number_back table.Cluster number.Heartbeat s.heartbeat) in
     let e33 : number_named table.Cluster number.Orphan (flat ps) ≡ s.orphan =
-    row_once table.Cluster 0 ps a 33 (number_in number.Orphan) 86400000 s.orphan (looks_number number.Orphan) (number_back table.Cluster number.Orphan s.orphan) in
+    row_once table.Cluster 0 ps a 33 (number_in number.Orphan) usual_settings.orphan s.orphan (looks_number number.Orphan) (number_back table.Cluster number.Orphan s.orphan) in
     let e34 : number_named table.Cluster number.History (flat ps) ≡ s.history =
-    row_once table.Cluster 0 ps a 34 (number_in number.History) 5 s.history (looks_number number.History) (number_back table.Cluster number.History s.history) in
+    row_once table.Cluster 0 ps a 34 (number_in number.History) usual_settings.history s.history (looks_number number.History) (number_back table.Cluster number.History s.history) in
     λ i. record { heartbeat = e32 i; orphan = e33 i; history = e34 i }
 
 -- ## Sessions

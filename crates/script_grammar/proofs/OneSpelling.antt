@@ -32,7 +32,8 @@ use Rattle.script_grammar.specs.declared.states.State.TheVariants as state
 use Rattle.script_grammar.specs.declared.states.Verb.{Verb}
 use Rattle.script_grammar.specs.declared.states.Verb.TheVariants as verb
 use Rattle.script_grammar.specs.Words.{name_of, number_of, ◌>>=◌}
-use Rattle.script_grammar.specs.Calls.{all_of, begins_version, behind_call, behind_op, budget_of, call_grammar, call_named, call_numbered, call_opening, call_second, filter_of, in_fields, in_operation, is_budget, is_empty, may_write, next_field, node_call, noun_of, op_of, opening, second, state_of, step, subnet_of, table_of, task_states, usual_budget, version_of, versioned, whole, with_id, with_name, with_session}
+use Rattle.swarm_objects.specs.Limits.{largest_budget}
+use Rattle.script_grammar.specs.Calls.{all_of, begins_version, behind_call, behind_op, budget_of, call_grammar, call_named, call_numbered, call_opening, call_second, filter_of, in_fields, in_operation, is_budget, is_empty, may_write, next_field, node_call, noun_of, op_of, opening, second, state_of, step, subnet_of, table_of, task_states, version_of, versioned, whole, with_id, with_name, with_session}
 use Rattle.script_grammar.specs.Fields.{field_of, field_text}
 use Rattle.script_grammar.specs.Machines.{IsSaid, run}
 use Rattle.script_grammar.specs.Tables.{belongs, comes_before, follows, is_default, may_stand}
@@ -512,7 +513,7 @@ settle_grows w next e =
     let b = bound (budget_of form.Journal w) (λ n. Some (state.Done (call.Settle n))) next e in
     let d = bound (number_of w) (λ n. cond (may_write form.Journal n) (Some n) None) b.0 b.1 in
     let t = test_some (may_write form.Journal d.0) d.0 b.0 d.2 in
-    let u = not_true (nat_eq d.0 usual_budget) (both (is_budget d.0) (not (nat_eq d.0 usual_budget)) t.0).1 in
+    let u = not_true (nat_eq d.0 largest_budget) (both (is_budget d.0) (not (nat_eq d.0 largest_budget)) t.0).1 in
     let k = number_only (2 ^ 64) d.0 w d.1 in
     let made : Grows state.Settle w (state.Done (call.Settle d.0)) = record {
       words = ap (λ b. codes "settle" ∷ cond b [] (decimal d.0 ∷ [])) u ∙ ap (λ x. codes "settle" ∷ x ∷ []) (sym k.0);

@@ -7,7 +7,8 @@ use Rattle.script_grammar.proofs.FieldRows.{LooksAt, Pieces, flat, number_same, 
 use Rattle.script_grammar.proofs.Services.{looks_condition, looks_constraint, looks_end, looks_failure, looks_host, looks_mode, looks_net, looks_order, looks_platform, looks_port, looks_spread}
 use Rattle.script_grammar.specs.Drafts.{constraint_in, draft_of, end_in, failure_in, host_in, mode_in, named_or, net_in, number_in, number_named, order_in, platform_in, port_in, restart_in, spread_in}
 use Rattle.script_grammar.specs.Pieces.{condition_piece, end_piece, failure_piece, mode_piece, number_piece, order_piece}
-use Rattle.script_grammar.specs.Tables.{number_default}
+use Rattle.script_grammar.specs.Tables.{number_default, usual_replicas}
+use Rattle.swarm_objects.specs.Defaults.{usual_mode}
 use Rattle.swarm_objects.specs.declared.services.Mode.{Mode}
 use Rattle.swarm_objects.specs.declared.services.Mode.TheVariants as mode
 use Rattle.swarm_objects.specs.declared.templates.End.{End}
@@ -177,9 +178,9 @@ service_is d = (
 
 -- ## Reading the pieces back
 
-mode_back : (m : Mode) → named_or mode_in (mode.Replicated 1) (mode_piece m ++ []) ≡ m
+mode_back : (m : Mode) → named_or mode_in usual_mode (mode_piece m ++ []) ≡ m
 mode_back (mode.Replicated n) = go (nat_eq n 1) refl where
-  go : (b : Bool) → nat_eq n 1 ≡ b → named_or mode_in (mode.Replicated 1) (cond b [] (field.Mode (mode.Replicated n) ∷ []) ++ []) ≡ mode.Replicated n
+  go : (b : Bool) → nat_eq n usual_replicas ≡ b → named_or mode_in usual_mode (cond b [] (field.Mode (mode.Replicated n) ∷ []) ++ []) ≡ mode.Replicated n
   go true e = ap mode.Replicated (sym (number_same n 1 e))
   go false e = refl
 mode_back mode.Global = refl
@@ -213,7 +214,7 @@ each d r p v looks h = row_all table.Service 0 (service_table d) (service_is d) 
 -- the draft of the fields that a draft writes is the draft
 pub service_draft : (d : Draft) → d.spec.template.networks ≡ [] → draft_of (flat (service_table d)) ≡ d
 service_draft d none =
-    let e0 : named_or mode_in (mode.Replicated 1) (flat (service_table d)) ≡ d.spec.mode = once d 0 mode_in (mode.Replicated 1) d.spec.mode looks_mode (mode_back d.spec.mode) in
+    let e0 : named_or mode_in usual_mode (flat (service_table d)) ≡ d.spec.mode = once d 0 mode_in usual_mode d.spec.mode looks_mode (mode_back d.spec.mode) in
     let e1 : named_or end_in end.Never (flat (service_table d)) ≡ d.spec.template.workload.end = once d 1 end_in end.Never d.spec.template.workload.end looks_end (end_back d.spec.template.workload.end) in
     let e2 : number_named table.Service number.Prepare (flat (service_table d)) ≡ d.spec.template.workload.prepare = once d 2 (number_in number.Prepare) (number_default table.Service number.Prepare) d.spec.template.workload.prepare (looks_number number.Prepare) (number_back table.Service number.Prepare d.spec.template.workload.prepare) in
     let e3 : number_named table.Service number.Start (flat (service_table d)) ≡ d.spec.template.workload.start = once d 3 (number_in number.Start) (number_default table.Service number.Start) d.spec.template.workload.start (looks_number number.Start) (number_back table.Service number.Start d.spec.template.workload.start) in

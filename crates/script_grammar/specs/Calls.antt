@@ -1,6 +1,7 @@
 -- Calls as a machine that reads words.
 use Rattle.std.specs.Prelude.{ℕ, nat_eq, nat_le, ◌+◌, ◌*◌, List, [], ◌∷◌, ◌++◌, codes, Bool, true, false, not, ◌&&◌, if◌then◌else◌, Option, Some, None, find}
 use Rattle.std.specs.Str.{bytes_eq}
+use Rattle.swarm_objects.specs.Limits.{largest_budget}
 use Rattle.swarm_objects.specs.declared.calls.Op.{Op}
 use Rattle.swarm_objects.specs.declared.calls.Op.TheVariants as op
 use Rattle.swarm_objects.specs.declared.calls.Call.{Call}
@@ -79,26 +80,23 @@ subnet_of word = do
   parts ← split_at 61 word
   if bytes_eq parts.0 (codes "subnet") then range_of parts.1 else None
 
--- the turns of a settle line that gives no number, which are the most
-abbrev pub usual_budget : ℕ
-usual_budget = 100000
-
+-- the turns of a settle line
 abbrev pub is_budget : ℕ → Bool
-is_budget n = nat_le 1 n && nat_le n usual_budget
+is_budget n = nat_le 1 n && nat_le n largest_budget
 
--- in a journal the usual budget isn't written
+-- the largest budget, which holds where no number is given, isn't written in a journal
 abbrev pub may_write : Form → ℕ → Bool
 may_write form.Script n = is_budget n
-may_write form.Journal n = is_budget n && not (nat_eq n usual_budget)
+may_write form.Journal n = is_budget n && not (nat_eq n largest_budget)
 
 abbrev pub budget_of : Form → List ℕ → Option ℕ
 budget_of m word = number_of word >>= λ n. if may_write m n then Some n else None
 
 abbrev pub task_states : List TaskState
 task_states =
-    task_state.New ∷ task_state.Pending ∷ task_state.Assigned ∷ task_state.Accepted ∷ task_state.Preparing ∷ task_state.Ready ∷
-    task_state.Starting ∷ task_state.Running ∷ task_state.Complete ∷ task_state.Shutdown ∷ task_state.Failed ∷
-    task_state.Rejected ∷ task_state.Remove ∷ task_state.Orphaned ∷ []
+    task_state.New ∷ task_state.Pending ∷ task_state.Assigned ∷ task_state.Accepted ∷ task_state.Preparing
+    ∷ task_state.Ready ∷ task_state.Starting ∷ task_state.Running ∷ task_state.Complete ∷ task_state.Shutdown
+    ∷ task_state.Failed ∷ task_state.Rejected ∷ task_state.Remove ∷ task_state.Orphaned ∷ []
 
 abbrev pub state_of : List ℕ → Option TaskState
 state_of word = find (λ s. bytes_eq (state_text s) word) task_states
@@ -151,7 +149,8 @@ set_version h v = h
 
 abbrev pub versioned : List Op → Head → List Field → List ℕ → Option State
 versioned ops h fs word =
-    if is_empty fs && takes_version h then (version_of word >>= λ v. Some (state.Fields ops (set_version h v) [])) else None
+    if is_empty fs && takes_version h
+    then (version_of word >>= λ v. Some (state.Fields ops (set_version h v) [])) else None
 
 -- the fields with the one of this word, where it may stand there
 abbrev pub next_field : Form → Table → List Field → List ℕ → Option (List Field)
@@ -179,7 +178,10 @@ call_opening m word =
     else if bytes_eq word (codes "clock") then Some (state.Done (call.View query.Clock))
     else if bytes_eq word (codes "tick") then Some (state.Number number_verb.Tick)
     else if bytes_eq word (codes "settle") then Some state.Settle
-    else elim m [ form.Script ↦ None | form.Journal ↦ if bytes_eq word (codes "halt") then Some (state.Done call.Halt) else None ]
+    else elim m [
+      | form.Script ↦ None
+      | form.Journal ↦ if bytes_eq word (codes "halt") then Some (state.Done call.Halt) else None
+    ]
 
 -- behind a semicolon only operations come
 abbrev pub opening : Form → List Op → List ℕ → Option State
@@ -292,12 +294,15 @@ in_fields m ops h fs word =
 
 -- what an operation without fields may still take
 abbrev pub behind_op : List Op → Op → List ℕ → Option State
-behind_op ops (op.RemoveNode n false) word = if bytes_eq word (codes "force") then Some (state.Operation ops (op.RemoveNode n true)) else None
-behind_op ops (op.RollbackService n None) word = version_of word >>= λ v. Some (state.Operation ops (op.RollbackService n (Some v)))
+behind_op ops (op.RemoveNode n false) word =
+    if bytes_eq word (codes "force") then Some (state.Operation ops (op.RemoveNode n true)) else None
+behind_op ops (op.RollbackService n None) word =
+    version_of word >>= λ v. Some (state.Operation ops (op.RollbackService n (Some v)))
 behind_op ops o word = None
 
 abbrev pub in_operation : List Op → Op → List ℕ → Option State
-in_operation ops o word = if bytes_eq word (codes ";") then Some (state.Opening (ops ++ o ∷ [])) else behind_op ops o word
+in_operation ops o word =
+    if bytes_eq word (codes ";") then Some (state.Opening (ops ++ o ∷ [])) else behind_op ops o word
 
 -- a filter of one object, where it isn't already
 abbrev pub with_id : Filter → ℕ → Filter
@@ -308,7 +313,8 @@ takes_id f = elim (f.id) [ None ↦ true | Some n ↦ false ]
 
 -- what a whole call may still take: a service whose tasks are listed, an object that is watched
 abbrev pub behind_call : Call → List ℕ → Option State
-behind_call (call.View (query.ListTasks None)) word = name_of word >>= λ n. Some (state.Done (call.View (query.ListTasks (Some n))))
+behind_call (call.View (query.ListTasks None)) word =
+    name_of word >>= λ n. Some (state.Done (call.View (query.ListTasks (Some n))))
 behind_call (call.WatchBegin f) word =
     if takes_id f then (number_of word >>= λ n. Some (state.Done (call.WatchBegin (with_id f n)))) else None
 behind_call c word = None
@@ -325,10 +331,12 @@ step m (state.CallNoun n) word = call_second n word
 step m (state.CallVerb v) word = name_of word >>= λ name. Some (call_named v name)
 step m (state.Number v) word = number_of word >>= λ n. Some (state.Done (call_numbered v n))
 step m state.WatchOpen word = filter_of word >>= λ f. Some (state.Done (call.WatchBegin f))
-step m (state.SessionFields name fs) word = next_field m table.Session fs word >>= λ gs. Some (state.SessionFields name gs)
+step m (state.SessionFields name fs) word =
+    next_field m table.Session fs word >>= λ gs. Some (state.SessionFields name gs)
 step m (state.Session v name) word = number_of word >>= λ n. Some (with_session v name n)
 step m (state.StatusTask name session) word = number_of word >>= λ task. Some (state.StatusState name session task)
-step m (state.StatusState name session task) word = state_of word >>= λ s. Some (state.Done (call.RemoteStatus name session task s))
+step m (state.StatusState name session task) word =
+    state_of word >>= λ s. Some (state.Done (call.RemoteStatus name session task s))
 step m state.Settle word = budget_of m word >>= λ n. Some (state.Done (call.Settle n))
 step m (state.Done c) word = behind_call c word
 
@@ -337,7 +345,7 @@ abbrev pub whole : State → Option Call
 whole (state.Fields ops h fs) = Some (call.Txn (ops ++ op_of h fs ∷ []))
 whole (state.Operation ops o) = Some (call.Txn (ops ++ o ∷ []))
 whole (state.SessionFields name fs) = Some (session_call name fs)
-whole state.Settle = Some (call.Settle usual_budget)
+whole state.Settle = Some (call.Settle largest_budget)
 whole (state.Done c) = Some c
 whole s = None
 

@@ -1,24 +1,18 @@
 -- What the fields of a line say together.
-use Rattle.std.specs.Prelude.{ℕ, ◌+◌, take, drop, nat_eq, List, [], ◌∷◌, ◌++◌, codes, Bool, true, false, if◌then◌else◌, Option, Some, None, filter_map, unwrap_or}
+use Rattle.std.specs.Prelude.{ℕ, ◌+◌, take, drop, nat_eq, List, [], ◌∷◌, ◌++◌, Bool, true, if◌then◌else◌, Option, Some, None, filter_map, unwrap_or}
 use Rattle.std.specs.Option.{option_or}
+use Rattle.swarm_objects.specs.Defaults.{usual_mode, usual_node, usual_restart, usual_update, usual_workload}
 use Rattle.swarm_objects.specs.declared.services.Mode.{Mode}
-use Rattle.swarm_objects.specs.declared.services.Mode.TheVariants as mode
 use Rattle.swarm_objects.specs.declared.templates.End.{End}
-use Rattle.swarm_objects.specs.declared.templates.End.TheVariants as end
 use Rattle.swarm_objects.specs.declared.templates.Key.{Key}
 use Rattle.swarm_objects.specs.declared.templates.Constraint.{Constraint}
 use Rattle.swarm_objects.specs.declared.templates.Platform.{Platform}
 use Rattle.swarm_objects.specs.declared.templates.Port.{Port}
 use Rattle.swarm_objects.specs.declared.templates.RestartCondition.{RestartCondition}
-use Rattle.swarm_objects.specs.declared.templates.RestartCondition.TheVariants as condition
 use Rattle.swarm_objects.specs.declared.services.FailureAction.{FailureAction}
-use Rattle.swarm_objects.specs.declared.services.FailureAction.TheVariants as action
 use Rattle.swarm_objects.specs.declared.services.UpdateOrder.{UpdateOrder}
-use Rattle.swarm_objects.specs.declared.services.UpdateOrder.TheVariants as order
 use Rattle.swarm_objects.specs.declared.nodes.NodeRole.{NodeRole}
-use Rattle.swarm_objects.specs.declared.nodes.NodeRole.TheVariants as role
 use Rattle.swarm_objects.specs.declared.nodes.Availability.{Availability}
-use Rattle.swarm_objects.specs.declared.nodes.Availability.TheVariants as availability
 use Rattle.swarm_objects.specs.declared.services.Draft.{Draft}
 use Rattle.swarm_objects.specs.declared.nodes.NodeDraft.{NodeDraft}
 use Rattle.swarm_objects.specs.declared.settings.Settings.{Settings}
@@ -143,13 +137,13 @@ labels_of ls = labels_onto [] ls
 abbrev pub draft_of : List Field → Draft
 draft_of fs = record {
   spec = record {
-    mode = named_or mode_in (mode.Replicated 1) fs;
+    mode = named_or mode_in usual_mode fs;
     template = record {
       workload = record {
         prepare = number_named table.Service number.Prepare fs;
         start = number_named table.Service number.Start fs;
         stop = number_named table.Service number.Stop fs;
-        end = named_or end_in end.Never fs;
+        end = named_or end_in usual_workload.end fs;
       };
       cpu = number_named table.Service number.Cpu fs;
       mem = number_named table.Service number.Mem fs;
@@ -160,7 +154,7 @@ draft_of fs = record {
       networks = [];
       host_ports = filter_map host_in fs;
       restart = record {
-        condition = named_or restart_in condition.Any fs;
+        condition = named_or restart_in usual_restart.condition fs;
         delay = number_named table.Service number.RestartDelay fs;
         max_attempts = number_named table.Service number.RestartMax fs;
         window = number_named table.Service number.RestartWindow fs;
@@ -171,9 +165,9 @@ draft_of fs = record {
       parallelism = number_named table.Service number.Parallelism fs;
       delay = number_named table.Service number.UpdateDelay fs;
       monitor = number_named table.Service number.Monitor fs;
-      action = named_or failure_in action.Pause fs;
+      action = named_or failure_in usual_update.action fs;
       ratio = number_named table.Service number.Ratio fs;
-      order = named_or order_in order.StopFirst fs;
+      order = named_or order_in usual_update.order fs;
     };
   };
   networks = filter_map net_in fs;
@@ -182,14 +176,14 @@ draft_of fs = record {
 abbrev pub node_draft_of : List Field → NodeDraft
 node_draft_of fs = record {
   labels = labels_of (filter_map label_in fs);
-  role = named_or role_in role.Worker fs;
-  availability = named_or availability_in availability.Active fs;
+  role = named_or role_in usual_node.role fs;
+  availability = named_or availability_in usual_node.availability fs;
   cpu = number_named table.NewNode number.Cpu fs;
   mem = number_named table.NewNode number.Mem fs;
-  os = named_or os_in (codes "linux") fs;
-  arch = named_or arch_in (codes "amd64") fs;
+  os = named_or os_in usual_node.os fs;
+  arch = named_or arch_in usual_node.arch fs;
   engine = labels_of (filter_map engine_in fs);
-  remote = named_or remote_in false fs;
+  remote = named_or remote_in usual_node.remote fs;
 }
 
 abbrev pub settings_of : List Field → Settings

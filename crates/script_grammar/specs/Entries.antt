@@ -2,6 +2,7 @@
 use Rattle.std.specs.Prelude.{MatchBool, ◌-◌, drop, take, true, false, ◌≡◌, ℕ, nat_lt, List, [], length, codes, Bool, not, if◌then◌else◌, Option, Some, None, Result, Ok, Err}
 use Rattle.std.specs.Str.{bytes_eq}
 use Rattle.std.specs.Option.{option_map}
+use Rattle.swarm_objects.specs.Limits.{longest_entry}
 use Rattle.swarm_objects.specs.declared.calls.Call.{Call}
 use Rattle.swarm_objects.specs.declared.calls.Entry.{Entry}
 use Rattle.swarm_objects.specs.declared.calls.What.TheVariants as what
@@ -45,9 +46,9 @@ entry_whole (entry_state.Duty by d) = option_map (duty_entry by) (duty_whole d)
 abbrev pub journal_grammar : Machine EntryState Entry
 journal_grammar = record { start = entry_state.Opening; step = entry_step; whole = entry_whole }
 
--- over 8,224 bytes, with the newline
+-- over the most bytes, with the newline
 abbrev pub is_long_entry : List ℕ → Bool
-is_long_entry line = nat_lt 8224 (length line)
+is_long_entry line = nat_lt longest_entry (length line)
 
 -- its last byte is a newline
 abbrev pub ends_line : List ℕ → Bool

@@ -92,7 +92,8 @@ named make text = name_of text >>= λ name. Some (make name)
 abbrev pub port_with : Bool → List ℕ → Option Port
 port_with udp text = elim (split_at 58 text) [
   | None ↦ port_number text >>= λ target. Some (record { target = target; number = None; udp = udp })
-  | Some parts ↦ port_number parts.0 >>= λ target. port_number parts.1 >>= λ n. Some (record { target = target; number = Some n; udp = udp })
+  | Some parts ↦ port_number parts.0 >>= λ target. port_number parts.1
+      >>= λ n. Some (record { target = target; number = Some n; udp = udp })
 ]
 
 -- TARGET or TARGET:NUMBER, with /udp at the end for UDP

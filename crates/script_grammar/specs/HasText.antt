@@ -106,7 +106,8 @@ draft_has_text d = have_words (service_pieces d) && is_empty d.spec.template.net
 
 abbrev pub op_has_text : Op → Bool
 op_has_text (op.CreateNode n d) = is_name n && node_has_text d
-op_has_text (op.UpdateNode n v ls r a) = is_name n && (where_some is_number v && (have_words (old_node_pieces ls r a) && keys_rise ls))
+op_has_text (op.UpdateNode n v ls r a) =
+    is_name n && (where_some is_number v && (have_words (old_node_pieces ls r a) && keys_rise ls))
 op_has_text (op.RemoveNode n force) = is_name n
 op_has_text (op.CreateService n d) = is_name n && draft_has_text d
 op_has_text (op.UpdateService n v d) = is_name n && (where_some is_number v && draft_has_text d)

@@ -5,6 +5,7 @@ use Rattle.std.specs.Int.{is_in_range}
 use Rattle.std.specs.List.{list_all}
 use Rattle.std.specs.Option.{option_map}
 use Rattle.swarm_objects.specs.CallWords.{is_halt}
+use Rattle.swarm_objects.specs.Limits.{longest_line, longest_time}
 use Rattle.swarm_objects.specs.declared.calls.Call.{Call}
 use Rattle.swarm_objects.specs.declared.calls.Call.TheVariants as call
 use Rattle.script_grammar.specs.declared.lines.Line.{Line}
@@ -19,9 +20,9 @@ use Rattle.script_grammar.specs.Words.{number_of, words_of, ◌>>=◌}
 use Rattle.script_grammar.specs.Calls.{step, whole}
 use Rattle.script_grammar.specs.Machines.{Machine, Says, meaning}
 
--- 1 to 86,400,000 milliseconds
+-- 1 millisecond to a day
 abbrev pub wait_of : List ℕ → Option ℕ
-wait_of word = number_of word >>= λ n. if nat_le 1 n && nat_le n 86400000 then Some n else None
+wait_of word = number_of word >>= λ n. if nat_le 1 n && nat_le n longest_time then Some n else None
 
 -- one word more
 abbrev pub line_step : LineState → List ℕ → Option LineState
@@ -53,9 +54,9 @@ line_runs l = true
 abbrev pub script_grammar : Machine LineState Line
 script_grammar = record { start = line_state.Opening; step = line_step; whole = line_whole }
 
--- over 8,192 bytes, without the newline
+-- over the most bytes, without the newline
 abbrev pub is_long : List ℕ → Bool
-is_long text = nat_lt 8192 (length text)
+is_long text = nat_lt longest_line (length text)
 
 abbrev pub is_printable : List ℕ → Bool
 is_printable = list_all (is_in_range 32 126)

@@ -26,7 +26,8 @@ Begins {S} {R} m words = (more : List (List ℕ)) × (r : R) × IsSaid m (words 
 -- what the words say: a line, the first word that no line with the earlier words has there, or the beginning of a line
 abbrev pub Says : {S R : Type 0} → Machine S R → List (List ℕ) → Result R LineFault → Type 0
 Says m words (Ok r) = IsSaid m words r
-Says m words (Err (fault.Word k)) = (0 < k) × (k ≤ length words) × Begins m (take (k - 1) words) × (Begins m (take k words) → ⊥)
+Says m words (Err (fault.Word k)) =
+    (0 < k) × (k ≤ length words) × Begins m (take (k - 1) words) × (Begins m (take k words) → ⊥)
 Says {S} {R} m words (Err fault.Cut) = Begins m words × ((r : R) → IsSaid m words r → ⊥)
 Says m words (Err f) = ⊥
 

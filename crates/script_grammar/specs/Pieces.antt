@@ -1,6 +1,7 @@
 -- The fields that say a draft: those of each row, where it isn't the default.
-use Rattle.std.specs.Prelude.{ℕ, nat_eq, List, [], ◌∷◌, ◌++◌, codes, map, Bool, true, false, if◌then◌else◌, Option, Some, None}
+use Rattle.std.specs.Prelude.{ℕ, nat_eq, List, [], ◌∷◌, ◌++◌, map, Bool, true, false, if◌then◌else◌, Option, Some, None}
 use Rattle.std.specs.Str.{bytes_eq}
+use Rattle.swarm_objects.specs.Defaults.{usual_node}
 use Rattle.swarm_objects.specs.declared.services.Mode.{Mode}
 use Rattle.swarm_objects.specs.declared.services.Mode.TheVariants as mode
 use Rattle.swarm_objects.specs.declared.templates.End.{End}
@@ -24,13 +25,13 @@ use Rattle.script_grammar.specs.declared.fields.Field.{Field}
 use Rattle.script_grammar.specs.declared.fields.Field.TheVariants as field
 use Rattle.script_grammar.specs.declared.fields.Table.{Table}
 use Rattle.script_grammar.specs.declared.fields.Table.TheVariants as table
-use Rattle.script_grammar.specs.Tables.{number_default}
+use Rattle.script_grammar.specs.Tables.{number_default, usual_replicas}
 
 abbrev pub number_piece : Table → NumberField → ℕ → List Field
 number_piece t w n = if nat_eq n (number_default t w) then [] else field.Number w n ∷ []
 
 abbrev pub mode_piece : Mode → List Field
-mode_piece (mode.Replicated n) = if nat_eq n 1 then [] else field.Mode (mode.Replicated n) ∷ []
+mode_piece (mode.Replicated n) = if nat_eq n usual_replicas then [] else field.Mode (mode.Replicated n) ∷ []
 mode_piece m = field.Mode m ∷ []
 
 abbrev pub end_piece : End → List Field
@@ -58,10 +59,10 @@ availability_piece availability.Active = []
 availability_piece a = field.Availability a ∷ []
 
 abbrev pub os_piece : List ℕ → List Field
-os_piece name = if bytes_eq name (codes "linux") then [] else field.Os name ∷ []
+os_piece name = if bytes_eq name usual_node.os then [] else field.Os name ∷ []
 
 abbrev pub arch_piece : List ℕ → List Field
-arch_piece name = if bytes_eq name (codes "amd64") then [] else field.Arch name ∷ []
+arch_piece name = if bytes_eq name usual_node.arch then [] else field.Arch name ∷ []
 
 abbrev pub remote_piece : Bool → List Field
 remote_piece false = []

@@ -1,7 +1,9 @@
 -- The tables of fields: their order, what may repeat, and what is left out.
-use Rattle.std.specs.Prelude.{ℕ, nat_eq, nat_lt, List, [], ◌∷◌, codes, Bool, true, false, not, ◌&&◌, ◌||◌}
+use Rattle.std.specs.Prelude.{ℕ, nat_eq, nat_lt, List, [], ◌∷◌, Bool, true, false, not, ◌&&◌, ◌||◌}
 use Rattle.std.specs.Str.{bytes_eq}
 use Rattle.std.specs.List.{list_any, list_all}
+use Rattle.swarm_objects.specs.Defaults.{usual_mode, usual_node, usual_restart, usual_settings, usual_template, usual_update, usual_workload}
+use Rattle.swarm_objects.specs.declared.services.Mode.{Mode}
 use Rattle.swarm_objects.specs.declared.services.Mode.TheVariants as mode
 use Rattle.swarm_objects.specs.declared.templates.End.TheVariants as end
 use Rattle.swarm_objects.specs.declared.templates.RestartCondition.TheVariants as condition
@@ -122,18 +124,32 @@ fits fs f = not (list_any (λ g. clashes g f) fs)
 -- ## What is left out, and what stands before what
 
 abbrev pub number_default : Table → NumberField → ℕ
-number_default table.NewNode number.Cpu = 4000
-number_default table.NewNode number.Mem = 8589934592
-number_default t number.Prepare = 1
-number_default t number.Start = 1
-number_default t number.Stop = 1
-number_default t number.RestartDelay = 5000
-number_default t number.Parallelism = 1
-number_default t number.Monitor = 5000
-number_default t number.Heartbeat = 5000
-number_default t number.Orphan = 86400000
-number_default t number.History = 5
-number_default t w = 0
+number_default table.NewNode number.Cpu = usual_node.cpu
+number_default table.NewNode number.Mem = usual_node.mem
+number_default t number.Prepare = usual_workload.prepare
+number_default t number.Start = usual_workload.start
+number_default t number.Stop = usual_workload.stop
+number_default t number.Cpu = usual_template.cpu
+number_default t number.Mem = usual_template.mem
+number_default t number.MaxReplicas = usual_template.max_replicas
+number_default t number.RestartDelay = usual_restart.delay
+number_default t number.RestartMax = usual_restart.max_attempts
+number_default t number.RestartWindow = usual_restart.window
+number_default t number.Parallelism = usual_update.parallelism
+number_default t number.UpdateDelay = usual_update.delay
+number_default t number.Monitor = usual_update.monitor
+number_default t number.Ratio = usual_update.ratio
+number_default t number.Heartbeat = usual_settings.heartbeat
+number_default t number.Orphan = usual_settings.orphan
+number_default t number.History = usual_settings.history
+
+abbrev replicas_of : Mode → ℕ
+replicas_of (mode.Replicated n) = n
+replicas_of m = 0
+
+-- the replicas of a service that names no mode
+abbrev pub usual_replicas : ℕ
+usual_replicas = replicas_of usual_mode
 
 -- what a session isn't told is left as it is
 abbrev pub has_defaults : Table → Bool
@@ -143,12 +159,12 @@ has_defaults t = true
 -- the field says what holds without it
 abbrev pub is_default : Table → Field → Bool
 is_default t (field.Number w n) = has_defaults t && nat_eq n (number_default t w)
-is_default t (field.Mode (mode.Replicated n)) = nat_eq n 1
+is_default t (field.Mode (mode.Replicated n)) = nat_eq n usual_replicas
 is_default t (field.End end.Never) = true
 is_default t (field.Role role.Worker) = true
 is_default t (field.Availability availability.Active) = true
-is_default t (field.Os name) = bytes_eq name (codes "linux")
-is_default t (field.Arch name) = bytes_eq name (codes "amd64")
+is_default t (field.Os name) = bytes_eq name usual_node.os
+is_default t (field.Arch name) = bytes_eq name usual_node.arch
 is_default t (field.Restart condition.Any) = true
 is_default t (field.Failure action.Pause) = true
 is_default t (field.Order order.StopFirst) = true

@@ -15,7 +15,7 @@ use Rattle.swarm_objects.specs.Values.Texts.{kind_text, state_text}
 use Rattle.script_grammar.specs.declared.fields.Field.{Field}
 use Rattle.script_grammar.specs.Fields.{field_text}
 use Rattle.script_grammar.specs.Pieces.{joined, node_pieces, old_node_pieces, service_pieces, session_pieces, settings_pieces}
-use Rattle.script_grammar.specs.Calls.{usual_budget}
+use Rattle.swarm_objects.specs.Limits.{largest_budget}
 
 -- ## Operations
 
@@ -29,7 +29,8 @@ force_words false = []
 
 -- the four bytes of an address
 abbrev pub address_text : ℕ → List ℕ
-address_text base = decimal (base / 16777216) ++ 46 ∷ (decimal (base / 65536 % 256) ++ 46 ∷ (decimal (base / 256 % 256) ++ 46 ∷ decimal (base % 256)))
+address_text base = decimal (base / 16777216) ++ 46
+    ∷ (decimal (base / 65536 % 256) ++ 46 ∷ (decimal (base / 256 % 256) ++ 46 ∷ decimal (base % 256)))
 
 abbrev pub subnet_text : ℕ → ℕ → List ℕ
 subnet_text base length = codes "subnet=" ++ (address_text base ++ 47 ∷ decimal length)
@@ -40,10 +41,12 @@ pieces_words pieces = map field_text (joined pieces)
 
 abbrev pub op_words : Op → List (List ℕ)
 op_words (op.CreateNode n d) = codes "node" ∷ codes "join" ∷ n ∷ pieces_words (node_pieces d)
-op_words (op.UpdateNode n v ls r a) = codes "node" ∷ codes "update" ∷ n ∷ (version_words v ++ pieces_words (old_node_pieces ls r a))
+op_words (op.UpdateNode n v ls r a) =
+    codes "node" ∷ codes "update" ∷ n ∷ (version_words v ++ pieces_words (old_node_pieces ls r a))
 op_words (op.RemoveNode n force) = codes "node" ∷ codes "remove" ∷ n ∷ force_words force
 op_words (op.CreateService n d) = codes "service" ∷ codes "create" ∷ n ∷ pieces_words (service_pieces d)
-op_words (op.UpdateService n v d) = codes "service" ∷ codes "update" ∷ n ∷ (version_words v ++ pieces_words (service_pieces d))
+op_words (op.UpdateService n v d) =
+    codes "service" ∷ codes "update" ∷ n ∷ (version_words v ++ pieces_words (service_pieces d))
 op_words (op.RemoveService n) = codes "service" ∷ codes "remove" ∷ n ∷ []
 op_words (op.RollbackService n v) = codes "service" ∷ codes "rollback" ∷ n ∷ version_words v
 op_words (op.CreateNetwork n base length) = codes "network" ∷ codes "create" ∷ n ∷ subnet_text base length ∷ []
@@ -84,7 +87,7 @@ id_words (Some id) = decimal id ∷ []
 
 -- the usual budget is left out
 abbrev pub budget_words : ℕ → List (List ℕ)
-budget_words n = if nat_eq n usual_budget then [] else decimal n ∷ []
+budget_words n = if nat_eq n largest_budget then [] else decimal n ∷ []
 
 abbrev pub call_words : Call → List (List ℕ)
 call_words (call.Txn ops) = ops_words ops
@@ -101,7 +104,8 @@ call_words (call.AgentStart n) = codes "agent" ∷ codes "start" ∷ n ∷ []
 call_words (call.RemoteBegin n cpu mem) = codes "remote" ∷ codes "open" ∷ n ∷ pieces_words (session_pieces cpu mem)
 call_words (call.RemoteBeat n session) = codes "remote" ∷ codes "beat" ∷ n ∷ decimal session ∷ []
 call_words (call.RemotePull n session) = codes "remote" ∷ codes "pull" ∷ n ∷ decimal session ∷ []
-call_words (call.RemoteStatus n session task s) = codes "remote" ∷ codes "status" ∷ n ∷ decimal session ∷ decimal task ∷ state_text s ∷ []
+call_words (call.RemoteStatus n session task s) =
+    codes "remote" ∷ codes "status" ∷ n ∷ decimal session ∷ decimal task ∷ state_text s ∷ []
 call_words call.Halt = codes "halt" ∷ []
 
 -- ## Entries

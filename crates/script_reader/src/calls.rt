@@ -8,11 +8,12 @@ use crate::openings::{
     call_named, call_numbered, call_second, opening, second, with_name, with_session,
 };
 use crate::operations::{in_fields, in_operation, next_field, op_of, session_call};
-use crate::values::{BUDGET, budget_of, filter_of, state_of, subnet_of};
+use crate::values::{budget_of, filter_of, state_of, subnet_of};
 use script_fields::number_of;
 use script_grammar::{CallVerb, Field, Form, NumberVerb, SessionVerb, State, Table, Verb};
 use std::alloc::Global;
 use swarm_filters::read_name;
+use swarm_objects::limits::LARGEST_BUDGET;
 use swarm_objects::{Call, Filter, Id, List, Name, NoMemory, Op, Query, add};
 
 fn named_op(
@@ -184,7 +185,7 @@ pub fn whole(alloc: Global, state: State) -> Result<Option<Call>, NoMemory>
             Ok(Some(Call::Txn(ops)))
         }
         State::SessionFields(name, fields) => Ok(Some(session_call(name, fields.as_slice()))),
-        State::Settle => Ok(Some(Call::Settle(BUDGET))),
+        State::Settle => Ok(Some(Call::Settle(LARGEST_BUDGET))),
         State::Done(call) => Ok(Some(call)),
         _ => Ok(None),
     }

@@ -9,21 +9,6 @@ use script_fields::{number_of, port_number};
 use script_grammar::{DutyState, OneNumber, TwoNumbers};
 use swarm_objects::{Duty, Role};
 
-// The control loops, in their order.
-const ROLES: [Role; 11] = [
-    Role::Dispatcher,
-    Role::Enforcer,
-    Role::Restart,
-    Role::Update,
-    Role::Replicated,
-    Role::Global,
-    Role::Job,
-    Role::Allocator,
-    Role::Scheduler,
-    Role::Reaper,
-    Role::Agents,
-];
-
 // The first of these loops with this name.
 fn named_loop(roles: &[Role], word: &[u8]) -> Option<Role>
     ensures { result ≡ find (λ r. bytes_eq (loop_word r) word.now) roles.now }
@@ -39,7 +24,7 @@ fn named_loop(roles: &[Role], word: &[u8]) -> Option<Role>
 fn loop_of(word: &[u8]) -> Option<Role>
     ensures { result ≡ loop_of word.now }
 {
-    named_loop(&ROLES, word)
+    named_loop(&Role::ALL, word)
 }
 
 fn dispatcher_kind(word: &[u8]) -> Option<DutyState>

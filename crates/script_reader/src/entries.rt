@@ -12,10 +12,8 @@ use crate::lines::is_printable;
 use script_fields::{Words, number_of};
 use script_grammar::{DutyState, EntryState, Form, LineFault, State};
 use std::alloc::Global;
+use swarm_objects::limits::LONGEST_ENTRY;
 use swarm_objects::{Entry, List, NoMemory, What};
-
-/// The most bytes of an entry's line, with its newline.
-const LINE: usize = 8_224;
 
 // The call with one word more.
 fn call_step(
@@ -141,7 +139,7 @@ fn before_newline(line: &[u8]) -> &[u8]
 fn read_text(alloc: Global, line: &[u8]) -> Result<Entry, LineFault>
     ensures { (result ≡ entry_meaning line.now) ⊎ (result ≡ Err LineFault.NoMemory) }
 {
-    if line.len() > LINE {
+    if line.len() > LONGEST_ENTRY {
         return Err(LineFault::Long);
     }
     let text = before_newline(line);

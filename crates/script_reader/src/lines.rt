@@ -9,19 +9,14 @@ use crate::calls::{step, whole};
 use script_fields::{Words, number_of};
 use script_grammar::{Form, Line, LineFault, LineState, State};
 use std::alloc::Global;
+use swarm_objects::limits::{LONGEST_LINE, LONGEST_TIME};
 use swarm_objects::{Call, List, Ms, NoMemory};
-
-/// The most bytes of a line, without its newline.
-const LINE: usize = 8_192;
-
-/// The longest wait: a day.
-const DAY: Ms = 86_400_000;
 
 fn wait_of(word: &[u8]) -> Option<Ms>
     ensures { result ≡ wait_of word.now }
 {
     match number_of(word) {
-        Some(ms) if 1 <= ms && ms <= DAY => Some(ms),
+        Some(ms) if 1 <= ms && ms <= LONGEST_TIME => Some(ms),
         _ => None,
     }
 }
@@ -128,7 +123,7 @@ fn is_blank(text: &[u8]) -> bool
 fn read_text(alloc: Global, text: &[u8]) -> Result<Line, LineFault>
     ensures { (result ≡ meaning_of text.now) ⊎ (result ≡ Err LineFault.NoMemory) }
 {
-    if text.len() > LINE {
+    if text.len() > LONGEST_LINE {
         return Err(LineFault::Long);
     }
     if !is_printable(text) {

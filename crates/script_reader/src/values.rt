@@ -6,10 +6,8 @@ ghost use Rattle.script_grammar.specs.Calls.{address_of, all_of, begins_version,
 
 use script_fields::{byte_number, number_of, split_at};
 use script_grammar::Form;
+use swarm_objects::limits::LARGEST_BUDGET;
 use swarm_objects::{Filter, Kind, TaskState};
-
-/// The turns of a settle line that gives no number, which are the most.
-pub const BUDGET: u64 = 100_000;
 
 /// The version that the word `@V` gives, if it is one.
 pub fn version_of(word: &[u8]) -> Option<u64>
@@ -69,16 +67,16 @@ pub fn subnet_of(word: &[u8]) -> Option<(u32, u8)>
 fn is_budget(turns: u64) -> bool
     ensures { result ≡ is_budget turns }
 {
-    (1..=BUDGET).contains(&turns)
+    (1..=LARGEST_BUDGET).contains(&turns)
 }
 
-// A journal leaves the usual budget out.
+// A journal leaves out the largest, which holds where no number is given.
 fn may_write(form: Form, turns: u64) -> bool
     ensures { result ≡ may_write form turns }
 {
     match form {
         Form::Script => is_budget(turns),
-        Form::Journal => is_budget(turns) && turns != BUDGET,
+        Form::Journal => is_budget(turns) && turns != LARGEST_BUDGET,
     }
 }
 
@@ -91,23 +89,6 @@ pub fn budget_of(form: Form, word: &[u8]) -> Option<u64>
         _ => None,
     }
 }
-
-const STATES: [TaskState; 14] = [
-    TaskState::New,
-    TaskState::Pending,
-    TaskState::Assigned,
-    TaskState::Accepted,
-    TaskState::Preparing,
-    TaskState::Ready,
-    TaskState::Starting,
-    TaskState::Running,
-    TaskState::Complete,
-    TaskState::Shutdown,
-    TaskState::Failed,
-    TaskState::Rejected,
-    TaskState::Remove,
-    TaskState::Orphaned,
-];
 
 // The first of these states with this name.
 fn named_state(states: &[TaskState], word: &[u8]) -> Option<TaskState>
@@ -125,7 +106,7 @@ fn named_state(states: &[TaskState], word: &[u8]) -> Option<TaskState>
 pub fn state_of(word: &[u8]) -> Option<TaskState>
     ensures { result ≡ state_of word.now }
 {
-    named_state(&STATES, word)
+    named_state(&TaskState::ALL, word)
 }
 
 const fn all_of(kind: Option<Kind>) -> Filter

@@ -3,6 +3,7 @@ use Rattle.std.proofs.Common.{◌≡◌, ◌≤◌, ◌<◌, ◌+◌, add-one, s
 use Rattle.std.proofs.lemmas.List.{append-nil}
 use Rattle.std.specs.Prelude.{Option, Result}
 use Rattle.std.specs.List.{flat_map}
+use Rattle.swarm_objects.specs.Limits.{longest_entry}
 use Rattle.swarm_objects.specs.DutyTexts.{duty_kind, duty_text, duty_words, loop_word, spaced}
 use Rattle.swarm_objects.specs.Kinds.{duty_numbers, role_of}
 use Rattle.swarm_objects.specs.declared.duties.Duty.{Duty}
@@ -131,6 +132,6 @@ line_whole e a b d h k n =
     ∙ append_assoc (decimal e.by) (behind (what_words e.what)) (codes "\n")
     ∙ entry_behind e
 
-pub again : {E : Type 0} (r : Result (List ℕ) E) (e : Entry) → has_text e ≡ true → IfOk r (λ line. line ≡ entry_text e) → IfOk r (λ line. length line ≤ 8224 → entry_meaning line ≡ Ok e)
-again (Ok line) e h t = λ short. ap entry_meaning t ∙ read_back e h (subst (λ l. length l ≤ 8224) t short)
+pub again : {E : Type 0} (r : Result (List ℕ) E) (e : Entry) → has_text e ≡ true → IfOk r (λ line. line ≡ entry_text e) → IfOk r (λ line. length line ≤ longest_entry → entry_meaning line ≡ Ok e)
+again (Ok line) e h t = λ short. ap entry_meaning t ∙ read_back e h (subst (λ l. length l ≤ longest_entry) t short)
 again (Err x) e h t = tt

@@ -60,7 +60,8 @@ port_pieces ports hosts = map field.Port ports ∷ map field.Host hosts ∷ []
 abbrev pub rest_pieces : Draft → List (List Field)
 rest_pieces d =
     map field.Net d.networks ∷
-    (restart_pieces d.spec.template.restart ++ (port_pieces d.spec.ports d.spec.template.host_ports ++ update_pieces d.spec.update))
+    (restart_pieces d.spec.template.restart
+    ++ (port_pieces d.spec.ports d.spec.template.host_ports ++ update_pieces d.spec.update))
 
 -- what a node has
 abbrev pub machine_pieces : NodeDraft → List (List Field)

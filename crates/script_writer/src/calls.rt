@@ -1,6 +1,7 @@
 // The words of calls.
-ghost use Rattle.std.specs.Prelude.{◌≡◌, ◌++◌, [], ◌∷◌, decimal, OnOk, string_bytes};
-ghost use Rattle.swarm_objects.specs.Values.Texts.{state_text as state_word};
+ghost use Rattle.std.specs.Prelude.{◌≡◌, [], ◌∷◌, decimal};
+ghost use Rattle.swarm_objects.specs.Values.Texts.{state_text};
+ghost use Rattle.swarm_objects.specs.Writers.{Puts};
 ghost use Rattle.script_grammar.specs.Texts.{budget_words, call_words, filter_text, id_words, query_words, service_words};
 ghost use Rattle.script_writer.specs.Behind.{behind};
 
@@ -9,10 +10,8 @@ use crate::operations::put_ops;
 use crate::words::put_words;
 use std::alloc::AllocError;
 use std::fmt::Write;
+use swarm_objects::limits::LARGEST_BUDGET;
 use swarm_objects::{Call, Id, Kind, Name, Query, TaskState};
-
-// The turns of a settle line that says no number.
-const USUAL_BUDGET: u64 = 100_000;
 
 // The kind that a new watcher is told of, or all.
 const fn filter_text(kind: Option<Kind>) -> &'static str
@@ -25,7 +24,7 @@ const fn filter_text(kind: Option<Kind>) -> &'static str
 }
 
 fn put_tasks_of(text: &mut String, service: &Option<Name>) -> Result<(), AllocError>
-    ensures { OnOk result (string_bytes text.new ≡ string_bytes text.old ++ behind (service_words service.now)) }
+    ensures { Puts result text.old text.new (behind (service_words service.now)) }
 {
     match service {
         Some(name) => put_words(text, &[name.as_str()]),
@@ -34,7 +33,7 @@ fn put_tasks_of(text: &mut String, service: &Option<Name>) -> Result<(), AllocEr
 }
 
 fn put_query(text: &mut String, query: &Query) -> Result<(), AllocError>
-    ensures { OnOk result (string_bytes text.new ≡ string_bytes text.old ++ behind (query_words query.now)) }
+    ensures { Puts result text.old text.new (behind (query_words query.now)) }
 {
     match query {
         Query::ListNodes => put_words(text, &["list", "nodes"]),
@@ -53,7 +52,7 @@ fn put_query(text: &mut String, query: &Query) -> Result<(), AllocError>
 }
 
 fn put_id(text: &mut String, id: Option<Id>) -> Result<(), AllocError>
-    ensures { OnOk result (string_bytes text.new ≡ string_bytes text.old ++ behind (id_words id)) }
+    ensures { Puts result text.old text.new (behind (id_words id)) }
 {
     match id {
         Some(id) => write!(text, " {id}"),
@@ -62,9 +61,9 @@ fn put_id(text: &mut String, id: Option<Id>) -> Result<(), AllocError>
 }
 
 fn put_budget(text: &mut String, budget: u64) -> Result<(), AllocError>
-    ensures { OnOk result (string_bytes text.new ≡ string_bytes text.old ++ behind (budget_words budget)) }
+    ensures { Puts result text.old text.new (behind (budget_words budget)) }
 {
-    if budget == USUAL_BUDGET {
+    if budget == LARGEST_BUDGET {
         Ok(())
     } else {
         write!(text, " {budget}")
@@ -73,14 +72,14 @@ fn put_budget(text: &mut String, budget: u64) -> Result<(), AllocError>
 
 // Puts the session, the task and the state that it was seen in.
 fn put_report(text: &mut String, session: Id, task: Id, state: TaskState) -> Result<(), AllocError>
-    ensures { OnOk result (string_bytes text.new ≡ string_bytes text.old ++ behind (decimal session ∷ decimal task ∷ state_word state ∷ [])) }
+    ensures { Puts result text.old text.new (behind (decimal session ∷ decimal task ∷ state_text state ∷ [])) }
 {
     write!(text, " {session} {task} {}", state.as_str())
 }
 
 /// Puts the words of a call, each after a space.
 pub fn put_call(text: &mut String, call: &Call) -> Result<(), AllocError>
-    ensures { OnOk result (string_bytes text.new ≡ string_bytes text.old ++ behind (call_words call.now)) }
+    ensures { Puts result text.old text.new (behind (call_words call.now)) }
 {
     match call {
         Call::Txn(ops) => put_ops(text, ops.as_slice()),

@@ -1,5 +1,5 @@
 // The fields of drafts, settings and sessions, in the order of the tables.
-ghost use Rattle.std.specs.Prelude.{◌≡◌, ◌++◌, OnOk, string_bytes};
+ghost use Rattle.swarm_objects.specs.Writers.{Puts};
 ghost use Rattle.script_grammar.specs.Pieces.{node_pieces, old_node_pieces, service_pieces, session_pieces, settings_pieces};
 ghost use Rattle.script_grammar.specs.Texts.{pieces_words};
 ghost use Rattle.script_writer.specs.Behind.{behind, rows_text};
@@ -18,7 +18,7 @@ use swarm_objects::{
 };
 
 fn put_run(text: &mut String, mode: Mode, template: &Template) -> Result<(), AllocError>
-    ensures { OnOk result (string_bytes text.new ≡ string_bytes text.old ++ rows_text (run_pieces mode template.now)) }
+    ensures { Puts result text.old text.new (rows_text (run_pieces mode template.now)) }
 {
     put_mode(text, mode)?;
     put_end(text, template.workload.end)?;
@@ -33,7 +33,7 @@ fn put_run(text: &mut String, mode: Mode, template: &Template) -> Result<(), All
 }
 
 fn put_places(text: &mut String, template: &Template) -> Result<(), AllocError>
-    ensures { OnOk result (string_bytes text.new ≡ string_bytes text.old ++ rows_text (place_pieces template.now)) }
+    ensures { Puts result text.old text.new (rows_text (place_pieces template.now)) }
 {
     put_constraints(text, template.constraints.as_slice())?;
     put_spread(text, template.spread.as_slice())?;
@@ -43,7 +43,7 @@ fn put_places(text: &mut String, template: &Template) -> Result<(), AllocError>
 }
 
 fn put_restart(text: &mut String, policy: RestartPolicy) -> Result<(), AllocError>
-    ensures { OnOk result (string_bytes text.new ≡ string_bytes text.old ++ rows_text (restart_pieces policy)) }
+    ensures { Puts result text.old text.new (rows_text (restart_pieces policy)) }
 {
     put_condition(text, policy.condition)?;
     let numbers = [
@@ -55,14 +55,14 @@ fn put_restart(text: &mut String, policy: RestartPolicy) -> Result<(), AllocErro
 }
 
 fn put_ports(text: &mut String, ports: &[Port], hosts: &[Port]) -> Result<(), AllocError>
-    ensures { OnOk result (string_bytes text.new ≡ string_bytes text.old ++ rows_text (port_pieces ports.now hosts.now)) }
+    ensures { Puts result text.old text.new (rows_text (port_pieces ports.now hosts.now)) }
 {
     put_ingress(text, ports)?;
     put_hosts(text, hosts)
 }
 
 fn put_update(text: &mut String, update: UpdateConfig) -> Result<(), AllocError>
-    ensures { OnOk result (string_bytes text.new ≡ string_bytes text.old ++ rows_text (update_pieces update)) }
+    ensures { Puts result text.old text.new (rows_text (update_pieces update)) }
 {
     let numbers = [
         (NumberField::Parallelism, update.parallelism),
@@ -76,7 +76,7 @@ fn put_update(text: &mut String, update: UpdateConfig) -> Result<(), AllocError>
 }
 
 fn put_rest(text: &mut String, draft: &Draft) -> Result<(), AllocError>
-    ensures { OnOk result (string_bytes text.new ≡ string_bytes text.old ++ rows_text (rest_pieces draft.now)) }
+    ensures { Puts result text.old text.new (rows_text (rest_pieces draft.now)) }
 {
     let spec = &draft.spec;
     put_nets(text, draft.networks.as_slice())?;
@@ -91,7 +91,7 @@ fn put_rest(text: &mut String, draft: &Draft) -> Result<(), AllocError>
 
 /// Puts the fields of a service.
 pub fn put_service(text: &mut String, draft: &Draft) -> Result<(), AllocError>
-    ensures { OnOk result (string_bytes text.new ≡ string_bytes text.old ++ behind (pieces_words (service_pieces draft.now))) }
+    ensures { Puts result text.old text.new (behind (pieces_words (service_pieces draft.now))) }
 {
     put_run(text, draft.spec.mode, &draft.spec.template)?;
     put_places(text, &draft.spec.template)?;
@@ -104,7 +104,7 @@ fn put_status(
     role: NodeRole,
     availability: Availability,
 ) -> Result<(), AllocError>
-    ensures { OnOk result (string_bytes text.new ≡ string_bytes text.old ++ rows_text (old_node_pieces labels.now role availability)) }
+    ensures { Puts result text.old text.new (rows_text (old_node_pieces labels.now role availability)) }
 {
     put_labels(text, labels)?;
     put_role(text, role)?;
@@ -118,13 +118,13 @@ pub fn put_old_node(
     role: NodeRole,
     availability: Availability,
 ) -> Result<(), AllocError>
-    ensures { OnOk result (string_bytes text.new ≡ string_bytes text.old ++ behind (pieces_words (old_node_pieces labels.now role availability))) }
+    ensures { Puts result text.old text.new (behind (pieces_words (old_node_pieces labels.now role availability))) }
 {
     put_status(text, labels, role, availability)
 }
 
 fn put_machine(text: &mut String, draft: &NodeDraft) -> Result<(), AllocError>
-    ensures { OnOk result (string_bytes text.new ≡ string_bytes text.old ++ rows_text (machine_pieces draft.now)) }
+    ensures { Puts result text.old text.new (rows_text (machine_pieces draft.now)) }
 {
     let numbers = [(NumberField::Cpu, draft.cpu), (NumberField::Mem, draft.mem)];
     put_numbers(text, Table::NewNode, &numbers)?;
@@ -136,7 +136,7 @@ fn put_machine(text: &mut String, draft: &NodeDraft) -> Result<(), AllocError>
 
 /// Puts the fields of a node that joins.
 pub fn put_new_node(text: &mut String, draft: &NodeDraft) -> Result<(), AllocError>
-    ensures { OnOk result (string_bytes text.new ≡ string_bytes text.old ++ behind (pieces_words (node_pieces draft.now))) }
+    ensures { Puts result text.old text.new (behind (pieces_words (node_pieces draft.now))) }
 {
     put_status(
         text,
@@ -149,7 +149,7 @@ pub fn put_new_node(text: &mut String, draft: &NodeDraft) -> Result<(), AllocErr
 
 /// Puts the fields of the cluster.
 pub fn put_settings(text: &mut String, settings: &Settings) -> Result<(), AllocError>
-    ensures { OnOk result (string_bytes text.new ≡ string_bytes text.old ++ behind (pieces_words (settings_pieces settings.now))) }
+    ensures { Puts result text.old text.new (behind (pieces_words (settings_pieces settings.now))) }
 {
     let numbers = [
         (NumberField::Heartbeat, settings.heartbeat),
@@ -165,7 +165,7 @@ pub fn put_resources(
     cpu: Option<u64>,
     mem: Option<u64>,
 ) -> Result<(), AllocError>
-    ensures { OnOk result (string_bytes text.new ≡ string_bytes text.old ++ behind (pieces_words (session_pieces cpu mem))) }
+    ensures { Puts result text.old text.new (behind (pieces_words (session_pieces cpu mem))) }
 {
     put_given(text, NumberField::Cpu, cpu)?;
     put_given(text, NumberField::Mem, mem)

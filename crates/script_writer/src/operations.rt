@@ -1,6 +1,7 @@
 // The words of operations.
-ghost use Rattle.std.specs.Prelude.{◌≡◌, ◌++◌, [], ◌∷◌, OnOk, string_bytes};
+ghost use Rattle.std.specs.Prelude.{[], ◌∷◌};
 ghost use Rattle.swarm_objects.specs.declared.calls.Op.TheVariants as op;
+ghost use Rattle.swarm_objects.specs.Writers.{Puts};
 ghost use Rattle.script_grammar.specs.Texts.{address_text, force_words, op_words, subnet_text, version_words};
 ghost use Rattle.script_writer.specs.Behind.{behind, ops_text};
 
@@ -11,7 +12,7 @@ use std::fmt::Write;
 use swarm_objects::{Availability, Draft, Labels, Name, NodeRole, Op, Version};
 
 fn put_version(text: &mut String, version: Option<Version>) -> Result<(), AllocError>
-    ensures { OnOk result (string_bytes text.new ≡ string_bytes text.old ++ behind (version_words version)) }
+    ensures { Puts result text.old text.new (behind (version_words version)) }
 {
     match version {
         Some(version) => write!(text, " @{version}"),
@@ -20,7 +21,7 @@ fn put_version(text: &mut String, version: Option<Version>) -> Result<(), AllocE
 }
 
 fn put_force(text: &mut String, force: bool) -> Result<(), AllocError>
-    ensures { OnOk result (string_bytes text.new ≡ string_bytes text.old ++ behind (force_words force)) }
+    ensures { Puts result text.old text.new (behind (force_words force)) }
 {
     if force {
         text.push_str(" force")
@@ -31,7 +32,7 @@ fn put_force(text: &mut String, force: bool) -> Result<(), AllocError>
 
 // Puts the four bytes of an address, the highest first.
 fn put_address(text: &mut String, base: u32) -> Result<(), AllocError>
-    ensures { OnOk result (string_bytes text.new ≡ string_bytes text.old ++ address_text base) }
+    ensures { Puts result text.old text.new (address_text base) }
 {
     let (first, second) = (base / 16_777_216, base / 65_536 % 256);
     let (third, fourth) = (base / 256 % 256, base % 256);
@@ -39,7 +40,7 @@ fn put_address(text: &mut String, base: u32) -> Result<(), AllocError>
 }
 
 fn put_subnet(text: &mut String, base: u32, length: u8) -> Result<(), AllocError>
-    ensures { OnOk result (string_bytes text.new ≡ string_bytes text.old ++ behind (subnet_text base length ∷ [])) }
+    ensures { Puts result text.old text.new (behind (subnet_text base length ∷ [])) }
 {
     text.push_str(" subnet=")?;
     put_address(text, base)?;
@@ -54,7 +55,8 @@ fn put_node_update(
     role: NodeRole,
     availability: Availability,
 ) -> Result<(), AllocError>
-    ensures { OnOk result (string_bytes text.new ≡ string_bytes text.old ++ behind (op_words (op.UpdateNode name.now version labels.now role availability))) }
+    ensures { Puts result text.old text.new
+        (behind (op_words (op.UpdateNode name.now version labels.now role availability))) }
 {
     put_words(text, &["node", "update", name.as_str()])?;
     put_version(text, version)?;
@@ -67,7 +69,7 @@ fn put_service_update(
     version: Option<Version>,
     draft: &Draft,
 ) -> Result<(), AllocError>
-    ensures { OnOk result (string_bytes text.new ≡ string_bytes text.old ++ behind (op_words (op.UpdateService name.now version draft.now))) }
+    ensures { Puts result text.old text.new (behind (op_words (op.UpdateService name.now version draft.now))) }
 {
     put_words(text, &["service", "update", name.as_str()])?;
     put_version(text, version)?;
@@ -76,7 +78,7 @@ fn put_service_update(
 
 /// Puts the words of an operation, each after a space.
 pub fn put_op(text: &mut String, op: &Op) -> Result<(), AllocError>
-    ensures { OnOk result (string_bytes text.new ≡ string_bytes text.old ++ behind (op_words op.now)) }
+    ensures { Puts result text.old text.new (behind (op_words op.now)) }
 {
     match op {
         Op::CreateNode(name, draft) => {
@@ -114,7 +116,7 @@ pub fn put_op(text: &mut String, op: &Op) -> Result<(), AllocError>
 
 /// Puts operations with a semicolon between two.
 pub fn put_ops(text: &mut String, ops: &[Op]) -> Result<(), AllocError>
-    ensures { OnOk result (string_bytes text.new ≡ string_bytes text.old ++ ops_text ops.now) }
+    ensures { Puts result text.old text.new (ops_text ops.now) }
 {
     let Some((first, more)) = ops.split_first() else {
         return Ok(());

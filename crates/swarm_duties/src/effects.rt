@@ -1,188 +1,105 @@
 // Doing the duties.
-ghost use Rattle.std.specs.Prelude.{◌≡◌, OnOk, OnErr};
-ghost use Rattle.swarm_objects.specs.Changes.{addressed, noted, placed};
-ghost use Rattle.swarm_objects.specs.Today.Duties.{effect};
-ghost use Rattle.swarm_objects.specs.Nodes.Sessions.{new_session, ready_node};
-ghost use Rattle.swarm_model.specs.Today.History.{duty_outcome};
-ghost use Rattle.swarm_objects.specs.Rows.{change_row, node_id, task_id};
-ghost use Rattle.swarm_objects.specs.Bounds.{IsSmall};
+ghost use Rattle.std.specs.Prelude.{◌≡◌, OnErr, OnOk, [], true};
+ghost use Rattle.swarm_duties.specs.Reached.{IsReached};
+ghost use Rattle.swarm_model.specs.History.{effect};
+ghost use Rattle.swarm_objects.specs.Duties.{effect_by, is_due};
 ghost use Rattle.swarm_plain.specs.Plain.{world_of};
 
-use crate::filters::refusal_counts;
-use swarm_objects::{
-    Desired, Duty, Id, Ms, NoMemory, Node, NodeSession, NodeState, Note, Place, Rows, Session,
-    Task, TaskState, Version, add, put_in_order,
-};
+use crate::agents::{apply, beat, exec, forget, pull, register, report};
+use crate::allocator::{address_task, give_port, note_task};
+use crate::dispatcher::{expire, orphan};
+use crate::enforcer::reject;
+use crate::global::{create_on_node, leave_node};
+use crate::jobs::{create_job_task, remove_old};
+use crate::reaper::remove_task;
+use crate::replicated::{create_replica, remove_gone, scale_down};
+use crate::restart::{raise, restart};
+use crate::scheduler::{drop_task, explain_task, place_task};
+use crate::update_effects::{fail_update, finish_update, replace_place, start_update, swap_place};
+use swarm_objects::{Duty, NoMemory, Version};
 use swarm_plain::Plain;
 
-// The service gets a new task in this slot.
-fn create_task(plain: &mut Plain, service: Id, slot: u64) -> Result<(), NoMemory>
-    requires { IsSmall (world_of plain.old) }
-    ensures ok { OnOk result (world_of plain.new ≡ effect (world_of plain.old) (Duty.ReplicatedCreate service slot)) }
+// What the duty does as the entry with this number, but for the number of entries and the events.
+fn perform(plain: &mut Plain, version: Version, duty: Duty) -> Result<(), NoMemory>
+    requires { IsReached (world_of plain.old) }
+    ensures ok { OnOk result (world_of plain.new ≡ effect_by version (world_of plain.old) duty) }
     ensures err { OnErr result (world_of plain.new ≡ world_of plain.old) }
 {
-    if let Some(service) = plain.service(service) {
-        let version = plain.entries + 1;
-        let place = Place::Slot(slot);
-        let task = Task::new(
-            plain.alloc,
-            plain,
-            version,
-            service,
-            place,
-            Desired::Running,
-        )?;
-        add(&mut plain.tasks, task)?;
-        plain.next_id += 1;
+    match duty {
+        Duty::Expire(node) => expire(plain, version, node),
+        Duty::Orphan(task) => orphan(plain, version, task),
+        Duty::Reject(task) => reject(plain, version, task),
+        Duty::Restart(task) => return restart(plain, version, task),
+        Duty::Raise(task) => raise(plain, version, task),
+        Duty::Start(service) => return start_update(plain, version, service),
+        Duty::Fail(service) => return fail_update(plain, version, service),
+        Duty::Swap(service, number) => swap_place(plain, version, service, number),
+        Duty::Replace(service, number) => return replace_place(plain, version, service, number),
+        Duty::Finish(service) => finish_update(plain, version, service),
+        Duty::Gone(task) => remove_gone(plain, version, task),
+        Duty::Down(service, slot) => scale_down(plain, version, service, slot),
+        Duty::ReplicatedCreate(service, slot) => return create_replica(
+            plain, version, service, slot,
+        ),
+        Duty::Leave(service, node) => leave_node(plain, version, service, node),
+        Duty::GlobalCreate(service, node) => return create_on_node(plain, version, service, node),
+        Duty::Old(task) => remove_old(plain, version, task),
+        Duty::JobCreate(service, slot) => return create_job_task(plain, version, service, slot),
+        Duty::Port(service, target, udp) => return give_port(plain, version, service, target, udp),
+        Duty::Address(task) => return address_task(plain, version, task),
+        Duty::Note(task) => note_task(plain, version, task),
+        Duty::Drop(task) => drop_task(plain, version, task),
+        Duty::Place(task, node) => place_task(plain, version, task, node),
+        Duty::Explain(task) => explain_task(plain, version, task),
+        Duty::Delete(task) | Duty::Trim(task) => remove_task(plain, task),
+        Duty::Register(node) => return register(plain, version, node),
+        Duty::Beat(node) => beat(plain, node),
+        Duty::Apply(node) => return apply(plain, node),
+        Duty::Pull(node) => return pull(plain, node),
+        Duty::Exec(node, task) => exec(plain, node, task),
+        Duty::Report(node, task) => report(plain, version, node, task),
+        Duty::Forget(node, task) => forget(plain, node, task),
     }
-    plain.entries += 1;
     Ok(())
 }
 
-// The task with this id is PENDING now, and its note is empty.
-fn address(tasks: &mut [Task], version: Version, now: Ms, id: Id)
-    ensures { tasks.new ≡ change_row task_id id (addressed version now) tasks.old }
-{
-    for task in tasks.iter_mut() {
-        if task.id == id {
-            task.version = version;
-            task.state = TaskState::Pending;
-            task.since = now;
-            task.note = Note::Empty;
-        }
-    }
-}
-
-// The task with this id is ASSIGNED to the node now, and its note is empty.
-fn place(tasks: &mut [Task], version: Version, now: Ms, id: Id, node: Id)
-    ensures { tasks.new ≡ change_row task_id id (placed version now node) tasks.old }
-{
-    for task in tasks.iter_mut() {
-        if task.id == id {
-            task.version = version;
-            task.state = TaskState::Assigned;
-            task.since = now;
-            task.node = Some(node);
-            task.note = Note::Empty;
-        }
-    }
-}
-
-// The note of the task with this id is this one now.
-fn note(tasks: &mut [Task], version: Version, note: Note, id: Id)
-    ensures { tasks.new ≡ change_row task_id id (noted version note) tasks.old }
-{
-    for task in tasks.iter_mut() {
-        if task.id == id {
-            task.version = version;
-            task.note = note;
-        }
-    }
-}
-
-// The node with this id is READY.
-fn set_ready(nodes: &mut [Node], version: Version, id: Id)
-    ensures { nodes.new ≡ change_row node_id id (ready_node version) nodes.old }
-{
-    for node in nodes.iter_mut() {
-        if node.id == id {
-            node.version = version;
-            node.state = NodeState::Ready;
-        }
-    }
-}
-
-// A session of the node, which lasts for three beats.
-fn new_session(plain: &Plain, node: Id) -> NodeSession
-    requires { IsSmall (world_of plain.now) }
-    ensures { result ≡ new_session (world_of plain.now).tables node }
-{
-    NodeSession {
-        node,
-        session: Session {
-            id: plain.next_id,
-            deadline: plain.clock + 3 * plain.settings.heartbeat,
-            beat: plain.clock,
-        },
-    }
-}
-
-// The node's agent opens a session.
-fn register(plain: &mut Plain, node: Id) -> Result<(), NoMemory>
-    requires { IsSmall (world_of plain.old) }
-    ensures ok { OnOk result (world_of plain.new ≡ effect (world_of plain.old) (Duty.Register node)) }
+// The duty becomes an entry, where nobody watches.
+fn do_unseen(plain: &mut Plain, duty: Duty) -> Result<(), NoMemory>
+    requires reached { IsReached (world_of plain.old) }
+    requires unwatched { plain.old.watchers ≡ [] }
+    ensures ok { OnOk result (world_of plain.new ≡ effect (world_of plain.old) duty) }
     ensures err { OnErr result (world_of plain.new ≡ world_of plain.old) }
 {
-    let session = new_session(plain, node);
-    put_in_order(&mut plain.sessions, session)?;
-    plain.next_id += 1;
-    plain.entries += 1;
-    set_ready(plain.nodes.as_mut_slice(), plain.entries, node);
+    let entry = plain.entries + 1;
+    perform(plain, entry, duty)?;
+    plain.end_unseen(entry);
     Ok(())
 }
 
-// The task gets its addresses.
-fn address_task(plain: &mut Plain, task: Id)
-    requires { IsSmall (world_of plain.old) }
-    ensures { world_of plain.new ≡ effect (world_of plain.old) (Duty.Address task) }
-{
-    plain.entries += 1;
-    address(plain.tasks.as_mut_slice(), plain.entries, plain.clock, task);
-}
-
-// The task goes to the node.
-fn place_task(plain: &mut Plain, task: Id, node: Id)
-    requires { IsSmall (world_of plain.old) }
-    ensures { world_of plain.new ≡ effect (world_of plain.old) (Duty.Place task node) }
-{
-    plain.entries += 1;
-    place(
-        plain.tasks.as_mut_slice(),
-        plain.entries,
-        plain.clock,
-        task,
-        node,
-    );
-}
-
-// The task's note says why it has no node.
-fn explain_task(plain: &mut Plain, task: Id)
-    requires { IsSmall (world_of plain.old) }
-    ensures { world_of plain.new ≡ effect (world_of plain.old) (Duty.Explain task) }
-{
-    plain.entries += 1;
-    let Some(waiting) = plain.task(task) else {
-        return;
-    };
-    let reasons = Note::Filters(refusal_counts(plain, waiting));
-    note(plain.tasks.as_mut_slice(), plain.entries, reasons, task);
-}
-
-/// Performs the duty as the next entry; the caller answers for its being due. One of a control loop that isn't written
-/// yet does nothing. Want of memory changes nothing.
-pub fn do_duty(plain: &mut Plain, duty: &Duty) -> Result<(), NoMemory>
-    requires { IsSmall (world_of plain.old) }
-    ensures ok { OnOk result (world_of plain.new ≡ (duty_outcome (world_of plain.old) duty.now).after) }
+// The duty becomes an entry, in a copy, since the rows before it are needed to tell its events.
+fn do_seen(plain: &mut Plain, duty: Duty) -> Result<(), NoMemory>
+    requires reached { IsReached (world_of plain.old) }
+    requires due { is_due (world_of plain.old) duty ≡ true }
+    ensures ok { OnOk result (world_of plain.new ≡ effect (world_of plain.old) duty) }
     ensures err { OnErr result (world_of plain.new ≡ world_of plain.old) }
 {
-    match *duty {
-        Duty::ReplicatedCreate(service, slot) => create_task(plain, service, slot),
-        Duty::Register(node) => register(plain, node),
-        Duty::Address(task) => {
-            address_task(plain, task);
-            Ok(())
-        }
-        Duty::Place(task, node) => {
-            place_task(plain, task, node);
-            Ok(())
-        }
-        Duty::Explain(task) => {
-            explain_task(plain, task);
-            Ok(())
-        }
-        _ => {
-            plain.entries += 1;
-            Ok(())
-        }
+    let mut copy = plain.duplicate()?;
+    perform(&mut copy, plain.entries + 1, duty)?;
+    copy.end_seen(plain)?;
+    *plain = copy;
+    Ok(())
+}
+
+/// Performs the duty, which is due, as the next entry. Want of memory changes nothing.
+pub fn do_duty(plain: &mut Plain, duty: Duty) -> Result<(), NoMemory>
+    requires reached { IsReached (world_of plain.old) }
+    requires due { is_due (world_of plain.old) duty ≡ true }
+    ensures ok { OnOk result (world_of plain.new ≡ effect (world_of plain.old) duty) }
+    ensures err { OnErr result (world_of plain.new ≡ world_of plain.old) }
+{
+    if plain.watchers.is_empty() {
+        do_unseen(plain, duty)
+    } else {
+        do_seen(plain, duty)
     }
 }

@@ -3,13 +3,34 @@
 
 mod agents;
 mod allocator;
+mod best_node;
+mod dispatcher;
 mod effects;
+mod enforcer;
+mod executors;
 mod filters;
-mod placing;
+mod free_numbers;
+mod global;
+mod idle;
+mod jobs;
+mod nodes;
+mod places;
+mod policy;
+mod reaper;
+mod replay;
 mod replicated;
+mod restart;
+mod runs;
+mod scheduler;
 mod settling;
-#[cfg(test)]
-mod tests;
+mod steps;
+mod tasks;
+mod update_effects;
+mod update_waits;
+mod updates;
+mod waits;
 
 pub use effects::do_duty;
-pub use settling::{duties, settle, settle_call};
+pub use replay::Replay;
+pub use settling::{duties, next_duty, settle, settle_call};
+pub use steps::{StepFault, answer, step};

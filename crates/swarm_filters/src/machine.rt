@@ -36,7 +36,8 @@ fn is_same_text(one: &[u8], two: &[u8]) -> bool
 fn key_begun(text: &[u8], from: usize, end: usize) -> Option<State>
     requires order { from ≤ end }
     requires within { end ≤ length text.now }
-    ensures shows { option_shown text.now end result ≡ word_begun (str_to_ascii_lowercase (part text.now from end)) key_words }
+    ensures shows { option_shown text.now end result
+        ≡ word_begun (str_to_ascii_lowercase (part text.now from end)) key_words }
     ensures fits { OptionFits end result }
 {
     let bytes = &text[from..end];
@@ -60,7 +61,8 @@ fn key_begun(text: &[u8], from: usize, end: usize) -> Option<State>
 fn platform_begun(text: &[u8], from: usize, end: usize) -> Option<State>
     requires order { from ≤ end }
     requires within { end ≤ length text.now }
-    ensures shows { option_shown text.now end result ≡ word_begun (str_to_ascii_lowercase (part text.now from end)) platform_words }
+    ensures shows { option_shown text.now end result
+        ≡ word_begun (str_to_ascii_lowercase (part text.now from end)) platform_words }
     ensures fits { OptionFits end result }
 {
     let bytes = &text[from..end];
@@ -80,7 +82,8 @@ fn platform_begun(text: &[u8], from: usize, end: usize) -> Option<State>
 fn label_begun(text: &[u8], from: usize, end: usize) -> Option<State>
     requires order { from ≤ end }
     requires within { end ≤ length text.now }
-    ensures shows { option_shown text.now end result ≡ word_begun (str_to_ascii_lowercase (part text.now from end)) label_words }
+    ensures shows { option_shown text.now end result
+        ≡ word_begun (str_to_ascii_lowercase (part text.now from end)) label_words }
     ensures fits { OptionFits end result }
 {
     let bytes = &text[from..end];
@@ -169,7 +172,8 @@ fn value_begun(text: &[u8], place: usize, found: Found, equal: bool) -> Option<S
 
 fn start_step(text: &[u8], place: usize) -> Option<State>
     requires below { place < length text.now }
-    ensures shows { option_shown text.now (place + 1) result ≡ byte_step (shown text.now place Start) (slice_index text.now place) }
+    ensures shows { option_shown text.now (place + 1) result
+        ≡ byte_step (shown text.now place Start) (slice_index text.now place) }
     ensures fits { OptionFits (place + 1) result }
 {
     if text[place] == b' ' {
@@ -192,7 +196,8 @@ fn key_step(text: &[u8], place: usize, from: usize) -> Option<State>
 pub fn byte_step(text: &[u8], place: usize, state: State) -> Option<State>
     requires below { place < length text.now }
     requires fits { StateFits place state }
-    ensures shows { option_shown text.now (place + 1) result ≡ byte_step (shown text.now place state) (slice_index text.now place) }
+    ensures shows { option_shown text.now (place + 1) result
+        ≡ byte_step (shown text.now place state) (slice_index text.now place) }
     ensures fits { OptionFits (place + 1) result }
 {
     match state {

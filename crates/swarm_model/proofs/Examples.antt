@@ -10,5 +10,4 @@ pub mod NoMatch
 pub mod OutOfOrder
 pub mod Refusals
 pub mod Settle
-pub mod Today
 pub mod Words

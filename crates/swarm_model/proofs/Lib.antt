@@ -1,10 +1,7 @@
 pub mod Base
-pub mod DutyLemmas
 pub mod Examples
-pub mod Histories
 pub mod Laws
 pub mod Moves
 pub mod ReplyLaws
 pub mod SettleLaws
-pub mod Times
 pub mod Watching

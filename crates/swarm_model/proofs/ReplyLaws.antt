@@ -2,7 +2,7 @@
 use Rattle.std.specs.Prelude.{Bool, Err, List, None, Ok, Option, Result, Some, [], false, filter, find, flat_map, if◌then◌else◌, length, nat_le, nat_lt, not, refl, true, ℕ, ⊤, ◌&&◌, ◌*◌, ◌++◌, ◌+◌, ◌==◌, ◌∷◌, ◌≡◌}
 use Rattle.std.specs.Option.{option_map}
 use Rattle.std.specs.Ordering.{nat_cmp}
-use Rattle.swarm_model.specs.Calls.{answer, answered, call_outcome, is_admitted, is_full, no_entry, outcome, ticked, txn, txn_answer, viewed}
+use Rattle.swarm_model.specs.Calls.{answer, answered, call_outcome, is_admitted, is_full, outcome, ticked, txn, txn_answer, unless_refused, viewed}
 use Rattle.swarm_model.specs.Calls.Faults.{failed_agent, in_mode, mode_after_start, mode_after_stop, on_agent, started_agent}
 use Rattle.swarm_model.specs.Calls.Networks.{create_network, new_network, remove_network, with_network}
 use Rattle.swarm_model.specs.Calls.Nodes.{broken_node, create_node, new_node, remove_node, respecified_node, update_node, with_node, without_node}
@@ -448,9 +448,8 @@ pub entry_where_admitted : (w : World) (c : Call) → is_entry (outcome w c).rep
 entry_where_admitted w c = go w.halted (is_full w c)
   where
     go : (h f : Bool)
-        → is_entry
-        (if h then no_entry w refusal.Halted else if f then no_entry w
-        (refusal.Full w.entries) else call_outcome w c).reply ≡ (not h && not f)
+        → is_entry (unless_refused (if h then Some refusal.Halted else if f then Some
+        (refusal.Full w.entries) else None) w (call_outcome w c)).reply ≡ (not h && not f)
     go true f = refl
     go false true = refl
     go false false = call_is_entry w c

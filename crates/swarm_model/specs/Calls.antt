@@ -9,7 +9,7 @@ pub mod Services
 pub mod Views
 pub mod Watches
 -- What a call is answered in a world, and the world after it.
-use Rattle.std.specs.Prelude.{◌+◌, Err, Ok, List, Result, ℕ, [], if◌then◌else◌, length, nat_lt, not, true, Bool, nat_le, ◌&&◌}
+use Rattle.std.specs.Prelude.{◌+◌, Err, Ok, List, Result, ℕ, [], if◌then◌else◌, length, nat_lt, not, true, Bool, nat_le, ◌&&◌, None, Option, Some}
 use Rattle.swarm_model.specs.Calls.Faults.{failed_agent, in_mode, mode_after_start, mode_after_stop, on_agent, started_agent}
 use Rattle.swarm_model.specs.Calls.Operations.{apply_ops}
 use Rattle.swarm_model.specs.Calls.Refusals.{refuse, unless}
@@ -97,9 +97,15 @@ is_admitted w c = not w.halted && not (is_full w c)
 abbrev pub no_entry : World → Refusal → Outcome
 no_entry w r = record { reply = reply.Refused r; after = w }
 
+-- why a call becomes no entry, if it doesn't
+abbrev pub refusal_of : World → Call → Option Refusal
+refusal_of w c = if w.halted then Some refusal.Halted else if is_full w c then Some (refusal.Full w.entries) else None
+
+-- a call that is refused so is no entry
+abbrev pub unless_refused : Option Refusal → World → Outcome → Outcome
+unless_refused None w done = done
+unless_refused (Some r) w done = no_entry w r
+
 -- what any call is answered, and the world after it; a call that is no entry changes nothing
 abbrev pub outcome : World → Call → Outcome
-outcome w c =
-    if w.halted then no_entry w refusal.Halted
-    else if is_full w c then no_entry w (refusal.Full w.entries)
-    else call_outcome w c
+outcome w c = unless_refused (refusal_of w c) w (call_outcome w c)

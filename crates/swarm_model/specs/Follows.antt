@@ -124,7 +124,8 @@ pub record IsEnd (w : World) (next : Option Asked) (h : List Entry) : Type 0 whe
 abbrev pub FollowsFrom : World → List Asked → Option Asked → List Entry → Type 0
 FollowsFrom w [] next h = IsEnd w next h
 FollowsFrom w (line ∷ lines) next h =
-    (part : List Entry) × (rest : List Entry) × (h ≡ part ++ rest) × IsLine w line part rest × FollowsFrom (replay_from w part) lines next rest
+    (part : List Entry) × (rest : List Entry) × (h ≡ part ++ rest) × IsLine w line part rest
+    × FollowsFrom (replay_from w part) lines next rest
 
 -- the history is that of these lines and of what was done of the next one, with so many workers
 pub record FollowsPart (h : List Entry) (lines : List Asked) (next : Option Asked) (workers : ℕ) : Type 0 where

@@ -7,3 +7,4 @@ pub mod Reconciliation
 pub mod Rises
 pub mod Size
 pub mod Steps
+pub mod Worlds

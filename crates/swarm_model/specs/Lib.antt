@@ -10,4 +10,3 @@ pub mod Outcome
 pub mod Script
 pub mod Serial
 pub mod Settle
-pub mod Today

@@ -31,3 +31,8 @@ Applies expected before result after = Reaches expected result after × OnErr re
 -- a reply and the world after it, or the refusal
 abbrev pub Answered : Type 0
 Answered = Result (Reply × World) Refusal
+
+-- a call was answered so; or it was refused so, or memory was wanting, and then nothing changed
+abbrev pub Answers : Answered → World → Result Reply Refusal → World → Type 0
+Answers expected before (Ok reply) after = expected ≡ Ok (reply, after)
+Answers expected before (Err refusal) after = ((refusal ≡ NoMemory) ⊎ (expected ≡ Err refusal)) × (after ≡ before)

@@ -1,7 +1,7 @@
 -- What a line of a script asks for, and the entries of callers.
 use Rattle.std.specs.Prelude.{ℕ, ◌-◌, Bool, min, ◌%◌, ◌==◌, List, filter, false, nat_le, ◌&&◌, ◌||◌, true, not, count_by, None, Option, Some, is_some}
 use Rattle.swarm_model.specs.Settle.{settle_answer}
-use Rattle.swarm_objects.specs.Kinds.{roles, role_of}
+use Rattle.swarm_objects.specs.Kinds.{duty_named, roles, role_of}
 use Rattle.swarm_objects.specs.World.{World}
 use Rattle.swarm_objects.specs.declared.calls.Call.{Call}
 use Rattle.swarm_objects.specs.declared.calls.Entry.{Entry}
@@ -74,12 +74,8 @@ own_duty d = record { by = 0; what = what.Duty d }
 
 -- The settle test.
 
-abbrev pub busy_duty : Settle → Option Duty
-busy_duty (settle.Busy d) = Some d
-busy_duty _ = None
-
 abbrev pub is_busy : World → Bool
-is_busy w = is_some (busy_duty (settle_answer w))
+is_busy w = is_some (duty_named (settle_answer w))
 
 -- Wait lines.
 

@@ -1,8 +1,9 @@
 -- The one history that a single caller makes of lines.
 use Rattle.std.specs.Prelude.{List, None, Some, [], suc, zero, ℕ, ◌-◌, ◌∷◌, ◌++◌, ◌+◌, false, nat_lt, true}
 use Rattle.swarm_model.specs.History.{step_world, replay_from}
-use Rattle.swarm_model.specs.Script.{busy_duty, own_duty, next_tick, own_call, full_stretch, Asked, Asks, Nothing, Settles, Waits}
+use Rattle.swarm_model.specs.Script.{own_duty, next_tick, own_call, full_stretch, Asked, Asks, Nothing, Settles, Waits}
 use Rattle.swarm_model.specs.Settle.{settle_answer}
+use Rattle.swarm_objects.specs.Kinds.{duty_named}
 use Rattle.swarm_objects.specs.World.{World, empty_world}
 use Rattle.swarm_objects.specs.declared.calls.Call.TheVariants as call
 use Rattle.swarm_objects.specs.declared.calls.Entry.{Entry}
@@ -11,7 +12,7 @@ use Rattle.swarm_objects.specs.declared.calls.Entry.{Entry}
 abbrev pub settle_entries : ℕ → World → List Entry
 settle_entries zero w = []
 settle_entries (suc n) w =
-    elim (busy_duty (settle_answer w)) [
+    elim (duty_named (settle_answer w)) [
       | Some d ↦ own_duty d ∷ settle_entries n (step_world w (own_duty d))
       | None ↦ []
     ]

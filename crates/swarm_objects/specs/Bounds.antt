@@ -50,7 +50,8 @@ abbrev pub is_near_node : Node → Bool
 is_near_node n = is_near n.down_since
 
 abbrev pub is_near_service : Service → Bool
-is_near_service s = is_near_spec s.spec && on_row true is_near_spec s.previous && on_row true is_near_run s.run
+is_near_service s =
+    is_near_spec s.spec && on_row true is_near_spec s.previous && on_row true is_near_run s.run && is_near s.iteration
 
 abbrev pub is_near_task : Task → Bool
 is_near_task x = is_near_template x.template && is_near x.since && is_near x.created && is_near x.raise_at
@@ -58,7 +59,7 @@ is_near_task x = is_near_template x.template && is_near x.since && is_near x.cre
 abbrev pub is_near_session : NodeSession → Bool
 is_near_session s = is_near s.session.deadline && is_near s.session.beat
 
--- each time in the rows
+-- each time in the rows, and the iterations of services
 pub record HasNearTimes (t : Tables) : Type 0 where
   pub nodes : list_all is_near_node t.nodes ≡ true
   pub services : list_all is_near_service t.services ≡ true

@@ -1,10 +1,8 @@
 -- What stands where nothing is named.
 use Rattle.std.specs.Prelude.{ℕ, ◌^◌, ◌*◌, List, [], codes, false}
 use Rattle.swarm_objects.specs.Limits.{longest_time}
-use Rattle.swarm_objects.specs.declared.nodes.Availability.TheVariants.{Active}
 use Rattle.swarm_objects.specs.declared.nodes.NodeDraft.{NodeDraft}
-use Rattle.swarm_objects.specs.declared.nodes.NodeRole.TheVariants.{Worker}
-use Rattle.swarm_objects.specs.declared.nodes.TheConstants.NodeDraft.{USUAL_CPU, USUAL_MEM, USUAL_OS, USUAL_ARCH}
+use Rattle.swarm_objects.specs.declared.nodes.TheConstants.NodeDraft.{USUAL_ROLE, USUAL_AVAILABILITY, USUAL_CPU, USUAL_MEM, USUAL_OS, USUAL_ARCH}
 use Rattle.swarm_objects.specs.declared.services.Draft.{Draft}
 use Rattle.swarm_objects.specs.declared.services.FailureAction.TheVariants.{Pause}
 use Rattle.swarm_objects.specs.declared.services.Mode.{Mode}
@@ -57,8 +55,8 @@ usual_draft = record { spec = usual_spec; networks = [] }
 abbrev pub usual_node : NodeDraft
 usual_node = record {
   labels = [];
-  role = Worker;
-  availability = Active;
+  role = USUAL_ROLE;
+  availability = USUAL_AVAILABILITY;
   cpu = USUAL_CPU;
   mem = USUAL_MEM;
   os = USUAL_OS.now;

@@ -1,1 +1,13 @@
-pub mod Ops
+pub mod AnswerEvents
+pub mod DutyEntries
+pub mod EntryLemmas
+pub mod HeldPlaces
+pub mod Merging
+pub mod OpSteps
+pub mod Openings
+pub mod Passes
+pub mod Remotes
+pub mod Rooms
+pub mod RowOrder
+pub mod Sending
+pub mod Updates

@@ -95,7 +95,7 @@ impl Rows for Plain {
 }
 
 // The session on record of a node.
-fn session_of(sessions: &[NodeSession], node: Id) -> Option<&NodeSession>
+pub(crate) fn session_of(sessions: &[NodeSession], node: Id) -> Option<&NodeSession>
     ensures { option_copied result ≡ row_at session_node node sessions.now }
 {
     sessions.iter().find(|row| row.node == node)

@@ -30,7 +30,8 @@ filter_text refusing = filter_front refusing.0 ++ nodes_text refusing.1 ++ filte
 -- the filters that refuse a node, numbered from the first, each with the number of nodes that it refuses
 abbrev pub refusing : ℕ → List ℕ → List (ℕ × ℕ)
 refusing first [] = []
-refusing first (count ∷ counts) = if nat_eq count 0 then refusing (first + 1) counts else (first, count) ∷ refusing (first + 1) counts
+refusing first (count ∷ counts) =
+    if nat_eq count 0 then refusing (first + 1) counts else (first, count) ∷ refusing (first + 1) counts
 
 -- a filter's text that is not the first, after a semicolon
 abbrev pub next_filter_text : ℕ × ℕ → List ℕ

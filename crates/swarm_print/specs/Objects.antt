@@ -25,7 +25,8 @@ node_text (Some node) = shown_text node
 
 -- the four bytes of an address, the highest first, with dots between them
 abbrev pub address_text : ℕ → List ℕ
-address_text a = decimal (a / 16777216 % 256) ++ 46 ∷ decimal (a / 65536 % 256) ++ 46 ∷ decimal (a / 256 % 256) ++ 46 ∷ decimal (a % 256)
+address_text a = decimal (a / 16777216 % 256) ++ 46 ∷ decimal (a / 65536 % 256) ++ 46 ∷ decimal (a / 256 % 256)
+    ++ 46 ∷ decimal (a % 256)
 
 -- the lowest address, and how many leading bits all addresses share
 unfoldable pub subnet_text : ℕ → ℕ → List ℕ

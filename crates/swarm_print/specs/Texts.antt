@@ -38,7 +38,8 @@ settle_words budget Settled = codes "settled" ∷ []
 abbrev pub id_text : ℕ → List ℕ
 id_text id = codes " " ++ decimal id
 
--- a transaction that was done names the object of each of its operations, in order; a tick, a halt and a duty say nothing
+-- a transaction that was done names the object of each of its operations, in order; a tick, a halt and a duty say
+-- nothing
 abbrev pub reply_text : Reply → List ℕ
 reply_text (reply.Txn ids) = codes "ok" ++ flat_map id_text ids ++ codes "\n"
 reply_text (reply.AgentDone node) = line (codes "ok" ∷ decimal node ∷ [])

@@ -1,4 +1,5 @@
--- The words that replies have: those of states, availabilities and how an update stands are in capitals, the others in small letters.
+-- The words that replies have: those of states, availabilities and how an update stands are in capitals, the others
+-- in small letters.
 use Rattle.std.specs.Prelude.{ℕ, List, Bool, true, false, codes, Option, Some, None}
 use Rattle.swarm_objects.specs.declared.duties.Cause.{Cause}
 use Rattle.swarm_objects.specs.declared.duties.Cause.TheVariants as cause

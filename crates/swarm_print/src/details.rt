@@ -1,5 +1,6 @@
 // Inspected objects, as JSON.
-ghost use Rattle.std.specs.Prelude.{◌≡◌, ◌++◌, false, map, IfOk, OnOk, string_bytes};
+ghost use Rattle.std.specs.Prelude.{◌≡◌, false, map, IfOk};
+ghost use Rattle.swarm_objects.specs.Writers.{Puts};
 ghost use Rattle.serde_json.specs.Data.{array, object, string};
 ghost use Rattle.serde_json.specs.View.{view, items_of};
 ghost use Rattle.serde_json.specs.Written.{has_float};
@@ -183,7 +184,7 @@ fn task_value(alloc: Global, task: &TaskDetail) -> Result<Value, AllocError>
 #[tactic(auto, unfolding(crate::specs::Details::json_line))]
 fn put_json(alloc: Global, text: &mut String, value: &Value) -> Result<(), AllocError>
     requires { has_float (view value.now) ≡ false }
-    ensures { OnOk result (string_bytes text.new ≡ string_bytes text.old ++ json_line (view value.now)) }
+    ensures { Puts result text.old text.new (json_line (view value.now)) }
 {
     let json = value.to_string(alloc)?;
     text.push_str(json.as_str())?;
@@ -195,7 +196,7 @@ pub fn put_node_detail(
     text: &mut String,
     node: &NodeDetail,
 ) -> Result<(), AllocError>
-    ensures { OnOk result (string_bytes text.new ≡ string_bytes text.old ++ json_line (node_data node.now)) }
+    ensures { Puts result text.old text.new (json_line (node_data node.now)) }
 {
     let value = node_value(alloc, node)?;
     put_json(alloc, text, &value)
@@ -206,7 +207,7 @@ pub fn put_service_detail(
     text: &mut String,
     service: &ServiceDetail,
 ) -> Result<(), AllocError>
-    ensures { OnOk result (string_bytes text.new ≡ string_bytes text.old ++ json_line (service_data service.now)) }
+    ensures { Puts result text.old text.new (json_line (service_data service.now)) }
 {
     let value = service_value(alloc, service)?;
     put_json(alloc, text, &value)
@@ -217,7 +218,7 @@ pub fn put_network_detail(
     text: &mut String,
     network: &NetworkDetail,
 ) -> Result<(), AllocError>
-    ensures { OnOk result (string_bytes text.new ≡ string_bytes text.old ++ json_line (network_data network.now)) }
+    ensures { Puts result text.old text.new (json_line (network_data network.now)) }
 {
     let value = network_value(alloc, network)?;
     put_json(alloc, text, &value)
@@ -228,7 +229,7 @@ pub fn put_task_detail(
     text: &mut String,
     task: &TaskDetail,
 ) -> Result<(), AllocError>
-    ensures { OnOk result (string_bytes text.new ≡ string_bytes text.old ++ json_line (task_data task.now)) }
+    ensures { Puts result text.old text.new (json_line (task_data task.now)) }
 {
     let value = task_value(alloc, task)?;
     put_json(alloc, text, &value)

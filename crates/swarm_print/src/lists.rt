@@ -1,9 +1,10 @@
 // The lines of lists, of events and of messages.
-ghost use Rattle.std.specs.Prelude.{◌≡◌, [], ◌∷◌, ◌++◌, codes, decimal, flat_map, OnOk, string_bytes};
+ghost use Rattle.std.specs.Prelude.{[], ◌∷◌, codes, decimal, flat_map};
 ghost use Rattle.swarm_print.specs.Lines.{line, listing};
 ghost use Rattle.swarm_print.specs.Lists.{node_line, share_text, service_line, network_line, task_line, event_line, change_line, message_text};
 ghost use Rattle.swarm_print.specs.Notes.{note_text};
 ghost use Rattle.swarm_objects.specs.Values.Texts.{state_text};
+ghost use Rattle.swarm_objects.specs.Writers.{Puts};
 ghost use Rattle.swarm_print.specs.Words.{desired_word, update_word};
 
 use crate::notes::put_note;
@@ -18,13 +19,13 @@ use swarm_objects::{AssignChange, Event, Message};
 
 // What is listed, and how many there are.
 fn put_heading(text: &mut String, what: &str, count: usize) -> Result<(), AllocError>
-    ensures { OnOk result (string_bytes text.new ≡ string_bytes text.old ++ line (what.now ∷ decimal count ∷ [])) }
+    ensures { Puts result text.old text.new (line (what.now ∷ decimal count ∷ [])) }
 {
     write!(text, "{what} {count}\n")
 }
 
 fn put_node(text: &mut String, node: &NodeShown) -> Result<(), AllocError>
-    ensures { OnOk result (string_bytes text.new ≡ string_bytes text.old ++ node_line node.now) }
+    ensures { Puts result text.old text.new (node_line node.now) }
 {
     let id = node.id;
     let name = node.name.as_str();
@@ -40,7 +41,7 @@ fn put_node(text: &mut String, node: &NodeShown) -> Result<(), AllocError>
 }
 
 pub fn put_nodes(text: &mut String, nodes: &[NodeShown]) -> Result<(), AllocError>
-    ensures { OnOk result (string_bytes text.new ≡ string_bytes text.old ++ listing (codes "nodes") node_line nodes.now) }
+    ensures { Puts result text.old text.new (listing (codes "nodes") node_line nodes.now) }
 {
     put_heading(text, "nodes", nodes.len())?;
     for node in nodes {
@@ -50,7 +51,7 @@ pub fn put_nodes(text: &mut String, nodes: &[NodeShown]) -> Result<(), AllocErro
 }
 
 fn put_service(text: &mut String, service: &ServiceShown) -> Result<(), AllocError>
-    ensures { OnOk result (string_bytes text.new ≡ string_bytes text.old ++ service_line service.now) }
+    ensures { Puts result text.old text.new (service_line service.now) }
 {
     let id = service.id;
     let name = service.name.as_str();
@@ -63,7 +64,7 @@ fn put_service(text: &mut String, service: &ServiceShown) -> Result<(), AllocErr
 }
 
 pub fn put_services(text: &mut String, services: &[ServiceShown]) -> Result<(), AllocError>
-    ensures { OnOk result (string_bytes text.new ≡ string_bytes text.old ++ listing (codes "services") service_line services.now) }
+    ensures { Puts result text.old text.new (listing (codes "services") service_line services.now) }
 {
     put_heading(text, "services", services.len())?;
     for service in services {
@@ -73,7 +74,7 @@ pub fn put_services(text: &mut String, services: &[ServiceShown]) -> Result<(), 
 }
 
 fn put_network(text: &mut String, network: &NetworkShown) -> Result<(), AllocError>
-    ensures { OnOk result (string_bytes text.new ≡ string_bytes text.old ++ network_line network.now) }
+    ensures { Puts result text.old text.new (network_line network.now) }
 {
     let id = network.id;
     let name = network.name.as_str();
@@ -83,7 +84,7 @@ fn put_network(text: &mut String, network: &NetworkShown) -> Result<(), AllocErr
 }
 
 pub fn put_networks(text: &mut String, networks: &[NetworkShown]) -> Result<(), AllocError>
-    ensures { OnOk result (string_bytes text.new ≡ string_bytes text.old ++ listing (codes "networks") network_line networks.now) }
+    ensures { Puts result text.old text.new (listing (codes "networks") network_line networks.now) }
 {
     put_heading(text, "networks", networks.len())?;
     for network in networks {
@@ -94,7 +95,8 @@ pub fn put_networks(text: &mut String, networks: &[NetworkShown]) -> Result<(), 
 
 // The states and the note of a task, to the end of its line.
 fn put_states(alloc: Global, text: &mut String, task: &TaskShown) -> Result<(), AllocError>
-    ensures { OnOk result (string_bytes text.new ≡ string_bytes text.old ++ line (state_text task.now.state ∷ desired_word task.now.desired ∷ note_text task.now.note ∷ [])) }
+    ensures { Puts result text.old text.new
+        (line (state_text task.now.state ∷ desired_word task.now.desired ∷ note_text task.now.note ∷ [])) }
 {
     let state = task.state.as_str();
     let desired = desired_word(task.desired);
@@ -104,7 +106,7 @@ fn put_states(alloc: Global, text: &mut String, task: &TaskShown) -> Result<(), 
 }
 
 fn put_task(alloc: Global, text: &mut String, task: &TaskShown) -> Result<(), AllocError>
-    ensures { OnOk result (string_bytes text.new ≡ string_bytes text.old ++ task_line task.now) }
+    ensures { Puts result text.old text.new (task_line task.now) }
 {
     let id = task.id;
     write!(text, "task {id} ")?;
@@ -116,7 +118,7 @@ fn put_task(alloc: Global, text: &mut String, task: &TaskShown) -> Result<(), Al
 }
 
 pub fn put_tasks(alloc: Global, text: &mut String, tasks: &[TaskShown]) -> Result<(), AllocError>
-    ensures { OnOk result (string_bytes text.new ≡ string_bytes text.old ++ listing (codes "tasks") task_line tasks.now) }
+    ensures { Puts result text.old text.new (listing (codes "tasks") task_line tasks.now) }
 {
     put_heading(text, "tasks", tasks.len())?;
     for task in tasks {
@@ -126,7 +128,7 @@ pub fn put_tasks(alloc: Global, text: &mut String, tasks: &[TaskShown]) -> Resul
 }
 
 fn put_event(text: &mut String, event: &Event) -> Result<(), AllocError>
-    ensures { OnOk result (string_bytes text.new ≡ string_bytes text.old ++ event_line event.now) }
+    ensures { Puts result text.old text.new (event_line event.now) }
 {
     let entry = event.entry;
     let verb = verb_word(event.verb);
@@ -136,7 +138,7 @@ fn put_event(text: &mut String, event: &Event) -> Result<(), AllocError>
 }
 
 pub fn put_events(text: &mut String, events: &[Event]) -> Result<(), AllocError>
-    ensures { OnOk result (string_bytes text.new ≡ string_bytes text.old ++ listing (codes "events") event_line events.now) }
+    ensures { Puts result text.old text.new (listing (codes "events") event_line events.now) }
 {
     put_heading(text, "events", events.len())?;
     for event in events {
@@ -146,7 +148,7 @@ pub fn put_events(text: &mut String, events: &[Event]) -> Result<(), AllocError>
 }
 
 fn put_change(text: &mut String, change: &AssignChange) -> Result<(), AllocError>
-    ensures { OnOk result (string_bytes text.new ≡ string_bytes text.old ++ change_line change.now) }
+    ensures { Puts result text.old text.new (change_line change.now) }
 {
     match change {
         AssignChange::Update(assigned) => {
@@ -159,7 +161,7 @@ fn put_change(text: &mut String, change: &AssignChange) -> Result<(), AllocError
 }
 
 fn put_changes(text: &mut String, changes: &[AssignChange]) -> Result<(), AllocError>
-    ensures { OnOk result (string_bytes text.new ≡ string_bytes text.old ++ flat_map change_line changes.now) }
+    ensures { Puts result text.old text.new (flat_map change_line changes.now) }
 {
     for change in changes {
         put_change(text, change)?;
@@ -168,7 +170,7 @@ fn put_changes(text: &mut String, changes: &[AssignChange]) -> Result<(), AllocE
 }
 
 pub fn put_message(text: &mut String, message: &Option<Message>) -> Result<(), AllocError>
-    ensures { OnOk result (string_bytes text.new ≡ string_bytes text.old ++ message_text message.now) }
+    ensures { Puts result text.old text.new (message_text message.now) }
 {
     let Some(message) = message else {
         return text.push_str("message none\n");

@@ -1,5 +1,6 @@
 // The texts of notes.
-ghost use Rattle.std.specs.Prelude.{◌≡◌, ◌++◌, IfOk, OnOk, string_bytes};
+ghost use Rattle.std.specs.Prelude.{◌≡◌, IfOk};
+ghost use Rattle.swarm_objects.specs.Writers.{Puts};
 ghost use Rattle.swarm_print.specs.Notes.{nodes_text, filter_front, filter_back, filter_text, refusing, filters_text, unsuitable_text, closed_text, note_text};
 
 use crate::objects::put_shown;
@@ -9,7 +10,7 @@ use swarm_objects::Closed;
 use swarm_objects::views::NoteShown;
 
 fn put_nodes(text: &mut String, count: u64) -> Result<(), AllocError>
-    ensures { OnOk result (string_bytes text.new ≡ string_bytes text.old ++ nodes_text count) }
+    ensures { Puts result text.old text.new (nodes_text count) }
 {
     if count == 1 {
         text.push_str("1 node")
@@ -44,7 +45,7 @@ fn filter_back(filter: usize) -> &'static str
 // Puts the filter with this number, and the number of nodes that it refuses.
 #[tactic(auto, unfolding(crate::specs::Notes::filter_text))]
 fn put_filter(text: &mut String, refusing: &(usize, u64)) -> Result<(), AllocError>
-    ensures { OnOk result (string_bytes text.new ≡ string_bytes text.old ++ filter_text refusing.now) }
+    ensures { Puts result text.old text.new (filter_text refusing.now) }
 {
     let (filter, count) = *refusing;
     text.push_str(filter_front(filter))?;
@@ -66,7 +67,7 @@ fn refusing(alloc: Global, counts: &[u64; 6]) -> Result<Vec<(usize, u64)>, Alloc
 }
 
 fn put_filters(text: &mut String, filters: &[(usize, u64)]) -> Result<(), AllocError>
-    ensures { OnOk result (string_bytes text.new ≡ string_bytes text.old ++ filters_text filters.now) }
+    ensures { Puts result text.old text.new (filters_text filters.now) }
 {
     let Some((first, more)) = filters.split_first() else {
         return Ok(());
@@ -81,21 +82,21 @@ fn put_filters(text: &mut String, filters: &[(usize, u64)]) -> Result<(), AllocE
 }
 
 fn put_unsuitable(text: &mut String, filters: &[(usize, u64)]) -> Result<(), AllocError>
-    ensures { OnOk result (string_bytes text.new ≡ string_bytes text.old ++ unsuitable_text filters.now) }
+    ensures { Puts result text.old text.new (unsuitable_text filters.now) }
 {
     text.push_str("no suitable node")?;
     put_filters(text, filters)
 }
 
 fn put_refusing(alloc: Global, text: &mut String, counts: &[u64; 6]) -> Result<(), AllocError>
-    ensures { OnOk result (string_bytes text.new ≡ string_bytes text.old ++ unsuitable_text (refusing 0 counts.now)) }
+    ensures { Puts result text.old text.new (unsuitable_text (refusing 0 counts.now)) }
 {
     let filters = refusing(alloc, counts)?;
     put_unsuitable(text, filters.as_slice())
 }
 
 fn put_closed(text: &mut String, closed: Closed) -> Result<(), AllocError>
-    ensures { OnOk result (string_bytes text.new ≡ string_bytes text.old ++ closed_text closed) }
+    ensures { Puts result text.old text.new (closed_text closed) }
 {
     match closed {
         Closed::Condition => text.push_str("closed Condition"),
@@ -105,7 +106,7 @@ fn put_closed(text: &mut String, closed: Closed) -> Result<(), AllocError>
 }
 
 pub fn put_note(alloc: Global, text: &mut String, note: &NoteShown) -> Result<(), AllocError>
-    ensures { OnOk result (string_bytes text.new ≡ string_bytes text.old ++ note_text note.now) }
+    ensures { Puts result text.old text.new (note_text note.now) }
 {
     match note {
         NoteShown::Empty => text.push_str("-"),

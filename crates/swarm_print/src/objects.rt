@@ -1,5 +1,5 @@
 // The texts of objects, places and addresses.
-ghost use Rattle.std.specs.Prelude.{◌≡◌, ◌++◌, OnOk, string_bytes};
+ghost use Rattle.swarm_objects.specs.Writers.{Puts};
 ghost use Rattle.swarm_print.specs.Objects.{shown_text, place_text, service_place_text, node_text, address_text, subnet_text};
 
 use std::alloc::AllocError;
@@ -7,7 +7,7 @@ use std::fmt::Write;
 use swarm_objects::views::{PlaceShown, Shown};
 
 pub fn put_shown(text: &mut String, shown: &Shown) -> Result<(), AllocError>
-    ensures { OnOk result (string_bytes text.new ≡ string_bytes text.old ++ shown_text shown.now) }
+    ensures { Puts result text.old text.new (shown_text shown.now) }
 {
     match shown {
         Shown::Name(name) => text.push_str(name.as_str()),
@@ -16,7 +16,7 @@ pub fn put_shown(text: &mut String, shown: &Shown) -> Result<(), AllocError>
 }
 
 pub fn put_place(text: &mut String, place: &PlaceShown) -> Result<(), AllocError>
-    ensures { OnOk result (string_bytes text.new ≡ string_bytes text.old ++ place_text place.now) }
+    ensures { Puts result text.old text.new (place_text place.now) }
 {
     match place {
         PlaceShown::Slot(slot) => write!(text, "{slot}"),
@@ -29,7 +29,7 @@ pub fn put_service_place(
     service: &Shown,
     place: &PlaceShown,
 ) -> Result<(), AllocError>
-    ensures { OnOk result (string_bytes text.new ≡ string_bytes text.old ++ service_place_text service.now place.now) }
+    ensures { Puts result text.old text.new (service_place_text service.now place.now) }
 {
     put_shown(text, service)?;
     text.push_str(".")?;
@@ -37,7 +37,7 @@ pub fn put_service_place(
 }
 
 pub fn put_node_of(text: &mut String, node: &Option<Shown>) -> Result<(), AllocError>
-    ensures { OnOk result (string_bytes text.new ≡ string_bytes text.old ++ node_text node.now) }
+    ensures { Puts result text.old text.new (node_text node.now) }
 {
     match node {
         Some(node) => put_shown(text, node),
@@ -46,7 +46,7 @@ pub fn put_node_of(text: &mut String, node: &Option<Shown>) -> Result<(), AllocE
 }
 
 pub fn put_address(text: &mut String, address: u32) -> Result<(), AllocError>
-    ensures { OnOk result (string_bytes text.new ≡ string_bytes text.old ++ address_text address) }
+    ensures { Puts result text.old text.new (address_text address) }
 {
     let [first, second, third, fourth] = address.to_be_bytes();
     write!(text, "{first}.{second}.{third}.{fourth}")
@@ -54,7 +54,7 @@ pub fn put_address(text: &mut String, address: u32) -> Result<(), AllocError>
 
 #[tactic(auto, unfolding(crate::specs::Objects::subnet_text))]
 pub fn put_subnet(text: &mut String, base: u32, length: u8) -> Result<(), AllocError>
-    ensures { OnOk result (string_bytes text.new ≡ string_bytes text.old ++ subnet_text base length) }
+    ensures { Puts result text.old text.new (subnet_text base length) }
 {
     put_address(text, base)?;
     write!(text, "/{length}")

@@ -1,8 +1,9 @@
 // The texts of refusals.
-ghost use Rattle.std.specs.Prelude.{◌≡◌, [], ◌∷◌, ◌++◌, codes, decimal, OnOk, string_bytes};
+ghost use Rattle.std.specs.Prelude.{[], ◌∷◌, codes, decimal};
 ghost use Rattle.swarm_print.specs.Lines.{line};
 ghost use Rattle.swarm_print.specs.Refusals.{wanted_text, session_text, refusal_words};
 ghost use Rattle.swarm_objects.specs.Values.Texts.{kind_text};
+ghost use Rattle.swarm_objects.specs.Writers.{Puts};
 
 use crate::words::{rule_word, state_word};
 use std::alloc::AllocError;
@@ -10,7 +11,7 @@ use std::fmt::Write;
 use swarm_objects::{Id, Kind, Refusal, Wanted};
 
 fn put_wanted(text: &mut String, wanted: &Wanted) -> Result<(), AllocError>
-    ensures { OnOk result (string_bytes text.new ≡ string_bytes text.old ++ wanted_text wanted.now) }
+    ensures { Puts result text.old text.new (wanted_text wanted.now) }
 {
     match wanted {
         Wanted::Name(name) => text.push_str(name.as_str()),
@@ -19,7 +20,8 @@ fn put_wanted(text: &mut String, wanted: &Wanted) -> Result<(), AllocError>
 }
 
 fn put_not_found(text: &mut String, kind: Kind, wanted: &Wanted) -> Result<(), AllocError>
-    ensures { OnOk result (string_bytes text.new ≡ string_bytes text.old ++ line (codes "1" ∷ codes "NotFound" ∷ kind_text kind ∷ wanted_text wanted.now ∷ [])) }
+    ensures { Puts result text.old text.new
+        (line (codes "1" ∷ codes "NotFound" ∷ kind_text kind ∷ wanted_text wanted.now ∷ [])) }
 {
     let kind = kind.as_str();
     write!(text, "1 NotFound {kind} ")?;
@@ -29,19 +31,19 @@ fn put_not_found(text: &mut String, kind: Kind, wanted: &Wanted) -> Result<(), A
 
 // A refusal with these words before its value.
 fn put_number(text: &mut String, words: &str, number: u64) -> Result<(), AllocError>
-    ensures { OnOk result (string_bytes text.new ≡ string_bytes text.old ++ line (words.now ∷ decimal number ∷ [])) }
+    ensures { Puts result text.old text.new (line (words.now ∷ decimal number ∷ [])) }
 {
     write!(text, "{words} {number}\n")
 }
 
 fn put_word(text: &mut String, words: &str, word: &str) -> Result<(), AllocError>
-    ensures { OnOk result (string_bytes text.new ≡ string_bytes text.old ++ line (words.now ∷ word.now ∷ [])) }
+    ensures { Puts result text.old text.new (line (words.now ∷ word.now ∷ [])) }
 {
     write!(text, "{words} {word}\n")
 }
 
 fn put_session(text: &mut String, words: &str, session: Option<Id>) -> Result<(), AllocError>
-    ensures { OnOk result (string_bytes text.new ≡ string_bytes text.old ++ line (words.now ∷ session_text session ∷ [])) }
+    ensures { Puts result text.old text.new (line (words.now ∷ session_text session ∷ [])) }
 {
     match session {
         Some(id) => put_number(text, words, id),
@@ -50,7 +52,7 @@ fn put_session(text: &mut String, words: &str, session: Option<Id>) -> Result<()
 }
 
 pub fn put_refusal(text: &mut String, refusal: &Refusal) -> Result<(), AllocError>
-    ensures { OnOk result (string_bytes text.new ≡ string_bytes text.old ++ line (refusal_words refusal.now)) }
+    ensures { Puts result text.old text.new (line (refusal_words refusal.now)) }
 {
     match refusal {
         Refusal::NotFound(kind, wanted) => put_not_found(text, *kind, wanted),

@@ -1,8 +1,9 @@
 // The texts of replies.
-ghost use Rattle.std.specs.Prelude.{◌≡◌, [], ◌∷◌, ◌++◌, codes, decimal, flat_map, IfOk, OnOk, string_bytes};
+ghost use Rattle.std.specs.Prelude.{◌≡◌, [], ◌∷◌, ◌++◌, codes, flat_map, IfOk};
 ghost use Rattle.swarm_print.specs.Lines.{line};
 ghost use Rattle.swarm_print.specs.Texts.{id_text, view_text, settle_words, reply_text};
 ghost use Rattle.swarm_objects.specs.Values.Texts.{state_text};
+ghost use Rattle.swarm_objects.specs.Writers.{Puts};
 ghost use Rattle.swarm_print.specs.Words.{report_word};
 
 use crate::details::{put_network_detail, put_node_detail, put_service_detail, put_task_detail};
@@ -14,7 +15,7 @@ use std::fmt::Write;
 use swarm_objects::{Id, List, NoMemory, Reply, Settle, TaskState, ViewReply, put_duty};
 
 fn put_done(text: &mut String, ids: &[Id]) -> Result<(), AllocError>
-    ensures { OnOk result (string_bytes text.new ≡ string_bytes text.old ++ codes "ok" ++ flat_map id_text ids.now ++ codes "\n") }
+    ensures { Puts result text.old text.new (codes "ok" ++ flat_map id_text ids.now ++ codes "\n") }
 {
     text.push_str("ok")?;
     for id in ids {
@@ -24,7 +25,7 @@ fn put_done(text: &mut String, ids: &[Id]) -> Result<(), AllocError>
 }
 
 fn put_report(text: &mut String, raised: bool, state: TaskState) -> Result<(), AllocError>
-    ensures { OnOk result (string_bytes text.new ≡ string_bytes text.old ++ line (report_word raised ∷ state_text state ∷ [])) }
+    ensures { Puts result text.old text.new (line (report_word raised ∷ state_text state ∷ [])) }
 {
     let report = report_word(raised);
     let state = state.as_str();
@@ -32,7 +33,7 @@ fn put_report(text: &mut String, raised: bool, state: TaskState) -> Result<(), A
 }
 
 fn put_settle(text: &mut String, budget: u64, settle: Settle) -> Result<(), AllocError>
-    ensures { OnOk result (string_bytes text.new ≡ string_bytes text.old ++ line (settle_words budget settle)) }
+    ensures { Puts result text.old text.new (line (settle_words budget settle)) }
 {
     match settle {
         Settle::Busy(duty) => {
@@ -51,7 +52,7 @@ fn put_settle(text: &mut String, budget: u64, settle: Settle) -> Result<(), Allo
 }
 
 fn put_view(alloc: Global, text: &mut String, view: &ViewReply) -> Result<(), AllocError>
-    ensures { OnOk result (string_bytes text.new ≡ string_bytes text.old ++ view_text view.now) }
+    ensures { Puts result text.old text.new (view_text view.now) }
 {
     match view {
         ViewReply::Nodes(rows) => put_nodes(text, rows.as_slice()),
@@ -67,7 +68,7 @@ fn put_view(alloc: Global, text: &mut String, view: &ViewReply) -> Result<(), Al
 }
 
 fn put_reply(alloc: Global, text: &mut String, reply: &Reply) -> Result<(), AllocError>
-    ensures { OnOk result (string_bytes text.new ≡ string_bytes text.old ++ reply_text reply.now) }
+    ensures { Puts result text.old text.new (reply_text reply.now) }
 {
     match reply {
         Reply::Txn(ids) => put_done(text, ids.as_slice()),

@@ -12,8 +12,24 @@ mod lines;
 #[cfg(test)]
 mod most;
 #[cfg(test)]
+mod networks;
+#[cfg(test)]
+mod nodes;
+#[cfg(test)]
+mod remote;
+#[cfg(test)]
+mod replays;
+#[cfg(test)]
 mod replies;
+#[cfg(test)]
+mod restarts;
 #[cfg(test)]
 mod runs;
 #[cfg(test)]
+mod services;
+#[cfg(test)]
 mod settling;
+#[cfg(test)]
+mod updates;
+#[cfg(test)]
+mod watches;

@@ -90,3 +90,36 @@ fn one_service_too_many(rt: HostRuntime) -> Result<(), Fail> {
     assert!(rt; ends(&rt, script.as_slice(), 1, last, 1_003)?);
     Ok(())
 }
+
+// The words, so many times.
+fn repeated(alloc: Global, words: &[u8], times: u32) -> Result<Vec<u8>, Fail> {
+    let mut script = Vec::new(alloc);
+    for _ in 0..times {
+        script.extend_from_slice(words)?;
+    }
+    Ok(script)
+}
+
+#[test]
+fn one_item_too_many(rt: HostRuntime) -> Result<(), Fail> {
+    let mut script = b"service create web".to_vec(rt.alloc())?;
+    script.extend_from_slice(repeated(rt.alloc(), b" platform=linux/arm64", 33)?.as_slice())?;
+    assert!(rt;
+        puts(
+            &rt,
+            script.as_slice(),
+            &SOUND,
+            1,
+            b"refused 4 BadSpec count\n"
+        )?
+    );
+    Ok(())
+}
+
+#[test]
+fn one_entry_too_many(rt: HostRuntime) -> Result<(), Fail> {
+    // head, 300,000 entries and Halt
+    let script = repeated(rt.alloc(), b"list nodes\n", 300_001)?;
+    assert!(rt; ends(&rt, script.as_slice(), 7, b"nodes 0\n", 300_002)?);
+    Ok(())
+}

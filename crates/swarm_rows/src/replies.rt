@@ -71,32 +71,12 @@ fn lines_outside_the_grammar(rt: HostRuntime) -> Result<(), Fail> {
 }
 
 #[test]
-fn lines_that_are_put_off(rt: HostRuntime) -> Result<(), Fail> {
-    let script = b"node join n1\nclock\nnode join n2\n";
-    assert!(rt;
-        leaves(
-            &rt,
-            script,
-            &SOUND,
-            6,
-            b"ok 1\nbad line 2 Later\n",
-            ONE_NODE
-        )?
-    );
-
-    // a field that has its default says nothing
-    let script = b"node join n1 cpu=4000\nnode join n2 cpu=3999\n";
-    assert!(rt;
-        leaves(
-            &rt,
-            script,
-            &SOUND,
-            6,
-            b"ok 1\nbad line 2 Later\n",
-            ONE_NODE
-        )?
-    );
-
-    assert!(rt; puts(&rt, b"wait 1\n", &SOUND, 6, b"bad line 1 Later\n")?);
+fn bad_line_ends_the_run(rt: HostRuntime) -> Result<(), Fail> {
+    let script =
+        b"node join n1\nservice create web replicas=0\nservice remove web\ntick 0\nclock\nservice creat";
+    let out = b"ok 1\nok 2\nok 2\nrefused 11 BadTick 0\nnow 0\nbad line 6 Word 2\n";
+    let journal =
+        b"swarm journal 1\n0 node join n1\n0 service create web replicas=0\n0 service remove web\n0 tick 0\n0 clock\n0 halt\n";
+    assert!(rt; leaves(&rt, script, &SOUND, 6, out, journal)?);
     Ok(())
 }

@@ -13,9 +13,9 @@ fn no_replicas_settle(rt: HostRuntime) -> Result<(), Fail> {
 fn replicas_are_placed(rt: HostRuntime) -> Result<(), Fail> {
     let script = b"node join n1\nservice create web replicas=2\nsettle\nlist tasks\n";
     let out =
-        b"ok 1\nok 2\nsettled\ntasks 2\ntask 3 web.1 n1 ASSIGNED RUNNING -\ntask 4 web.2 n1 ASSIGNED RUNNING -\n";
+        b"ok 1\nok 2\nwaiting 1 executor 3\ntasks 2\ntask 3 web.1 n1 PREPARING RUNNING -\ntask 4 web.2 n1 PREPARING RUNNING -\n";
     let journal =
-        b"swarm journal 1\n0 node join n1\n0 service create web replicas=2\n0 duty replicated create 2 1\n0 duty replicated create 2 2\n0 duty allocator address 3\n0 duty allocator address 4\n0 duty scheduler explain 3\n0 duty scheduler explain 4\n0 duty agents register 1\n0 duty scheduler place 3 1\n0 duty scheduler place 4 1\n0 settle\n0 list tasks\n0 halt\n";
+        b"swarm journal 1\n0 node join n1\n0 service create web replicas=2\n0 duty replicated create 2 1\n0 duty replicated create 2 2\n0 duty allocator address 3\n0 duty allocator address 4\n0 duty scheduler explain 3\n0 duty scheduler explain 4\n0 duty agents register 1\n0 duty scheduler place 3 1\n0 duty scheduler place 4 1\n0 duty agents pull 1\n0 duty agents apply 1\n0 duty agents exec 1 3\n0 duty agents exec 1 4\n0 duty agents report 1 3\n0 duty agents report 1 4\n0 settle\n0 list tasks\n0 halt\n";
     assert!(rt; leaves(&rt, script, &SOUND, 0, out, journal)?);
     Ok(())
 }
@@ -57,5 +57,30 @@ fn tasks_of_the_service_go_before_all_tasks(rt: HostRuntime) -> Result<(), Fail>
             .as_slice()
             .ends_with(b"ok 9\nunsettled 5 scheduler place 11 1\n")
     );
+    Ok(())
+}
+
+#[test]
+fn waits_of_the_clock(rt: HostRuntime) -> Result<(), Fail> {
+    let script =
+        b"node join n1\nservice create web\nclock\nsettle\ntick 1\nclock\nsettle\ntick 2\nwait 2\nclock\nsettle\n";
+    let out =
+        b"ok 1\nok 2\nnow 0\nwaiting 1 executor 3\nnow 1\nwaiting 2 executor 3\nnow 5\nsettled\n";
+    assert!(rt; puts(&rt, script, &SOUND, 0, out)?);
+    Ok(())
+}
+
+#[test]
+fn what_is_waited_for(rt: HostRuntime) -> Result<(), Fail> {
+    // a task that is started anew, after a delay
+    let script = b"node join n1\nservice create web exit=10:1\nwait 20\nsettle\n";
+    let out = b"ok 1\nok 2\nwaiting 5012 start 5\n";
+    assert!(rt; puts(&rt, script, &SOUND, 0, out)?);
+
+    // an update that watches its new tasks
+    let script =
+        b"node join n1\nservice create web\nwait 10\nservice update web start=2 monitor=50\nwait 8\nsettle\n";
+    let out = b"ok 1\nok 2\nok 2\nwaiting 60 update 2\n";
+    assert!(rt; puts(&rt, script, &SOUND, 0, out)?);
     Ok(())
 }

@@ -20,7 +20,8 @@ const COUNT: usize = 2;
 
 const VALUE: usize = 0;
 
-/// One value, which callers with a pass use in turns. Each turn begins with the value that the last one left, so all callers see one history.
+/// One value, which callers with a pass use in turns. Each turn begins with the value that the last one left, so all
+/// callers see one history.
 #[derive(Drop)]
 pub struct TurnCell<V: Counted> {
     table: Table<Option<V>, View<V::Item>, u64, ByTurns<V>, Global>,
@@ -33,7 +34,8 @@ impl<V: Counted + Drop> TurnCell<V> {
     ghost use Rattle.turn_cell.specs.Turn.{maker_view};
     ghost use Rattle.turn_cell.specs.Passes.{cell_seats, IsNew};
 
-    /// A cell with this value, and the passes of the callers 0 to seats - 1, in order. For want of memory the value is dropped.
+    /// A cell with this value, and the passes of the callers 0 to seats - 1, in order. For want of memory the value
+    /// is dropped.
     pub fn new(
         alloc: Global,
         value: V,

@@ -1,8 +1,8 @@
 -- A further entry of a history, the number of entries, and what ends it.
-use Rattle.std.proofs.Common.{◌≡◌, ℕ, ◌+◌, ◌<◌, List, [], ◌∷◌, ◌++◌, Bool, true, false, not, refl, Ok, Err, ap, nat_lt, nat_le, length, cond, ◌∙◌, arith}
+use Rattle.std.proofs.Common.{◌≡◌, ℕ, ◌+◌, ◌<◌, List, [], ◌∷◌, ◌++◌, Bool, true, false, not, refl, Ok, Err, ap, nat_lt, nat_le, length, cond, ◌∙◌, arith, Option, Some, None}
 use Rattle.std.specs.Prelude.{◌&&◌}
 use Rattle.std.proofs.lemmas.Bool.Decides.{nat_tests}
-use Rattle.swarm_model.specs.Calls.{answer, answered, call_outcome, is_admitted, is_full, outcome}
+use Rattle.swarm_model.specs.Calls.{answer, answered, call_outcome, is_admitted, is_full, outcome, refusal_of, unless_refused}
 use Rattle.swarm_model.specs.History.{IsLegalFrom, has_room_for_duty, may_follow, replay, replay_from, replies_from, step, step_reply, step_world}
 use Rattle.swarm_model.specs.Outcome.{Answered}
 use Rattle.swarm_objects.specs.CallWords.{is_halt}
@@ -14,6 +14,7 @@ use Rattle.swarm_objects.specs.declared.calls.Entry.{Entry}
 use Rattle.swarm_objects.specs.declared.calls.What.{What}
 use Rattle.swarm_objects.specs.declared.calls.What.TheVariants as what
 use Rattle.swarm_objects.specs.declared.duties.Duty.{Duty}
+use Rattle.swarm_objects.specs.declared.replies.Refusal.{Refusal}
 
 -- A further entry.
 
@@ -126,12 +127,25 @@ admitted w c running few =
 pub admitted-Halt : (w : World) → w.halted ≡ false → is_admitted w call.Halt ≡ true
 admitted-Halt w running = ap (λ (b : Bool). not b && true) running
 
-admitted_by : {X : Type 0} (x y z : X) (halted full : Bool) → (not halted && not full) ≡ true →
-    cond halted x (cond full y z) ≡ z
-admitted_by x y z true full e = absurd cc
-admitted_by x y z false true e = absurd cc
-admitted_by x y z false false e = refl
+refused_not : (x y : Refusal) (halted full : Bool) → (not halted && not full) ≡ true →
+    ◌≡◌ {A = Option Refusal} (cond halted (Some x) (cond full (Some y) None)) None
+refused_not x y true full e = absurd cc
+refused_not x y false true e = absurd cc
+refused_not x y false false e = refl
+
+pub refusal-admitted : (w : World) (c : Call) → is_admitted w c ≡ true → refusal_of w c ≡ None
+refusal-admitted w c e = refused_not _ _ w.halted (is_full w c) e
 
 -- a call that is admitted is answered as an entry
 pub outcome-admitted : (w : World) (c : Call) → is_admitted w c ≡ true → outcome w c ≡ call_outcome w c
-outcome-admitted w c e = admitted_by _ _ _ w.halted (is_full w c) e
+outcome-admitted w c e = ap (λ r. unless_refused r w (call_outcome w c)) (refusal-admitted w c e)
+
+admitted_so : (x y : Refusal) (halted full : Bool) →
+    ◌≡◌ {A = Option Refusal} (cond halted (Some x) (cond full (Some y) None)) None → (not halted && not full) ≡ true
+admitted_so x y true full e = absurd cc
+admitted_so x y false true e = absurd cc
+admitted_so x y false false e = refl
+
+-- a call that nothing refuses becomes an entry
+pub admitted-unrefused : (w : World) (c : Call) → refusal_of w c ≡ None → is_admitted w c ≡ true
+admitted-unrefused w c e = admitted_so _ _ w.halted (is_full w c) e

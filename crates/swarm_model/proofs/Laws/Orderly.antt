@@ -15,7 +15,7 @@ use Rattle.swarm_objects.specs.declared.calls.What.{What}
 use Rattle.swarm_objects.specs.declared.calls.What.TheVariants as what
 
 pub step-moves : (w : World) (e : What) → IsOrderly w → may_follow w e ≡ true → Moves w (step w e).after
-step-moves w (what.Call c) is may = call-moves w c
+step-moves w (what.Call c) is may = call-moves w c is
 step-moves w (what.Duty d) is may = effect-moves w d is (IsDuty-due w d (room_duty w d may).2)
 
 pub orderly-step : (w : World) (e : What) → IsOrderly w → may_follow w e ≡ true → IsOrderly (step w e).after
@@ -28,7 +28,10 @@ orderly-empty = record {
   services = tt;
   tasks = tt;
   networks = tt;
+  sessions = tt;
   watchers = tt;
+  sent = tt;
+  agents = tt;
   good = λ x h. absurd h;
   subnets = λ n h. absurd h;
 }

@@ -14,7 +14,7 @@ has-index [] k d less = absurd (omega (arith, less))
 has-index (x ∷ xs) zero d less = inl refl
 has-index (x ∷ xs) (suc k) d less = inr (has-index xs k d (omega (arith, less)))
 
-all-has : {X : Type 0} (P : X → Type 0) (xs : List X) → ((x : X) → Has xs x → P x) → All P xs
+pub all-has : {X : Type 0} (P : X → Type 0) (xs : List X) → ((x : X) → Has xs x → P x) → All P xs
 all-has P xs each = λ k d less. each (slice_index_or xs k d) (has-index xs k d less)
 
 come-above : {X : Type 0} (key : X → ℕ) (R : X → X → Type 0) (Asked : X → Type 0) (next high : ℕ) (old new : List X) →

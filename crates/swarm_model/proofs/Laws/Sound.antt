@@ -66,9 +66,9 @@ all-pass test (x ∷ xs) each = both (test x) (each x (inl refl)) (all-pass test
     both true e rest = rest
     both false e rest = absurd cc
 
--- an orderly world whose sessions rise by node is sound
-pub sound-by : (w : World) → IsOrderly w → RisesFrom session_node 0 w.tables.sessions → IsSound w.tables
-sound-by w is sessions =
+-- an orderly world is sound
+pub sound : (w : World) → IsOrderly w → IsSound w.tables
+sound w is =
     let rows = rows-rise w is in
     record {
       ordered = record {
@@ -76,7 +76,7 @@ sound-by w is sessions =
         services = rows.services;
         tasks = rows.tasks;
         networks = rows.networks;
-        sessions = sessions;
+        sessions = rises-between session_node 0 1 w.tables.next_id w.tables.sessions (omega arith) is.sessions;
       };
       below = rows-below w is;
       subnets = all-pass is_subnet w.tables.networks is.subnets;

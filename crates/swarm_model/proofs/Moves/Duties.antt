@@ -3,7 +3,7 @@ use Rattle.std.proofs.Common.{◌≡◌, ℕ, ◌≤◌, Bool, true, false, cond
 use Rattle.std.specs.Prelude.{◌&&◌, nat_le}
 use Rattle.std.proofs.lemmas.Bool.Decides.{nat_tests}
 use Rattle.swarm_model.proofs.Base.IsDuty.{OfRow}
-use Rattle.swarm_model.proofs.Moves.Rows.{RisesBetween, between-one}
+use Rattle.swarm_model.proofs.Moves.Rows.{RisesBetween, between-one, rows-stay}
 use Rattle.swarm_model.proofs.Moves.Tables.{desired-least, good-new, move-add, move-any_task, move-new, move-on_service, move-service, move-task, move-where, moves-by, moves-in_state, moves-wanted}
 use Rattle.swarm_model.proofs.Moves.Worlds.{networks-stay, IsGood, TablesMove, TaskMoves, sessions-same, tables-same, tables-then, turns-ids}
 use Rattle.swarm_objects.proofs.RowLemmas.{Has-from_row_at}
@@ -13,7 +13,7 @@ use Rattle.swarm_objects.specs.Loops.Enforcer.{is_misplaced}
 use Rattle.swarm_objects.specs.Loops.Restart.{after_restart, by_policy, closed_by, next_task, raised, restarted, shut, wants_raise, wants_restart, with_attempt}
 use Rattle.swarm_objects.specs.Loops.Scheduler.{is_to_drop}
 use Rattle.swarm_objects.specs.Loops.Update.{by_order, fail_run, item_of, live_of_place, paused, replace_place, replaced_in, swap_place}
-use Rattle.swarm_objects.specs.Rows.{Has, on_row, row_at, task_id}
+use Rattle.swarm_objects.specs.Rows.{Has, on_row, row_at, session_node, task_id}
 use Rattle.swarm_objects.specs.Services.Words.{is_live_dirty}
 use Rattle.swarm_objects.specs.Tasks.Places.{has_other, is_in_place, newest, place_at, tasks_of_place}
 use Rattle.swarm_objects.specs.Tasks.Policy.{no_restart}
@@ -45,7 +45,7 @@ and-right false b e = absurd cc
 pub placed-most : (x : Task) → is_placed x ≡ true → rank x.state ≤ rank state.Running
 placed-most x is = grind (arith, nat_tests, and-right (nat_le (rank state.Assigned) (rank x.state)) (nat_le (rank x.state) (rank state.Running)) is)
 
-live-most : (x : Task) → IsGood x → is_live x ≡ true → desired_rank x.desired ≤ desired_rank desired.Shutdown
+pub live-most : (x : Task) → IsGood x → is_live x ≡ true → desired_rank x.desired ≤ desired_rank desired.Shutdown
 live-most x good is =
     let low : desired_rank x.desired ≤ desired_rank x.goal = grind (arith, nat_tests, is) in
     omega (arith, low, good.goal)
@@ -62,7 +62,7 @@ noted-moves version n x = moves-by x (noted version n x) refl refl refl (omega a
 shut-moves : (version : ℕ) (x : Task) → IsGood x → is_live x ≡ true → TaskMoves x (wanted version desired.Shutdown x)
 shut-moves version x good is = moves-wanted version desired.Shutdown x (live-most x good is)
 
-closed-moves : (version : ℕ) (cause : Closed) (x : Task) → TaskMoves x (closed_by version cause x)
+pub closed-moves : (version : ℕ) (cause : Closed) (x : Task) → TaskMoves x (closed_by version cause x)
 closed-moves version cause x = moves-by x (closed_by version cause x) refl refl refl (omega arith) (omega arith)
 
 -- Tables of an orderly world.
@@ -75,7 +75,7 @@ AreGood t = (x : Task) → Has t.tasks x → IsGood x
 
 -- Restart.
 
-attempt-moves : (t : Tables) (s : Service) (p : Place) → TablesMove t (with_attempt t s p)
+pub attempt-moves : (t : Tables) (s : Service) (p : Place) → TablesMove t (with_attempt t s p)
 attempt-moves t s p = record {
   next = omega arith;
   nodes = turns-ids t.nodes;
@@ -83,9 +83,10 @@ attempt-moves t s p = record {
   tasks = (tables-same t).tasks;
   networks = networks-stay t.networks;
   sessions = sessions-same t.sessions t.next_id t.next_id;
+  opens = rows-stay session_node t.next_id t.next_id t.sessions (omega arith);
 }
 
-good-next : (version : ℕ) (t : Tables) (s : Service) (p : Place) → IsGood (next_task version t s p)
+pub good-next : (version : ℕ) (t : Tables) (s : Service) (p : Place) → IsGood (next_task version t s p)
 good-next version t s p =
     let good = good-new version t s p desired.Ready in record { goal = good.goal; bound = good.bound }
 
@@ -100,7 +101,7 @@ policy-moves version t s p (Some cause) = go (newest (tasks_of_place s p t.tasks
     go None = tables-same t
     go (Some y) = move-any_task t y.id (closed_by version cause) (λ x h. closed-moves version cause x)
 
-shut-task : (version : ℕ) (t : Tables) (x : Task) → InOrder t → Has t.tasks x → IsGood x → is_live x ≡ true →
+pub shut-task : (version : ℕ) (t : Tables) (x : Task) → InOrder t → Has t.tasks x → IsGood x → is_live x ≡ true →
     TablesMove t (shut version x.id t)
 shut-task version t x rises there good live =
     move-task t x (wanted version desired.Shutdown) rises there (shut-moves version x good live)
@@ -117,7 +118,7 @@ restarted-moves version t x s rises there good live = go (has_other t s x)
         (policy-moves version (shut version x.id t) s x.place (no_restart t s x))
 
 -- the row that is found is the one that the duty is of
-found-is : (t : Tables) (id : ℕ) (Fact : Task → Type 0) → InOrder t → OfRow t.tasks task_id id Fact → (x : Task) →
+pub found-is : (t : Tables) (id : ℕ) (Fact : Task → Type 0) → InOrder t → OfRow t.tasks task_id id Fact → (x : Task) →
     row_at task_id id t.tasks ≡ Some x → Has t.tasks x × (x.id ≡ id) × Fact x
 found-is t id Fact rises of x e =
     let at = Has-from_row_at task_id id t.tasks x e in
@@ -175,7 +176,7 @@ swap-moves version t k s good =
     move-where t (λ x. is_in_place s (place_at s.spec.mode k) x && is_live_dirty s x) (wanted version desired.Shutdown)
     (λ x h e. shut-moves version x (good x h) (and-left (is_live x) _ (and-right _ (is_live_dirty s x) e)))
 
-order-moves : (version : ℕ) (t : Tables) (s : Service) (k : ℕ) (o : UpdateOrder) → AreGood t →
+pub order-moves : (version : ℕ) (t : Tables) (s : Service) (k : ℕ) (o : UpdateOrder) → AreGood t →
     TablesMove t (by_order version t s k o)
 order-moves version t s k order.StopFirst good =
     let stopped = change_where (live_of_place s k) (wanted version desired.Shutdown) t in

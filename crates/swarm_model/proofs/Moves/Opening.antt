@@ -1,9 +1,9 @@
 -- A remote node's session opens with what resources are left: tasks that no longer fit are rejected.
-use Rattle.std.proofs.Common.{◌≡◌, ℕ, Bool, true, false, cond, inr, List, [], ◌∷◌, ◌++◌, refl, sym, ap, ◌∙◌, subst, arith, append-nil}
+use Rattle.std.proofs.Common.{◌≡◌, ℕ, ◌<◌, ◌≤◌, Bool, true, false, cond, inr, List, [], ◌∷◌, ◌++◌, refl, sym, ap, ◌∙◌, subst, arith, append-nil}
 use Rattle.std.specs.Prelude.{fold}
 use Rattle.swarm_model.proofs.Moves.Duties.{and-left, placed-most}
 use Rattle.swarm_model.proofs.Moves.Rows.{Becomes, becomes-change_any}
-use Rattle.swarm_model.proofs.Moves.Sessions.{opened}
+use Rattle.swarm_model.proofs.Moves.Sessions.{opened, opened-rises}
 use Rattle.swarm_model.proofs.Moves.Tables.{moves-in_state}
 use Rattle.swarm_model.proofs.Moves.Worlds.{networks-stay, SameId, TablesMove, TaskMoves, task-same, turns-by, turns-ids}
 use Rattle.swarm_model.specs.Calls.Remote.{Kept, begun_tables, fits_in, keep_or_reject, keep_other, keep_task, tasks_within, with_resources}
@@ -69,8 +69,9 @@ within-becomes version clock node cpu mem xs =
     let all = all-added version clock node xs (record { cpu = cpu; mem = mem; tasks = [] }) in
     subst (λ z. Becomes TaskMoves [] xs z) (sym all.tasks) all.rows
 
-pub opening-moves : (version : ℕ) (t : Tables) (node cpu mem : ℕ) → TablesMove t (begun_tables version t node cpu mem)
-opening-moves version t node cpu mem = record {
+pub opening-moves : (version : ℕ) (t : Tables) (node cpu mem : ℕ) → (1 ≤ node) × (node < t.next_id) →
+    TablesMove t (begun_tables version t node cpu mem)
+opening-moves version t node cpu mem is = record {
   next = omega arith;
   nodes =
       turns-by (becomes-change_any (SameId node_id) node_id node (with_resources version cpu mem) t.nodes (λ n. refl)
@@ -79,4 +80,5 @@ opening-moves version t node cpu mem = record {
   tasks = turns-by (within-becomes version t.clock node cpu mem t.tasks);
   networks = networks-stay t.networks;
   sessions = opened t node;
+  opens = opened-rises t node is;
 }

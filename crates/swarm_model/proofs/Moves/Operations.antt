@@ -1,19 +1,19 @@
 -- Every operation is a move.
-use Rattle.std.proofs.Common.{◌∷◌, ◌≡◌, ℕ, ◌+◌, true, inl, List, [], refl, sym, arith, Option, Some, None, Ok, Err}
-use Rattle.std.specs.Prelude.{find, is_none, not, ◌==◌}
+use Rattle.std.proofs.Common.{Bool, Err, List, None, Ok, Option, Some, [], arith, inl, refl, sym, true, ℕ, ◌+◌, ◌∷◌, ◌≡◌, ◌≤◌}
+use Rattle.std.specs.Prelude.{false, find, is_none, not, ◌==◌}
 use Rattle.swarm_model.proofs.Base.Answers.{none_of, OnDone, OnGiven, given-found, given-unless, given-unless_some, ops-keep}
-use Rattle.swarm_model.proofs.Moves.EachDuty.{tables-moves}
-use Rattle.swarm_model.proofs.Moves.Rows.{Becomes, becomes-filter, becomes-same}
+use Rattle.swarm_model.proofs.Moves.EachDuty.{beside-moves, tables-moves}
+use Rattle.swarm_model.proofs.Moves.Rows.{Becomes, RisesBetween, becomes-filter, becomes-same, between-filter, between-push, rows-stay}
 use Rattle.swarm_model.proofs.Moves.Tables.{move-node_at, move-service, move-where, moves-in_state, rank-most}
-use Rattle.swarm_model.proofs.Moves.Worlds.{IsSubnet, Stays, networks-stay, Any, ComesFrom, Moves, SameId, TablesMove, TaskMoves, moves-then, sessions-same, tables-same, tables-then, task-same, turns-by, turns-ids, turns-more}
+use Rattle.swarm_model.proofs.Moves.Worlds.{Any, ComesFrom, IsOrderly, IsSubnet, Moves, SameId, Stays, TablesMove, TaskMoves, moves-then, networks-stay, orderly-moves, sessions-same, tables-same, tables-then, task-same, turns-by, turns-ids, turns-more}
 use Rattle.swarm_model.specs.Calls.Networks.{new_network, remove_network, with_network}
-use Rattle.swarm_model.specs.Calls.Nodes.{is_left_behind, new_node, remove_node, respecified_node, tables_without_node, update_node, with_node, without_node}
+use Rattle.swarm_model.specs.Calls.Nodes.{is_left_behind, new_agent, new_node, remove_node, respecified_node, tables_without_node, update_node, with_agent_if, with_node, without_node}
 use Rattle.swarm_model.specs.Calls.Operations.{apply_op, apply_ops}
 use Rattle.swarm_model.specs.Calls.Refusals.{bad_spec, first_refusal, Done, conflict, network_by, node_by, service_by}
 use Rattle.swarm_model.specs.Calls.Services.{go_back, new_service, put_service, remove_service, respecified, rollback_service, update_service, with_service, without_service}
 use Rattle.swarm_objects.proofs.RowLemmas.{Has-filter_cases}
 use Rattle.swarm_objects.specs.Changes.{in_state, with_tables}
-use Rattle.swarm_objects.specs.Rows.{Has, drop_row, network_id, node_id, service_id, session_node}
+use Rattle.swarm_objects.specs.Rows.{Has, agent_node, drop_row, network_id, node_id, sent_node, service_id, session_node}
 use Rattle.swarm_objects.specs.Rules.Networks.{subnet_breaks, subnet_rules}
 use Rattle.swarm_objects.specs.World.{Tables, World}
 use Rattle.swarm_objects.specs.declared.calls.Op.{Op}
@@ -29,14 +29,21 @@ use Rattle.swarm_objects.specs.declared.services.ServiceSpec.{ServiceSpec}
 use Rattle.swarm_objects.specs.declared.sessions.NodeSession.{NodeSession}
 use Rattle.swarm_objects.specs.declared.settings.Settings.{Settings}
 use Rattle.swarm_objects.specs.declared.tasks.TaskState.TheVariants as state
+use Rattle.swarm_objects.specs.declared.agents.NodeAgent.{NodeAgent}
 
 dropped : {X : Type 0} (key : X → ℕ) (id : ℕ) (rows : List X) → Becomes (SameId key) [] rows (drop_row key id rows)
 dropped key id rows = becomes-filter (SameId key) (λ x. not (key x == id)) (λ x. refl) rows
 
 -- An object comes.
 
-node-comes : (w : World) (n : Node) → n.id ≡ w.tables.next_id → Moves w (with_node w n)
-node-comes w n id = record {
+-- the agent of a new node is the last
+agent-comes : (b : Bool) (next node : ℕ) (agents : List NodeAgent) → 1 ≤ next → node ≡ next →
+    RisesBetween agent_node 1 next agents → RisesBetween agent_node 1 (next + 1) (with_agent_if b node agents)
+agent-comes true next node agents low id rises = between-push agent_node 1 next (new_agent node) agents low id rises
+agent-comes false next node agents low id rises = rows-stay agent_node next (next + 1) agents (omega arith) rises
+
+node-comes : (w : World) (n : Node) → 1 ≤ w.tables.next_id → n.id ≡ w.tables.next_id → Moves w (with_node w n)
+node-comes w n low id = record {
   tables = record {
     next = omega arith;
     nodes =
@@ -46,8 +53,11 @@ node-comes w n id = record {
     tasks = turns-by (becomes-same TaskMoves task-same w.tables.tasks);
     networks = networks-stay w.tables.networks;
     sessions = sessions-same w.tables.sessions w.tables.next_id (w.tables.next_id + 1);
+    opens = rows-stay session_node w.tables.next_id (w.tables.next_id + 1) w.tables.sessions (omega arith);
   };
   watchers = turns-ids w.watchers;
+  sent = rows-stay sent_node w.tables.next_id (w.tables.next_id + 1) w.sent (omega arith);
+  agents = λ rises. agent-comes (not n.remote) w.tables.next_id n.id w.agents low id rises;
 }
 
 service-comes : (t : Tables) (s : Service) → s.id ≡ t.next_id → TablesMove t (with_service t s)
@@ -60,6 +70,7 @@ service-comes t s id = record {
   tasks = turns-by (becomes-same TaskMoves task-same t.tasks);
   networks = networks-stay t.networks;
   sessions = sessions-same t.sessions t.next_id (t.next_id + 1);
+  opens = rows-stay session_node t.next_id (t.next_id + 1) t.sessions (omega arith);
 }
 
 network-comes : (t : Tables) (n : Network) → n.id ≡ t.next_id → IsSubnet n → TablesMove t (with_network t n)
@@ -72,6 +83,7 @@ network-comes t n id subnet = record {
       turns-more network_id Stays IsSubnet t.next_id t.networks t.networks n
       (becomes-same Stays (λ x. refl) t.networks) id subnet;
   sessions = sessions-same t.sessions t.next_id (t.next_id + 1);
+  opens = rows-stay session_node t.next_id (t.next_id + 1) t.sessions (omega arith);
 }
 
 -- a subnet that isn't refused breaks no rule
@@ -101,6 +113,7 @@ node-goes t id = record {
   tasks = turns-by (becomes-same TaskMoves task-same t.tasks);
   networks = networks-stay t.networks;
   sessions = sessions-left id t.sessions t.next_id t.next_id;
+  opens = between-filter session_node 1 t.next_id (λ s. not (session_node s == id)) t.sessions;
 }
 
 without-node : (version : ℕ) (t : Tables) (id : ℕ) → TablesMove t (tables_without_node version t id)
@@ -110,6 +123,13 @@ without-node version t id =
     (move-where left (is_left_behind id) (in_state version t.clock state.Orphaned)
     (λ x h e. moves-in_state version t.clock state.Orphaned x (rank-most x.state)))
 
+-- what was sent to it, and its agent, go with it
+node-left : (version : ℕ) (w : World) (id : ℕ) → Moves w (without_node version w id)
+node-left version w id =
+    beside-moves w (without_node version w id) (without-node version w.tables id) refl
+    (between-filter sent_node 1 w.tables.next_id (λ s. not (sent_node s == id)) w.sent)
+    (between-filter agent_node 1 w.tables.next_id (λ a. not (agent_node a == id)) w.agents)
+
 service-goes : (t : Tables) (id : ℕ) → TablesMove t (without_service t id)
 service-goes t id = record {
   next = omega arith;
@@ -118,6 +138,7 @@ service-goes t id = record {
   tasks = turns-by (becomes-same TaskMoves task-same t.tasks);
   networks = networks-stay t.networks;
   sessions = sessions-same t.sessions t.next_id t.next_id;
+  opens = rows-stay session_node t.next_id t.next_id t.sessions (omega arith);
 }
 
 network-goes : (t : Tables) (id : ℕ) → TablesMove t (record t { networks = drop_row network_id id t.networks })
@@ -128,6 +149,7 @@ network-goes t id = record {
   tasks = turns-by (becomes-same TaskMoves task-same t.tasks);
   networks = turns-by (becomes-filter Stays (λ n. not (network_id n == id)) (λ n. refl) t.networks);
   sessions = sessions-same t.sessions t.next_id t.next_id;
+  opens = rows-stay session_node t.next_id t.next_id t.sessions (omega arith);
 }
 
 settings-move : (t : Tables) (settings : Settings) → TablesMove t (record t { settings = settings })
@@ -138,12 +160,13 @@ settings-move t settings = record {
   tasks = turns-by (becomes-same TaskMoves task-same t.tasks);
   networks = networks-stay t.networks;
   sessions = sessions-same t.sessions t.next_id t.next_id;
+  opens = rows-stay session_node t.next_id t.next_id t.sessions (omega arith);
 }
 
 -- Operations.
 
 with-tables : (w : World) (t : Tables) → TablesMove w.tables t → Moves w (with_tables w t)
-with-tables w t tables = tables-moves w (with_tables w t) tables refl
+with-tables w t tables = tables-moves w (with_tables w t) tables refl refl refl
 
 service-put : (w : World) (s : Service) → Moves w (put_service w s)
 service-put w s = with-tables w _ (move-service w.tables s.id (λ old. s) (λ v e. sym e))
@@ -153,54 +176,55 @@ goes-back : (version : ℕ) (w : World) (s : Service) (spec : Option ServiceSpec
 goes-back version w s None = tt
 goes-back version w s (Some spec) = service-put w (respecified version true spec s)
 
-pub op-moves : (version : ℕ) (w : World) (o : Op) → OnDone (Moves w) (apply_op version w o)
-op-moves version w (op.CreateNode name draft) =
+pub op-moves : (version : ℕ) (w : World) (o : Op) → IsOrderly w → OnDone (Moves w) (apply_op version w o)
+op-moves version w (op.CreateNode name draft) is =
     given-unless (λ (d : World × ℕ). Moves w d.0) _ _
-    (λ e. node-comes w (new_node version w.tables.next_id name draft) refl)
-op-moves version w (op.UpdateNode name asked labels r a) =
+    (λ e. node-comes w (new_node version w.tables.next_id name draft) is.next refl)
+op-moves version w (op.UpdateNode name asked labels r a) is =
     given-found (λ (d : World × ℕ). Moves w d.0) kind.Node (wanted_by.Name name) (node_by w.tables name)
     (λ n. update_node w asked n (respecified_node version labels r a n))
     (λ (n : Node) e. given-unless (λ (d : World × ℕ). Moves w d.0) _ _
     (λ ok. with-tables w _ (move-node_at w.tables n.id (λ m. respecified_node version labels r a n) (λ m same. sym same))))
-op-moves version w (op.RemoveNode name force) =
+op-moves version w (op.RemoveNode name force) is =
     given-found (λ (d : World × ℕ). Moves w d.0) kind.Node (wanted_by.Name name) (node_by w.tables name)
     (remove_node version w force)
     (λ (n : Node) e. given-unless (λ (d : World × ℕ). Moves w d.0) _ _
-    (λ ok. tables-moves w (without_node version w n.id) (without-node version w.tables n.id) refl))
-op-moves version w (op.CreateService name d) =
+    (λ ok. node-left version w n.id))
+op-moves version w (op.CreateService name d) is =
     given-unless (λ (d : World × ℕ). Moves w d.0) _ _
     (λ e. with-tables w _ (service-comes w.tables (new_service version w.tables name d) refl))
-op-moves version w (op.UpdateService name asked d) =
+op-moves version w (op.UpdateService name asked d) is =
     given-found (λ (d : World × ℕ). Moves w d.0) kind.Service (wanted_by.Name name) (service_by w.tables name)
     (update_service version w asked d)
     (λ (s : Service) e. given-unless (λ (d : World × ℕ). Moves w d.0) _ _ (λ ok. service-put w _))
-op-moves version w (op.RemoveService name) =
+op-moves version w (op.RemoveService name) is =
     given-found (λ (d : World × ℕ). Moves w d.0) kind.Service (wanted_by.Name name) (service_by w.tables name)
     (remove_service w) (λ (s : Service) e. with-tables w _ (service-goes w.tables s.id))
-op-moves version w (op.RollbackService name asked) =
+op-moves version w (op.RollbackService name asked) is =
     given-found (λ (d : World × ℕ). Moves w d.0) kind.Service (wanted_by.Name name) (service_by w.tables name)
     (rollback_service version w asked)
     (λ (s : Service) e. given-unless_some (λ (d : World × ℕ). Moves w d.0) (conflict asked s.version) _
     (λ ok. goes-back version w s s.previous))
-op-moves version w (op.CreateNetwork name base bits) =
+op-moves version w (op.CreateNetwork name base bits) is =
     given-unless (λ (d : World × ℕ). Moves w d.0) _ _
     (λ e. with-tables w _ (network-comes w.tables (new_network version w.tables.next_id name base bits) refl
     (subnet-is (new_network version w.tables.next_id name base bits) _ e)))
-op-moves version w (op.RemoveNetwork name) =
+op-moves version w (op.RemoveNetwork name) is =
     given-found (λ (d : World × ℕ). Moves w d.0) kind.Network (wanted_by.Name name) (network_by w.tables name)
     (remove_network w)
     (λ (n : Network) e. given-unless (λ (d : World × ℕ). Moves w d.0) _ _
     (λ ok. with-tables w _ (network-goes w.tables n.id)))
-op-moves version w (op.SetCluster settings) =
-    given-unless (λ (d : World × ℕ). Moves w d.0) _ _ (λ e. tables-moves w _ (settings-move w.tables settings) refl)
+op-moves version w (op.SetCluster settings) is =
+    given-unless (λ (d : World × ℕ). Moves w d.0) _ _ (λ e. tables-moves w _ (settings-move w.tables settings) refl refl refl)
 
 -- all of a transaction's, one after the other
 after-moves : (w v : World) (done : Done) → Moves w v → OnDone (Moves v) done → OnDone (Moves w) done
 after-moves w v (Ok d) first second = moves-then w v d.0 first second
 after-moves w v (Err r) first second = tt
 
-pub ops-moves : (version : ℕ) (w : World) (ops : List Op) →
+pub ops-moves : (version : ℕ) (w : World) (ops : List Op) → IsOrderly w →
     OnGiven (λ (d : World × List ℕ). Moves w d.0) (apply_ops version ops w [])
-ops-moves version w ops =
-    ops-keep (Moves w) version (λ v o first. after-moves w v (apply_op version v o) first (op-moves version v o)) ops w []
-    (tables-moves w w (tables-same w.tables) refl)
+ops-moves version w ops is =
+    ops-keep (Moves w) version
+    (λ v o first. after-moves w v (apply_op version v o) first (op-moves version v o (orderly-moves w v is first))) ops w []
+    (tables-moves w w (tables-same w.tables) refl refl refl)

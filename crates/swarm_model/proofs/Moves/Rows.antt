@@ -1,8 +1,8 @@
 -- What a step does to a table: rows change in their place or go, and further rows come behind them.
-use Rattle.std.proofs.Common.{◌≡◌, ℕ, ◌+◌, ◌<◌, ◌≤◌, Bool, true, false, cond, eqb, ◌⊎◌, inl, inr, List, [], ◌∷◌, ◌++◌, refl, sym, ap, ◌∙◌, subst, arith, Some}
+use Rattle.std.proofs.Common.{◌≡◌, ℕ, ◌+◌, ◌<◌, ◌≤◌, Bool, true, false, cond, eqb, ltb, ◌⊎◌, inl, inr, List, [], ◌∷◌, ◌++◌, refl, sym, ap, ◌∙◌, subst, arith, Some}
 use Rattle.std.specs.Prelude.{map, filter, ⊤, is_some}
 use Rattle.std.proofs.lemmas.Bool.Decides.{nat_tests}
-use Rattle.swarm_objects.specs.Rows.{Has, change_row, has_row, row_at}
+use Rattle.swarm_objects.specs.Rows.{Has, change_row, has_row, row_at, with_row}
 
 -- each row stands for one that was there, changed as R says, in their order; the further rows follow
 abbrev pub Becomes : {X : Type 0} → (X → X → Type 0) → List X → List X → List X → Type 0
@@ -125,6 +125,70 @@ between-becomes R key keeps low mid high more (x ∷ xs) (y ∷ ys) le up r m (i
       subst (λ k. RisesBetween key (k + 1) high ys) (sym same)
           (between-becomes R key keeps (key x + 1) mid high more xs ys (omega (arith, r.1)) up r.2 m b.1),
     )
+
+-- the bound may be higher
+pub rows-stay : {X : Type 0} (key : X → ℕ) (next high : ℕ) (rows : List X) → next ≤ high → RisesBetween key 1 next rows →
+    RisesBetween key 1 high rows
+rows-stay key next high rows up rises = between-higher key 1 next high rows up rises
+
+-- rows that keep their keys
+pub between-map : {X : Type 0} (key : X → ℕ) (low high : ℕ) (f : X → X) (rows : List X) → ((x : X) → key (f x) ≡ key x) →
+    RisesBetween key low high rows → RisesBetween key low high (map f rows)
+between-map key low high f [] same rises = tt
+between-map key low high f (x ∷ xs) same rises = (
+  omega (arith, same x, rises.0),
+  omega (arith, same x, rises.1),
+  subst (λ k. RisesBetween key (k + 1) high (map f xs)) (sym (same x)) (between-map key (key x + 1) high f xs same rises.2),
+)
+
+-- the row with a number is changed
+pub between-change : {X : Type 0} (key : X → ℕ) (low high id : ℕ) (f : X → X) (rows : List X) → ((x : X) → key (f x) ≡ key x) →
+    RisesBetween key low high rows → RisesBetween key low high (change_row key id f rows)
+between-change key low high id f rows same rises =
+    between-map key low high (λ x. cond (eqb (key x) id) (f x) x) rows (λ x. go x (eqb (key x) id)) rises
+  where
+    go : (x : _) (b : Bool) → key (cond b (f x) x) ≡ key x
+    go x true = same x
+    go x false = refl
+
+-- some rows go
+pub between-filter : {X : Type 0} (key : X → ℕ) (low high : ℕ) (p : X → Bool) (rows : List X) → RisesBetween key low high rows →
+    RisesBetween key low high (filter p rows)
+between-filter key low high p [] rises = tt
+between-filter key low high p (x ∷ xs) rises = go (p x) (between-filter key (key x + 1) high p xs rises.2)
+  where
+    go : (b : Bool) → RisesBetween key (key x + 1) high (filter p xs) →
+        RisesBetween key low high (cond b (x ∷ filter p xs) (filter p xs))
+    go true rest = (rises.0, rises.1, rest)
+    go false rest = between-lower key low (key x + 1) high (filter p xs) (omega (arith, rises.0)) rest
+
+-- a row more behind them
+pub between-push : {X : Type 0} (key : X → ℕ) (low next : ℕ) (new : X) (rows : List X) → low ≤ next → key new ≡ next →
+    RisesBetween key low next rows → RisesBetween key low (next + 1) (rows ++ new ∷ [])
+between-push key low next new [] le is rises = (omega (arith, is, le), omega (arith, is), tt)
+between-push key low next new (x ∷ xs) le is rises =
+    (rises.0, omega (arith, rises.1), between-push key (key x + 1) next new xs (omega (arith, rises.1)) is rises.2)
+
+-- a row more among them
+pub between-with_row : {X : Type 0} (key : X → ℕ) (low high : ℕ) (new : X) (rows : List X) → low ≤ key new → key new < high →
+    RisesBetween key low high rows → RisesBetween key low high (with_row key new rows)
+between-with_row key low high new [] least most rises = (least, most, tt)
+between-with_row key low high new (x ∷ xs) least most rises =
+    go (ltb (key new) (key x)) (eqb (key new) (key x)) refl refl
+    (λ above. between-with_row key (key x + 1) high new xs above most rises.2)
+  where
+    go : (less same : Bool) → ltb (key new) (key x) ≡ less → eqb (key new) (key x) ≡ same →
+        (key x + 1 ≤ key new → RisesBetween key (key x + 1) high (with_row key new xs)) →
+        RisesBetween key low high (cond less (new ∷ x ∷ xs) (cond same (new ∷ xs) (x ∷ with_row key new xs)))
+    go true same l s rest =
+        let below : key new < key x = grind (arith, nat_tests, l) in
+        (least, most, (omega (arith, below), rises.1, rises.2))
+    go false true l s rest =
+        let is : key new ≡ key x = grind (arith, nat_tests, s) in
+        (least, most, subst (λ k. RisesBetween key (k + 1) high xs) (sym is) rises.2)
+    go false false l s rest =
+        let above : key x + 1 ≤ key new = grind (arith, nat_tests, l, s) in
+        (rises.0, rises.1, rest above)
 
 -- Changes of rows.
 

@@ -1,6 +1,6 @@
 -- A session opens, or a beat moves its deadline.
-use Rattle.std.proofs.Common.{◌≡◌, ℕ, ◌+◌, Bool, true, false, cond, eqb, ltb, ◌⊎◌, inl, inr, List, [], ◌∷◌, refl, ap, arith}
-use Rattle.swarm_model.proofs.Moves.Rows.{becomes-change_any, becomes-same}
+use Rattle.std.proofs.Common.{◌≡◌, ℕ, ◌+◌, ◌<◌, ◌≤◌, Bool, true, false, cond, eqb, ltb, ◌⊎◌, inl, inr, List, [], ◌∷◌, refl, ap, arith}
+use Rattle.swarm_model.proofs.Moves.Rows.{RisesBetween, becomes-change_any, becomes-same, between-change, between-with_row, rows-stay}
 use Rattle.swarm_model.proofs.Moves.Worlds.{networks-stay, ComesFrom, SameId, TablesMove, TaskMoves, task-same, turns-by, turns-ids}
 use Rattle.swarm_objects.proofs.RowLemmas.{Has-map_cases}
 use Rattle.swarm_objects.specs.Loops.Agents.{after_beat, beaten}
@@ -35,8 +35,17 @@ opened t node s h = go (with_row-cases session_node (new_session t node) t.sessi
         inr (omega (arith, id), omega (arith, id))
     go (inr k) = inl (s, k, refl, refl)
 
-pub register-moves : (version : ℕ) (t : Tables) (node : ℕ) → TablesMove t (registered version t node)
-register-moves version t node = record {
+-- the session of a node that has a number
+pub opened-rises : (t : Tables) (node : ℕ) → (1 ≤ node) × (node < t.next_id) →
+    RisesBetween session_node 1 t.next_id t.sessions →
+    RisesBetween session_node 1 (t.next_id + 1) (with_row session_node (new_session t node) t.sessions)
+opened-rises t node is rises =
+    rows-stay session_node t.next_id (t.next_id + 1) _ (omega arith)
+    (between-with_row session_node 1 t.next_id (new_session t node) t.sessions is.0 is.1 rises)
+
+pub register-moves : (version : ℕ) (t : Tables) (node : ℕ) → (1 ≤ node) × (node < t.next_id) →
+    TablesMove t (registered version t node)
+register-moves version t node is = record {
   next = omega arith;
   nodes =
       turns-by (becomes-change_any (SameId node_id) node_id node (ready_node version) t.nodes (λ n. refl) (λ n h. refl));
@@ -44,6 +53,7 @@ register-moves version t node = record {
   tasks = turns-by (becomes-same TaskMoves task-same t.tasks);
   networks = networks-stay t.networks;
   sessions = opened t node;
+  opens = opened-rises t node is;
 }
 
 beat-from : (t : Tables) (node : ℕ) (s : NodeSession) → Has (change_row session_node node (beaten t) t.sessions) s →
@@ -65,4 +75,5 @@ beat-moves t node = record {
   tasks = turns-by (becomes-same TaskMoves task-same t.tasks);
   networks = networks-stay t.networks;
   sessions = beat-from t node;
+  opens = between-change session_node 1 t.next_id node (beaten t) t.sessions (λ s. refl);
 }

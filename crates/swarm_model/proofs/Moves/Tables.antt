@@ -2,11 +2,11 @@
 use Rattle.std.proofs.Common.{◌≡◌, ℕ, ◌+◌, ◌≤◌, Bool, true, false, cond, get_or, ltb, List, [], ◌∷◌, refl, ap, arith, Option, Some, None}
 use Rattle.std.specs.Prelude.{map, not, ◌==◌}
 use Rattle.std.proofs.lemmas.Bool.Decides.{nat_tests}
-use Rattle.swarm_model.proofs.Moves.Rows.{Becomes, RisesBetween, becomes-change, becomes-change_any, becomes-change_at, becomes-filter, becomes-same, becomes-where}
+use Rattle.swarm_model.proofs.Moves.Rows.{Becomes, RisesBetween, becomes-change, becomes-change_any, becomes-change_at, becomes-filter, becomes-same, becomes-where, rows-stay}
 use Rattle.swarm_model.proofs.Moves.Worlds.{networks-stay, IsGood, SameId, TablesMove, TaskMoves, sessions-same, tables-same, task-moves, task-same, turns-by, turns-ids, turns-more}
 use Rattle.swarm_model.specs.Laws.Rises.{KeepsMaking}
 use Rattle.swarm_objects.specs.Changes.{change_node, change_service, change_task, change_where, in_state, on_service, raised_to, wanted, with_new, without_place}
-use Rattle.swarm_objects.specs.Rows.{Has, change_row, drop_row, node_id, on_row, row_at, service_id, task_id}
+use Rattle.swarm_objects.specs.Rows.{Has, change_row, drop_row, node_id, on_row, row_at, service_id, session_node, task_id}
 use Rattle.swarm_objects.specs.Tasks.New.{goal_of, new_task, with_task}
 use Rattle.swarm_objects.specs.Tasks.Places.{place_at}
 use Rattle.swarm_objects.specs.Values.Ranks.{desired_rank, rank}
@@ -104,6 +104,7 @@ move-tasks t tasks rows = record {
   tasks = turns-by rows;
   networks = networks-stay t.networks;
   sessions = sessions-same t.sessions t.next_id t.next_id;
+  opens = rows-stay session_node t.next_id t.next_id t.sessions (omega arith);
 }
 
 pub move-services : (t : Tables) (services : List Service) → Becomes (SameId service_id) [] t.services services →
@@ -115,6 +116,7 @@ move-services t services rows = record {
   tasks = turns-by (becomes-same TaskMoves task-same t.tasks);
   networks = networks-stay t.networks;
   sessions = sessions-same t.sessions t.next_id t.next_id;
+  opens = rows-stay session_node t.next_id t.next_id t.sessions (omega arith);
 }
 
 pub move-nodes : (t : Tables) (nodes : List Node) → Becomes (SameId node_id) [] t.nodes nodes →
@@ -126,6 +128,7 @@ move-nodes t nodes rows = record {
   tasks = turns-by (becomes-same TaskMoves task-same t.tasks);
   networks = networks-stay t.networks;
   sessions = sessions-same t.sessions t.next_id t.next_id;
+  opens = rows-stay session_node t.next_id t.next_id t.sessions (omega arith);
 }
 
 pub move-node : (t : Tables) (id : ℕ) (f : Node → Node) → ((n : Node) → (f n).id ≡ n.id) → TablesMove t (change_node id f t)
@@ -188,6 +191,7 @@ move-add t x id good = record {
       turns-more task_id TaskMoves IsGood t.next_id t.tasks t.tasks x (becomes-same TaskMoves task-same t.tasks) id good;
   networks = networks-stay t.networks;
   sessions = sessions-same t.sessions t.next_id (t.next_id + 1);
+  opens = rows-stay session_node t.next_id (t.next_id + 1) t.sessions (omega arith);
 }
 
 pub move-new : (version : ℕ) (d : Desired) (t : Tables) (s : Service) (k : ℕ) → TablesMove t (with_new version d t s k)

@@ -1,9 +1,9 @@
 -- What a step does to a world: each table's rows change, go and come.
 use Rattle.std.proofs.Common.{true, ◌≡◌, ℕ, ◌+◌, ◌<◌, ◌≤◌, ◌⊎◌, inl, inr, List, [], ◌∷◌, ◌++◌, refl, sym, ap, ◌∙◌, subst, arith, Option, Some, None}
 use Rattle.std.specs.Prelude.{⊤}
-use Rattle.swarm_model.proofs.Moves.Rows.{Becomes, RisesBetween, becomes-cases, becomes-more, becomes-same, becomes-then, between-becomes}
+use Rattle.swarm_model.proofs.Moves.Rows.{Becomes, RisesBetween, becomes-cases, becomes-more, becomes-same, becomes-then, between-becomes, rows-stay}
 use Rattle.swarm_model.specs.Laws.Rises.{KeepsMaking, KeepsNode, TaskRises}
-use Rattle.swarm_objects.specs.Rows.{Has, network_id, node_id, service_id, task_id, watcher_id}
+use Rattle.swarm_objects.specs.Rows.{Has, agent_node, network_id, node_id, sent_node, service_id, session_node, task_id, watcher_id}
 use Rattle.swarm_objects.specs.Sound.{is_subnet}
 use Rattle.swarm_objects.specs.Tasks.New.{bound_node}
 use Rattle.swarm_objects.specs.Values.Ranks.{desired_rank, rank}
@@ -125,10 +125,20 @@ pub record TablesMove (t u : Tables) : Type 0 where
   pub tasks : Turns task_id TaskMoves IsGood t.next_id u.next_id t.tasks u.tasks
   pub networks : Turns network_id Stays IsSubnet t.next_id u.next_id t.networks u.networks
   pub sessions : (s : NodeSession) → Has u.sessions s → ComesFrom t.sessions t.next_id u.next_id s
+  pub opens : RisesBetween session_node 1 t.next_id t.sessions → RisesBetween session_node 1 u.next_id u.sessions
+
+-- what was sent, and the agents, stand by rising node
+abbrev pub SentRise : World → Type 0
+SentRise w = RisesBetween sent_node 1 w.tables.next_id w.sent
+
+abbrev pub AgentsRise : World → Type 0
+AgentsRise w = RisesBetween agent_node 1 w.tables.next_id w.agents
 
 pub record Moves (w v : World) : Type 0 where
   pub tables : TablesMove w.tables v.tables
   pub watchers : Turns watcher_id (SameId watcher_id) Any w.tables.next_id v.tables.next_id w.watchers v.watchers
+  pub sent : SentRise w → SentRise v
+  pub agents : AgentsRise w → AgentsRise v
 
 -- what every world is: rows rise by numbers from 1 on, below the next one, and tasks are good
 pub record IsOrderly (w : World) : Type 0 where
@@ -137,7 +147,10 @@ pub record IsOrderly (w : World) : Type 0 where
   pub services : RisesBetween service_id 1 w.tables.next_id w.tables.services
   pub tasks : RisesBetween task_id 1 w.tables.next_id w.tables.tasks
   pub networks : RisesBetween network_id 1 w.tables.next_id w.tables.networks
+  pub sessions : RisesBetween session_node 1 w.tables.next_id w.tables.sessions
   pub watchers : RisesBetween watcher_id 1 w.tables.next_id w.watchers
+  pub sent : SentRise w
+  pub agents : AgentsRise w
   pub good : (x : Task) → Has w.tables.tasks x → IsGood x
   pub subnets : (n : Network) → Has w.tables.networks n → IsSubnet n
 
@@ -182,7 +195,7 @@ turns-then key R Asked join keeps still next mid high a b c low up first second 
           ];
     }
 
-turns-between : {X : Type 0} (key : X → ℕ) (R : X → X → Type 0) (Asked : X → Type 0) → ((x y : X) → R x y → key y ≡ key x) →
+pub turns-between : {X : Type 0} (key : X → ℕ) (R : X → X → Type 0) (Asked : X → Type 0) → ((x y : X) → R x y → key y ≡ key x) →
     (next high : ℕ) (old new : List X) → 1 ≤ next → next ≤ high → RisesBetween key 1 next old →
     Turns key R Asked next high old new → RisesBetween key 1 high new
 turns-between key R Asked keeps next high old new low up rises turns =
@@ -207,6 +220,7 @@ tables-same t = record {
   tasks = turns-by (becomes-same TaskMoves task-same t.tasks);
   networks = networks-stay t.networks;
   sessions = sessions-same t.sessions t.next_id t.next_id;
+  opens = rows-stay session_node t.next_id t.next_id t.sessions (omega arith);
 }
 
 sessions-then : (a b c : List NodeSession) (next mid high : ℕ) → next ≤ mid → mid ≤ high →
@@ -239,6 +253,7 @@ tables-then t u v h k = record {
       h.next k.next h.networks k.networks;
   sessions =
       sessions-then t.sessions u.sessions v.sessions t.next_id u.next_id v.next_id h.next k.next h.sessions k.sessions;
+  opens = λ rises. k.opens (h.opens rises);
 }
 
 pub moves-then : (w v u : World) → Moves w v → Moves v u → Moves w u
@@ -247,6 +262,8 @@ moves-then w v u h k = record {
   watchers =
       ids-then watcher_id w.tables.next_id v.tables.next_id u.tables.next_id w.watchers v.watchers u.watchers
       h.tables.next k.tables.next h.watchers k.watchers;
+  sent = λ rises. k.sent (h.sent rises);
+  agents = λ rises. k.agents (h.agents rises);
 }
 
 pub orderly-moves : (w v : World) → IsOrderly w → Moves w v → IsOrderly v
@@ -264,6 +281,9 @@ orderly-moves w v is m = record {
       is.networks m.tables.networks;
   watchers =
       turns-between watcher_id (SameId watcher_id) Any (λ x y h. h) _ _ _ _ is.next m.tables.next is.watchers m.watchers;
+  sessions = m.tables.opens is.sessions;
+  sent = m.sent is.sent;
+  agents = m.agents is.agents;
   good = λ y h.
       elim (becomes-cases TaskMoves m.tables.tasks.more w.tables.tasks v.tables.tasks m.tables.tasks.rows y h) [
         | inl r ↦ good-moves r.0 y r.2 (is.good r.0 r.1)

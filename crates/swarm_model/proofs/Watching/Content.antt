@@ -1,13 +1,12 @@
 -- The tests of equal content of two rows with one id decide equality.
-use Rattle.std.proofs.Common.{◌≡◌, ℕ, Bool, true, List, [], ◌∷◌, refl, ap, sym, ◌∙◌, Option, Some, None}
+use Rattle.std.proofs.Common.{◌≡◌, ℕ, true, List, [], ◌∷◌, refl, ap, sym, ◌∙◌, Some}
 use Rattle.std.specs.Prelude.{◌==◌, ◌&&◌, find}
 use Rattle.std.specs.Bool.{Decides}
 use Rattle.std.specs.Cmp.Lexicographic.{pointwise}
-use Rattle.std.specs.Option.{option_eq}
 use Rattle.std.proofs.lemmas.Bool.Decides.{Decides-and, Decides-eqb, Decides-like}
 use Rattle.std.proofs.lemmas.Slice.Eq.{bytes_eq-Decides}
 use Rattle.swarm_model.specs.Content.{same_action, same_address, same_availability, same_cause, same_label, same_network, same_node, same_node_facts, same_node_role, same_node_state, same_node_wish, same_numbers_of_mode, same_order, same_port_number, same_replaced, same_run, same_service, same_service_facts, same_service_wish, same_spec, same_status, same_task, same_task_facts, same_task_making, same_update}
-use Rattle.swarm_objects.proofs.SameLemmas.{Decides-pointwise, Decides-same_bool, Decides-same_number, Decides-same_place, Decides-same_port, Decides-same_template}
+use Rattle.swarm_objects.proofs.SameLemmas.{Decides-option_eq, Decides-pointwise, Decides-same_bool, Decides-same_number, Decides-same_place, Decides-same_port, Decides-same_template}
 use Rattle.swarm_objects.specs.Loops.Allocator.{same_note}
 use Rattle.swarm_objects.specs.Same.{same_bool, same_number, same_port}
 use Rattle.swarm_objects.specs.Values.Ranks.{desired_rank, rank}
@@ -43,13 +42,6 @@ use Rattle.swarm_objects.specs.declared.tasks.Desired.TheVariants as desired
 use Rattle.swarm_objects.specs.declared.tasks.Task.{Task}
 use Rattle.swarm_objects.specs.declared.tasks.TaskState.{TaskState}
 use Rattle.swarm_objects.specs.declared.tasks.TaskState.TheVariants as state
-
--- a value that may be missing
-Decides-option_eq : {X : Type 0} (E : X → X → Bool) → ((a b : X) → Decides (E a b) (a ≡ b)) → (a b : Option X) → Decides (option_eq E a b) (a ≡ b)
-Decides-option_eq E d None None = (λ e. refl, λ e. refl)
-Decides-option_eq E d None (Some y) = (λ e. cc, λ e. cc)
-Decides-option_eq E d (Some x) None = (λ e. cc, λ e. cc)
-Decides-option_eq E d (Some x) (Some y) = Decides-like (E x y) (λ e. ap (λ z. Some z) e) (λ e. cc) (d x y)
 
 some_same : {X : Type 0} {x y : X} → Some x ≡ Some y → x ≡ y
 some_same e = cc

@@ -100,7 +100,8 @@ executor_desires executors a =
 abbrev pub is_told_of : NodeAgent → Option Message → Assigned → Bool
 is_told_of a None sent = executor_desires a.executors sent
 is_told_of a (Some m) sent =
-    on_row (not m.complete && executor_desires a.executors sent) (same_desired sent.desired) (desired_in sent.task m.changes)
+    on_row (not m.complete && executor_desires a.executors sent) (same_desired sent.desired)
+    (desired_in sent.task m.changes)
 
 -- what was sent in a live or dead session of the node has come to its agent, or stands in its inbox
 abbrev pub is_told : World → NodeAgent → Bool

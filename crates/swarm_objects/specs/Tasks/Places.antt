@@ -48,10 +48,6 @@ place_number (On node) = node
 abbrev pub numbers_of : Service → List Task → List ℕ
 numbers_of s tasks = fold (λ ks t. with_number (place_number t.place) ks) [] (filter (counts_for s) tasks)
 
--- the slots that are held, rising
-abbrev pub held_slots : Service → List Task → List ℕ
-held_slots s tasks = filter (λ k. is_held s (Slot k) tasks) (numbers_of s tasks)
-
 -- the place of the service with this number
 abbrev pub place_at : Mode → ℕ → Place
 place_at (mode.Replicated replicas) k = Slot k

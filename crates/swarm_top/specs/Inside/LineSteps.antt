@@ -1,10 +1,11 @@
 -- What a line of a script does, step by step.
-use Rattle.std.specs.Prelude.{List, Bool, ◌≡◌, ◌+◌, ◌++◌, ℕ, take, ◌<◌, length, Option, Result, Ok, Err, ⊤}
+use Rattle.std.specs.Prelude.{List, Bool, ◌≡◌, ◌+◌, ◌++◌, ℕ, take, ◌<◌, ◌≤◌, length, Option, Result, Ok, Err, ⊤}
 use Rattle.std.specs.List.{list_any}
 use Rattle.swarm_objects.specs.declared.calls.Entry.{Entry}
 use Rattle.swarm_script.specs.Line.{Line}
-use Rattle.swarm_top.specs.Serial.{is_refused, line_replies, line_entries, entries, output_text, line_out, settle_entries}
-use Rattle.swarm_model.specs.Today.History.{replay}
+use Rattle.swarm_top.specs.Serial.{is_refused, line_entries, line_out, line_replies}
+use Rattle.swarm_model.specs.History.{replay}
+use Rattle.swarm_model.specs.Serial.{settle_entries, wait_entries}
 use Rattle.std.specs.Io.KnownBytes.{Appends}
 use Rattle.swarm_objects.specs.Limits.{most_entries}
 use Rattle.swarm_objects.specs.Outside.{AppendsPrefix}
@@ -42,6 +43,19 @@ DoesLine (Err JournalFault) line old new out out_after = ⊥
 DoesLine (Err (NoMemoryAt number fault)) line old new out out_after = ⊥
 DoesLine (Err (BadLine number fault)) line old new out out_after = ⊥
 
+-- how the run ends where not all of these entries came
+abbrev pub StopsIn : Ending → List Entry → List Entry → List Entry → Type 0
+StopsIn NoMemory es old new = (n : ℕ) × (new ≡ old ++ take n es)
+StopsIn Full es old new =
+    (n : ℕ) × (new ≡ old ++ take n es) × (n < length es) × (length new ≡ most_entries)
+StopsIn Done es old new = ⊥
+StopsIn Refused es old new = ⊥
+StopsIn ReadFault es old new = ⊥
+StopsIn OutFault es old new = ⊥
+StopsIn JournalFault es old new = ⊥
+StopsIn (NoMemoryAt number fault) es old new = ⊥
+StopsIn (BadLine number fault) es old new = ⊥
+
 -- A settle line's duties.
 
 -- of the duties that the settle test names, the first were taken, and these are left
@@ -50,19 +64,23 @@ pub record Settling (budget left : ℕ) (old now : List Entry) : Type 0 where
   pub history : now ≡ old ++ taken
   pub whole : settle_entries budget (replay old) ≡ taken ++ settle_entries left (replay now)
 
--- how the run ends where not all of them were taken
-abbrev pub StopsSettling : Ending → ℕ → List Entry → List Entry → Type 0
-StopsSettling NoMemory budget old new = (n : ℕ) × (new ≡ old ++ take n (settle_entries budget (replay old)))
-StopsSettling Full budget old new =
-    (n : ℕ) × (new ≡ old ++ take n (settle_entries budget (replay old)))
-    × (n < length (settle_entries budget (replay old))) × (length new ≡ most_entries)
-StopsSettling Done budget old new = ⊥
-StopsSettling Refused budget old new = ⊥
-StopsSettling ReadFault budget old new = ⊥
-StopsSettling OutFault budget old new = ⊥
-StopsSettling JournalFault budget old new = ⊥
-StopsSettling (NoMemoryAt number fault) budget old new = ⊥
-StopsSettling (BadLine number fault) budget old new = ⊥
+-- A wait line.
+
+-- some of the time that is left went by
+pub record Passes (left : ℕ) (old new : List Entry) : Type 0 where
+  pub some : (replay old).tables.clock < (replay new).tables.clock
+  pub within : (replay new).tables.clock ≤ (replay old).tables.clock + left
+
+-- of its entries the first came, so much of its time is left, and the strides that it takes are left
+pub record Waiting (ms left : ℕ) (old now : List Entry) : Type 0 where
+  pub came : List Entry
+  pub history : now ≡ old ++ came
+  pub time : (replay now).tables.clock + left ≡ (replay old).tables.clock + ms
+  pub strides : ℕ
+  pub enough : left ≤ strides
+  pub whole :
+      wait_entries ms (replay old) ((replay old).tables.clock + ms)
+      ≡ came ++ wait_entries strides (replay now) ((replay old).tables.clock + ms)
 
 -- what the text of the line with this number says, or how the run ends there
 abbrev pub SaysLine : ℕ → Result Line Fault → Result Line Ending → Type 0

@@ -1,16 +1,18 @@
 -- How far a script is read, and how the reading ends.
 use Rattle.std.specs.Prelude.{ℕ, ◌≡◌, ◌+◌, List, ◌++◌, ◌≤◌, [], length, true, false, None, Option, Some, ⊤, ◌∷◌}
+use Rattle.std.specs.List.{list_all}
 use Rattle.swarm_top.specs.Lines.{lines_of, whole_lines}
 use Rattle.swarm_script.specs.Line.{Line}
 use Rattle.swarm_top.specs.Script.{reading, most_bytes}
 use Rattle.swarm_top.specs.Inside.LineBuffer.{LineBuffer}
 use Rattle.swarm_objects.specs.declared.calls.Entry.{Entry}
-use Rattle.swarm_top.specs.Serial.{entries, entry_of, output_text, has_refusal}
+use Rattle.swarm_top.specs.Serial.{entries, is_by_first, output_text, has_refusal}
 use Rattle.swarm_objects.specs.declared.calls.Call.TheVariants.{Halt}
 use Rattle.swarm_top.specs.Theorem.{IsOfFirstLines, PutsUpToLast, IsOfScript, TakesAtMostAScript}
 use Rattle.swarm_top.specs.Streams.{Stream, HasFailed, Puts, PutsPrefix, HasRisen}
 use Rattle.swarm_top.specs.declared.endings.Ending.{Ending}
 use Rattle.swarm_top.specs.declared.endings.Ending.TheVariants.{Done, Refused, ReadFault, OutFault, JournalFault, NoMemory, NoMemoryAt, BadLine, Full}
+use Rattle.swarm_model.specs.Script.{own_call}
 use Rattle.swarm_objects.specs.Limits.{most_entries}
 
 -- How far a script is read.
@@ -41,7 +43,7 @@ ReachedBy (Some input) history number held (Some left) =
 -- The end of the reading.
 
 abbrev pub with_halt : List Entry → List Entry
-with_halt history = history ++ entry_of Halt ∷ []
+with_halt history = history ++ own_call Halt ∷ []
 
 abbrev pub IsOfFirstLinesOfScript : Option (List ℕ) → List Entry → Type 0
 IsOfFirstLinesOfScript None history = ⊤
@@ -63,6 +65,7 @@ PutsRepliesOfLines (NoMemoryAt number fault) out history = ⊥
 pub record IsRead (ending : Ending) (script out : Stream) (history : List Entry) : Type 0 where
   pub lines : IsOfScript ending script.before script.after (with_halt history)
   pub some : IsOfFirstLinesOfScript script.before (with_halt history)
+  pub callers : list_all is_by_first history ≡ true
   pub answers : PutsRepliesOfLines ending out history
   pub takes : TakesAtMostAScript script
   pub cause : ending ≡ ReadFault → HasFailed script

@@ -1,7 +1,7 @@
 use Rattle.std.proofs.Common.{◌≡◌, drop}
-use Rattle.swarm_objects.specs.declared.services.UpdateOrder.TheVariants as order
+use Rattle.swarm_objects.specs.Defaults.{usual_update}
 use Rattle.script_grammar.specs.Drafts.{named_or, order_in}
 use Rattle.script_fields.proofs.drafts.order_named.Given as goal
 
 abbrev pub invariant-loop-field : goal.invariant-loop-field
-invariant-loop-field l = named_or order_in order.StopFirst l.fields ≡ named_or order_in order.StopFirst (drop l.field-index l.fields)
+invariant-loop-field l = named_or order_in usual_update.order l.fields ≡ named_or order_in usual_update.order (drop l.field-index l.fields)

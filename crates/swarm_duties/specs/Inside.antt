@@ -1,0 +1,6 @@
+-- Words of private contracts.
+pub mod Filtering
+pub mod Homes
+pub mod OfPlace
+pub mod Scheduling
+pub mod Updating

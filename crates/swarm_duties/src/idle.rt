@@ -1,0 +1,143 @@
+// What the settle test answers where no control loop has a duty.
+ghost use Rattle.std.specs.Prelude.{◌≡◌, find, flat_map, IfOk, option_to_list};
+ghost use Rattle.std.specs.Option.{option_copied};
+ghost use Rattle.swarm_model.specs.Settle.{
+  first_wait,
+  held_by,
+  idle_answer,
+  is_holding,
+  is_paused,
+  is_paused_status,
+  paused_by,
+};
+ghost use Rattle.swarm_objects.specs.Bounds.{IsSmall};
+ghost use Rattle.swarm_objects.specs.Rows.{first_of};
+ghost use Rattle.swarm_objects.specs.Services.Runs.{has_open_run};
+ghost use Rattle.swarm_plain.specs.Plain.{tables_of, world_of};
+
+use crate::runs::{is_of_version, is_under_way};
+use crate::update_waits::update_waits;
+use crate::waits::{Wait, executor_waits, remote_waits, session_waits, start_waits};
+use swarm_objects::{NoMemory, RunStatus, Service, Settle, Task};
+use swarm_plain::Plain;
+
+// The least of all waits.
+fn first_wait(plain: &Plain) -> Result<Option<Wait>, NoMemory>
+    requires { IsSmall (world_of plain.now) }
+    ensures { IfOk result (λ wait. wait ≡ first_wait (world_of plain.now)) }
+{
+    let started = start_waits(plain, None);
+    let updated = update_waits(plain, started)?;
+    let executed = executor_waits(plain, updated);
+    let heard = session_waits(plain, executed);
+    Ok(remote_waits(plain, heard))
+}
+
+// A live clean task of the service is below RUNNING.
+fn is_holding(service: &Service, task: &Task) -> bool
+    ensures { result ≡ is_holding service.now task.now }
+{
+    task.is_of(service.id) && task.is_live_clean(service) && task.is_below_running()
+}
+
+// The service has a run under way.
+fn has_open_run(service: &Service) -> bool
+    ensures { result ≡ has_open_run service.now }
+{
+    match &service.run {
+        Some(run) => is_under_way(run),
+        None => false,
+    }
+}
+
+// The first live clean task of the service below RUNNING.
+fn holding_task<'a>(plain: &'a Plain, service: &Service) -> Option<&'a Task>
+    ensures { option_copied result ≡ find (is_holding service.now) plain.now.tasks }
+{
+    plain
+        .tasks
+        .as_slice()
+        .iter()
+        .find(|task| is_holding(service, task))
+}
+
+// Where the service has a run under way, the task that holds it up.
+fn held_by(plain: &Plain, service: &Service) -> Option<Settle>
+    ensures { option_to_list result ≡ held_by (tables_of plain.now) service.now }
+{
+    if !has_open_run(service) {
+        return None;
+    }
+    match holding_task(plain, service) {
+        Some(task) => Some(Settle::Held(service.id, task.id)),
+        None => None,
+    }
+}
+
+// The first service whose run is held up, and the task that does it.
+fn held(plain: &Plain) -> Option<Settle>
+    ensures { result ≡ first_of (flat_map (held_by (tables_of plain.now)) plain.now.services) }
+{
+    for service in plain.services.as_slice() {
+        let answer = held_by(plain, service);
+        if answer.is_some() {
+            return answer;
+        }
+    }
+    None
+}
+
+fn is_paused_status(status: RunStatus) -> bool
+    ensures { result ≡ is_paused_status status }
+{
+    matches!(status, RunStatus::Paused | RunStatus::RollbackPaused)
+}
+
+// The run to the service's present template is paused.
+fn is_paused(service: &Service) -> bool
+    ensures { result ≡ is_paused service.now }
+{
+    match &service.run {
+        Some(run) => is_paused_status(run.status) && is_of_version(service, run),
+        None => false,
+    }
+}
+
+// The first service whose run is paused.
+fn paused_service(plain: &Plain) -> Option<&Service>
+    ensures { option_copied result ≡ find is_paused plain.now.services }
+{
+    plain
+        .services
+        .as_slice()
+        .iter()
+        .find(|service| is_paused(service))
+}
+
+// Its answer.
+#[tactic(auto, using(crate::proofs::LeastWaits::first_paused))]
+fn paused(plain: &Plain) -> Option<Settle>
+    ensures { result ≡ first_of (flat_map paused_by plain.now.services) }
+{
+    match paused_service(plain) {
+        Some(service) => Some(Settle::Paused(service.id)),
+        None => None,
+    }
+}
+
+/// Without duties the world waits for the least time that is waited for, is held up or paused, or has settled.
+pub fn idle_answer(plain: &Plain) -> Result<Settle, NoMemory>
+    requires { IsSmall (world_of plain.now) }
+    ensures { IfOk result (λ answer. answer ≡ idle_answer (world_of plain.now)) }
+{
+    if let Some(wait) = first_wait(plain)? {
+        return Ok(Settle::Waiting(wait.time, wait.cause, wait.id));
+    }
+    if let Some(answer) = held(plain) {
+        return Ok(answer);
+    }
+    match paused(plain) {
+        Some(answer) => Ok(answer),
+        None => Ok(Settle::Settled),
+    }
+}

@@ -1,0 +1,187 @@
+// What updates under way wait for: places in flight, and the watching of new tasks.
+ghost use Rattle.std.specs.Prelude.{◌≡◌, ◌&&◌, flat_map, IfOk, true};
+ghost use Rattle.std.specs.List.{list_all};
+ghost use Rattle.std.specs.Ordering.{nat_cmp};
+ghost use Rattle.swarm_duties.specs.Flights.{item_times};
+ghost use Rattle.swarm_model.specs.Settle.{
+  flight_times,
+  flight_wait,
+  has_waiting_place,
+  least_time,
+  run_wait,
+  update_wait,
+  wait_cmp,
+  watch_times,
+  watch_wait,
+};
+ghost use Rattle.swarm_objects.specs.Bounds.{HasNearTimes, is_near_run, is_near_service, is_near_task};
+ghost use Rattle.swarm_objects.specs.Rows.{keep_least, least_by};
+ghost use Rattle.swarm_objects.specs.Services.Runs.{is_flying};
+ghost use Rattle.swarm_objects.specs.Tasks.Places.{is_in_place};
+ghost use Rattle.swarm_objects.specs.Tasks.Words.{is_running};
+ghost use Rattle.swarm_plain.specs.Plain.{tables_of};
+
+use crate::places::{has_dirty_place, place_numbers};
+use crate::runs::{has_room, is_flying, is_under_way, is_watched};
+use crate::updates::is_to_replace;
+use crate::waits::{Wait, wait_till};
+use swarm_objects::{Cause, Ms, NoMemory, Replaced, Service, Task, UpdateRun};
+use swarm_plain::Plain;
+
+// The time, where it comes before the least one so far.
+fn keep_time(least: Option<Ms>, time: Ms) -> Option<Ms>
+    ensures { result ≡ keep_least nat_cmp least time }
+{
+    match least {
+        Some(held) if held <= time => Some(held),
+        _ => Some(time),
+    }
+}
+
+// Places in flight.
+
+// Some place is to be replaced.
+fn has_waiting_place(plain: &Plain, service: &Service) -> Result<bool, NoMemory>
+    ensures { IfOk result (λ waits. waits ≡ has_waiting_place (tables_of plain.now) service.now) }
+{
+    let numbers = place_numbers(plain, service)?;
+    Ok(
+        numbers
+            .as_slice()
+            .iter()
+            .any(|number| is_to_replace(plain, service, *number)),
+    )
+}
+
+// The task is in flight in the place, and runs.
+fn is_flying_there(plain: &Plain, service: &Service, item: &Replaced, task: &Task) -> bool
+    ensures { let s = service.now in let x = task.now in
+        result ≡ (is_in_place s item.now.place x && is_flying (tables_of plain.now) s x && is_running x) }
+{
+    task.is_in_place(service, item.place) && is_flying(plain, service, task) && task.is_running()
+}
+
+// When the first of the place's tasks in flight that run ceases to be that, or the least time so far.
+fn item_time(plain: &Plain, service: &Service, item: &Replaced, least: Option<Ms>) -> Option<Ms>
+    requires tasks { list_all is_near_task plain.now.tasks ≡ true }
+    requires service { is_near_service service.now ≡ true }
+    ensures { result ≡ least_by nat_cmp least (item_times (tables_of plain.now) service.now item.now) }
+{
+    let mut time = least;
+    for task in plain.tasks.as_slice() {
+        if is_flying_there(plain, service, item, task) {
+            time = keep_time(time, task.since + service.spec.update.delay);
+        }
+    }
+    time
+}
+
+// The same of all places that the run replaced.
+fn flight_time(plain: &Plain, service: &Service, run: &UpdateRun) -> Option<Ms>
+    requires tasks { list_all is_near_task plain.now.tasks ≡ true }
+    requires service { is_near_service service.now ≡ true }
+    ensures { result ≡ least_time (flight_times (tables_of plain.now) service.now run.now) }
+{
+    let mut least = None;
+    for item in run.replaced.as_slice() {
+        least = item_time(plain, service, item, least);
+    }
+    least
+}
+
+// A place that is to be replaced is held back by parallelism.
+fn flight_wait(
+    plain: &Plain,
+    best: Option<Wait>,
+    service: &Service,
+    run: &UpdateRun,
+) -> Result<Option<Wait>, NoMemory>
+    requires tasks { list_all is_near_task plain.now.tasks ≡ true }
+    requires service { is_near_service service.now ≡ true }
+    ensures { let waits = flight_wait (tables_of plain.now) service.now run.now in
+        IfOk result (λ least. least ≡ least_by wait_cmp best waits) }
+{
+    if !has_waiting_place(plain, service)? || has_room(plain, service, run) {
+        return Ok(best);
+    }
+    let time = flight_time(plain, service, run);
+    Ok(wait_till(best, Cause::Update, service.id, time))
+}
+
+// The watching of new tasks.
+
+// When the first of the new tasks that aren't watched yet for the monitor time is.
+fn watch_time(plain: &Plain, service: &Service, run: &UpdateRun) -> Option<Ms>
+    requires service { is_near_service service.now ≡ true }
+    requires run { is_near_run run.now ≡ true }
+    ensures { result ≡ least_time (watch_times (tables_of plain.now) service.now run.now) }
+{
+    let mut least = None;
+    for item in run.replaced.as_slice() {
+        if !is_watched(plain, service, item) {
+            least = keep_time(least, item.created + service.spec.update.monitor);
+        }
+    }
+    least
+}
+
+// Where no place is dirty, new tasks are watched.
+fn watch_wait(plain: &Plain, best: Option<Wait>, service: &Service, run: &UpdateRun) -> Option<Wait>
+    requires service { is_near_service service.now ≡ true }
+    requires run { is_near_run run.now ≡ true }
+    ensures { result ≡ least_by wait_cmp best (watch_wait (tables_of plain.now) service.now run.now) }
+{
+    if has_dirty_place(plain, service) {
+        return best;
+    }
+    let time = watch_time(plain, service, run);
+    wait_till(best, Cause::Update, service.id, time)
+}
+
+fn run_wait(
+    plain: &Plain,
+    best: Option<Wait>,
+    service: &Service,
+    run: &UpdateRun,
+) -> Result<Option<Wait>, NoMemory>
+    requires tasks { list_all is_near_task plain.now.tasks ≡ true }
+    requires service { is_near_service service.now ≡ true }
+    requires run { is_near_run run.now ≡ true }
+    ensures { let waits = run_wait (tables_of plain.now) service.now run.now in
+        IfOk result (λ least. least ≡ least_by wait_cmp best waits) }
+{
+    if !is_under_way(run) {
+        return Ok(best);
+    }
+    let least = flight_wait(plain, best, service, run)?;
+    Ok(watch_wait(plain, least, service, run))
+}
+
+fn update_wait(
+    plain: &Plain,
+    best: Option<Wait>,
+    service: &Service,
+) -> Result<Option<Wait>, NoMemory>
+    requires tasks { list_all is_near_task plain.now.tasks ≡ true }
+    requires service { is_near_service service.now ≡ true }
+    ensures { let waits = update_wait (tables_of plain.now) service.now in
+        IfOk result (λ least. least ≡ least_by wait_cmp best waits) }
+{
+    match &service.run {
+        Some(run) => run_wait(plain, best, service, run),
+        None => Ok(best),
+    }
+}
+
+/// The least of the best wait so far and those for updates.
+pub fn update_waits(plain: &Plain, best: Option<Wait>) -> Result<Option<Wait>, NoMemory>
+    requires { HasNearTimes (tables_of plain.now) }
+    ensures { let waits = flat_map (update_wait (tables_of plain.now)) plain.now.services in
+        IfOk result (λ least. least ≡ least_by wait_cmp best waits) }
+{
+    let mut least = best;
+    for service in plain.services.as_slice() {
+        least = update_wait(plain, least, service)?;
+    }
+    Ok(least)
+}

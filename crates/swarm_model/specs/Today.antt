@@ -1,4 +1,0 @@
-pub mod Calls
-pub mod History
-pub mod Services
-pub mod Settle

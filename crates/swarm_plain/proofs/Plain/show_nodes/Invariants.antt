@@ -1,7 +1,0 @@
-use Rattle.std.proofs.Common.{◌≡◌, take}
-use Rattle.std.specs.Prelude.{map}
-use Rattle.swarm_model.specs.Calls.Views.{shown}
-use Rattle.swarm_plain.proofs.Plain.show_nodes.Given as goal
-
-abbrev pub invariant-loop-node : goal.invariant-loop-node
-invariant-loop-node l = l.rows ≡ map shown (take l.node-index l.node-items)

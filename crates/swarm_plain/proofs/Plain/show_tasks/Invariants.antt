@@ -1,8 +1,0 @@
-use Rattle.std.proofs.Common.{◌≡◌, take}
-use Rattle.std.specs.Prelude.{map}
-use Rattle.swarm_model.specs.Calls.Views.{task_shown}
-use Rattle.swarm_plain.specs.Plain.{tables_of}
-use Rattle.swarm_plain.proofs.Plain.show_tasks.Given as goal
-
-abbrev pub invariant-loop-task : goal.invariant-loop-task
-invariant-loop-task l = l.rows ≡ map (task_shown (tables_of l.self)) (take l.task-index l.task-items)

@@ -1,0 +1,186 @@
+// The operations on nodes.
+ghost use Rattle.std.specs.Prelude.{◌≡◌, ℕ, ◌+◌, ◌^◌, ◌<◌, IfOk, map, if◌then◌else◌};
+ghost use Rattle.swarm_model.specs.Calls.Nodes.{is_left_behind, new_agent, new_node, respecified_node};
+ghost use Rattle.swarm_objects.specs.Changes.{in_state};
+ghost use Rattle.swarm_plain.specs.Operations.{AppliesOp};
+
+use crate::Plain;
+use crate::names::{node_id, node_named, not_found};
+use crate::transactions::check_version;
+use std::alloc::Global;
+use swarm_check::check_node;
+use swarm_objects::limits::MOST_NODES;
+use swarm_objects::{
+    AgentMode, Availability, Duplicate, Id, Kind, Labels, List, Ms, Name, NoMemory, Node,
+    NodeAgent, NodeDraft, NodeRole, NodeState, Op, Refusal, Task, TaskState, Version, drop_row,
+    put_row,
+};
+
+// The row of a node that joins.
+fn new_node(
+    alloc: Global,
+    version: Version,
+    id: Id,
+    name: &Name,
+    draft: &NodeDraft,
+) -> Result<Node, NoMemory>
+    ensures { IfOk result (λ node. node ≡ new_node version id name.now draft.now) }
+{
+    Ok(Node {
+        id,
+        version,
+        name: name.duplicate(alloc)?,
+        labels: draft.labels.duplicate(alloc)?,
+        role: draft.role,
+        availability: draft.availability,
+        state: NodeState::Unknown,
+        down_since: 0,
+        cpu: draft.cpu,
+        mem: draft.mem,
+        os: draft.os.duplicate(alloc)?,
+        arch: draft.arch.duplicate(alloc)?,
+        engine: draft.engine.duplicate(alloc)?,
+        remote: draft.remote,
+    })
+}
+
+// The agent of a node that joins.
+fn new_agent(alloc: Global, node: Id) -> NodeAgent
+    ensures { result ≡ new_agent node }
+{
+    NodeAgent {
+        node,
+        mode: AgentMode::On,
+        inbox: None,
+        applied: 0,
+        executors: List::new(alloc),
+    }
+}
+
+// The node as an update leaves it.
+fn respecified_node(
+    alloc: Global,
+    version: Version,
+    labels: &Labels,
+    role: NodeRole,
+    availability: Availability,
+    node: &Node,
+) -> Result<Node, NoMemory>
+    ensures { IfOk result (λ new. new ≡ respecified_node version labels.now role availability node.now) }
+{
+    Ok(Node {
+        id: node.id,
+        version,
+        name: node.name.duplicate(alloc)?,
+        labels: labels.duplicate(alloc)?,
+        role,
+        availability,
+        state: node.state,
+        down_since: node.down_since,
+        cpu: node.cpu,
+        mem: node.mem,
+        os: node.os.duplicate(alloc)?,
+        arch: node.arch.duplicate(alloc)?,
+        engine: node.engine.duplicate(alloc)?,
+        remote: node.remote,
+    })
+}
+
+// Every task of the node up to RUNNING is ORPHANED now.
+fn orphan(tasks: &mut [Task], version: Version, now: Ms, node: Id)
+    ensures { tasks.new ≡
+        map (λ x. if is_left_behind node x then in_state version now TaskState.Orphaned x else x) tasks.old }
+{
+    for task in tasks.iter_mut() {
+        if task.is_on(node) && task.is_not_over() {
+            task.version = version;
+            task.state = TaskState::Orphaned;
+            task.since = now;
+        }
+    }
+}
+
+impl Plain {
+    // A node joins, and its agent where it isn't remote.
+    pub(crate) fn create_node(
+        &mut self,
+        version: Version,
+        name: &Name,
+        draft: &NodeDraft,
+    ) -> Result<Id, Refusal>
+        requires { self.old.next_id + 1 < 2 ^ 64 }
+        ensures { AppliesOp version (Op.CreateNode name.now draft.now) self.old result self.new }
+    {
+        let id = self.next_id;
+        let node = new_node(self.alloc, version, id, name, draft)?;
+        if let Err(rule) = check_node(&node) {
+            return Err(Refusal::BadSpec(rule));
+        }
+        if let Some(id) = node_id(self.nodes.as_slice(), name) {
+            return Err(Refusal::NameTaken(id));
+        }
+        let count = self.nodes.len();
+        if count >= MOST_NODES {
+            return Err(Refusal::TooMany(Kind::Node, count as u64));
+        }
+        if self.nodes.push(node).is_err() {
+            return Err(Refusal::NoMemory);
+        }
+        if !draft.remote && self.agents.push(new_agent(self.alloc, id)).is_err() {
+            self.nodes.truncate(count);
+            return Err(Refusal::NoMemory);
+        }
+        self.next_id += 1;
+        Ok(id)
+    }
+
+    // A node's labels, role and availability are these.
+    pub(crate) fn update_node(
+        &mut self,
+        version: Version,
+        name: &Name,
+        asked: Option<Version>,
+        labels: &Labels,
+        role: NodeRole,
+        availability: Availability,
+    ) -> Result<Id, Refusal>
+        ensures { AppliesOp version (Op.UpdateNode name.now asked labels.now role availability)
+            self.old result self.new }
+    {
+        let Some(node) = node_named(self.nodes.as_slice(), name) else {
+            return Err(not_found(self.alloc, Kind::Node, name));
+        };
+        check_version(asked, node.version)?;
+        let new = respecified_node(self.alloc, version, labels, role, availability, node)?;
+        if let Err(rule) = check_node(&new) {
+            return Err(Refusal::BadSpec(rule));
+        }
+        let id = node.id;
+        put_row(self.alloc, &mut self.nodes, new)?;
+        Ok(id)
+    }
+
+    // A node leaves, with all that it had. Its tasks up to RUNNING are left behind.
+    pub(crate) fn remove_node(
+        &mut self,
+        version: Version,
+        name: &Name,
+        force: bool,
+    ) -> Result<Id, Refusal>
+        ensures { AppliesOp version (Op.RemoveNode name.now force) self.old result self.new }
+    {
+        let Some(node) = node_named(self.nodes.as_slice(), name) else {
+            return Err(not_found(self.alloc, Kind::Node, name));
+        };
+        let id = node.id;
+        if !force && !node.is_down() {
+            return Err(Refusal::NodeNotDown(node.state));
+        }
+        orphan(self.tasks.as_mut_slice(), version, self.clock, id);
+        drop_row(&mut self.nodes, id);
+        drop_row(&mut self.sessions, id);
+        drop_row(&mut self.sent, id);
+        drop_row(&mut self.agents, id);
+        Ok(id)
+    }
+}
