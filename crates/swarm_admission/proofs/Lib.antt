@@ -1,0 +1,3 @@
+pub mod Filtering
+mod Placing
+mod Supported

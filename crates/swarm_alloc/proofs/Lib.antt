@@ -1,0 +1,5 @@
+mod AnyOf
+mod Applying
+mod FreeNumbers
+mod Pooled
+mod Steps

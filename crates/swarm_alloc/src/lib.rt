@@ -1,0 +1,14 @@
+// The duties of the allocator over any rows: which is the first, and what each changes.
+#![tactic(auto)]
+
+mod changing;
+mod finding;
+mod free_numbers;
+mod held;
+mod pooling;
+mod ports;
+#[cfg(test)]
+mod tests;
+
+pub use changing::changes;
+pub use finding::least;

@@ -1,0 +1,2 @@
+mod Olds
+mod Steps

@@ -1,0 +1,5 @@
+mod Bits
+mod Parts
+mod Taken
+mod Pools
+mod Subnets

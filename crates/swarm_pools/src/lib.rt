@@ -1,0 +1,12 @@
+// Pools of numbers to give out: ingress ports of a protocol, and addresses of a network.
+#![tactic(auto)]
+
+mod places;
+mod pool;
+mod subnet;
+#[cfg(test)]
+mod tests;
+mod words;
+
+pub use pool::Pool;
+pub use subnet::usable;

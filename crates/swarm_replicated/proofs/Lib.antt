@@ -1,0 +1,2 @@
+mod Crowds
+mod Steps

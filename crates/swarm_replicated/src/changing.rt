@@ -1,0 +1,39 @@
+// What the duties change.
+ghost use Rattle.std.specs.Prelude.{◌≡◌, IfOk};
+ghost use Rattle.swarm_objects.specs.Kinds.{role_of};
+ghost use Rattle.swarm_objects.specs.declared.loops.Role.TheVariants as role;
+ghost use Rattle.swarm_roles.specs.Changes.{Makes};
+ghost use Rattle.swarm_roles.specs.Effects.{after_duty};
+ghost use Rattle.swarm_roles.specs.Usable.{IsUsable};
+
+use std::alloc::Global;
+use swarm_objects::{Change, Desired, Duty, List, NoMemory, Rows, Version};
+use swarm_roles::{create_task, remove_place, want};
+
+/// The changes that a duty on replicated services makes as the entry with this number. Whether it is due isn't asked:
+/// what isn't there is left out.
+pub fn changes<R: Rows>(
+    alloc: Global,
+    rows: &R,
+    version: Version,
+    duty: Duty,
+) -> Result<List<Change>, NoMemory>
+    requires usable { IsUsable (R.tables rows.now) }
+    requires own { role_of duty ≡ role.Replicated }
+    ensures { let t = R.tables rows.now in
+        IfOk result (λ changes. Makes t changes (after_duty version t duty)) }
+{
+    match duty {
+        Duty::Gone(task) => want(alloc, rows, version, task, Desired::Remove),
+        Duty::Down(service, slot) => remove_place(alloc, rows, version, service, slot),
+        Duty::ReplicatedCreate(service, slot) => create_task(
+            alloc,
+            rows,
+            version,
+            service,
+            slot,
+            Desired::Running,
+        ),
+        _ => Ok(List::new(alloc)),
+    }
+}

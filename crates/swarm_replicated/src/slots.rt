@@ -1,0 +1,40 @@
+// Slots that are given up, and slots that get a task.
+ghost use Rattle.std.specs.Prelude.{◌≡◌};
+ghost use Rattle.swarm_objects.specs.Loops.Replicated.{create_duty, down_duty};
+ghost use Rattle.swarm_objects.specs.Rows.{first_of};
+ghost use Rattle.swarm_roles.specs.Usable.{IsUsable};
+
+use crate::order::first_to_go;
+use swarm_objects::{Duty, Mode, Rows, Service};
+use swarm_roles::{first_gap, held_count};
+
+/// The slot that the service gives up, where more are held than there are to be replicas.
+pub fn down_duty<R: Rows>(rows: &R, service: &Service) -> Option<Duty>
+    requires { IsUsable (R.tables rows.now) }
+    ensures { result ≡ first_of (down_duty (R.tables rows.now) service.now service.now.spec.mode) }
+{
+    let Mode::Replicated(replicas) = service.spec.mode else {
+        return None;
+    };
+    if held_count(rows, service) <= replicas {
+        return None;
+    }
+    match first_to_go(rows, service) {
+        Some(slot) => Some(Duty::Down(service.id, slot)),
+        None => None,
+    }
+}
+
+/// The slot in which the service gets a new task, where fewer are held than there are to be replicas.
+pub fn create_duty<R: Rows>(rows: &R, service: &Service) -> Option<Duty>
+    requires { IsUsable (R.tables rows.now) }
+    ensures { result ≡ first_of (create_duty (R.tables rows.now) service.now service.now.spec.mode) }
+{
+    let Mode::Replicated(replicas) = service.spec.mode else {
+        return None;
+    };
+    if replicas <= held_count(rows, service) {
+        return None;
+    }
+    Some(Duty::ReplicatedCreate(service.id, first_gap(rows, service, 1)))
+}

@@ -1,0 +1,4 @@
+mod Beside
+mod Closings
+mod Replacements
+mod Steps

@@ -1,0 +1,12 @@
+use Rattle.std.proofs.Common.{◌≡◌}
+use Rattle.swarm_objects.specs.Loops.Restart.{wants_restart}
+use Rattle.swarm_objects.specs.Loops.Words.{duty_where}
+use Rattle.swarm_objects.specs.Rows.{first_of}
+use Rattle.swarm_objects.specs.declared.duties.Duty.TheVariants as duty
+use Rattle.swarm_restart.proofs.first_restart.Given as goal
+
+abbrev pub invariant-loop-task : goal.invariant-loop-task
+invariant-loop-task g l =
+    let t = g.R.Rows.tables l.rows in
+    first_of (duty_where (wants_restart t) (λ x. duty.Restart x.id) l.task-iterator)
+    ≡ first_of (duty_where (wants_restart t) (λ x. duty.Restart x.id) t.tasks)

@@ -1,0 +1,6 @@
+pub mod WalkLemmas
+pub mod PlaceLemmas
+pub mod NumberLemmas
+pub mod Few
+pub mod Applied
+pub mod EffectLaws

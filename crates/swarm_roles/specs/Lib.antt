@@ -1,0 +1,5 @@
+pub mod Changes
+pub mod Effects
+pub mod Homes
+pub mod Usable
+pub mod Walks

@@ -1,0 +1,22 @@
+// What every control loop over any rows stands on: going over rows, words on places and nodes, and changes of tasks.
+#![tactic(auto)]
+
+mod changing;
+mod node_words;
+mod places;
+mod theorems;
+mod walks;
+
+pub use changing::{
+    create_task, drop_task, in_state, noted, remove_place, set_note, set_state, want, wanted,
+};
+pub use node_words::{is_astray, is_homed, is_valid, meets_all, node_of};
+pub use places::{
+    HeldPlaces, PlaceNumbers, PlaceTasks, first_gap, has_live, held_count, held_places,
+    is_held_place, live_count, newest, place_numbers, place_tasks, tasks_of_place,
+};
+pub use theorems::{duties_change_tables, small_worlds_are_usable};
+pub use walks::{
+    NetworkRows, NodeRows, NodeTasks, ServiceRows, ServiceTasks, TaskRows, networks, nodes,
+    services, tasks, tasks_of, tasks_on,
+};

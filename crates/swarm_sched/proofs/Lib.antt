@@ -1,0 +1,2 @@
+mod LabelValues
+mod Scheduling

@@ -1,0 +1,80 @@
+// The scheduler's duties over any rows: the first, and what each changes. The best node is found by scans.
+#![tactic(auto)]
+
+mod branches;
+mod changing;
+mod keys;
+mod placing;
+
+ghost use Rattle.std.specs.Prelude.{◌≡◌, None};
+ghost use Rattle.swarm_objects.specs.Loops.Scheduler.{
+  is_to_drop,
+  is_to_place,
+  placing,
+  schedule,
+  scheduler,
+};
+ghost use Rattle.swarm_objects.specs.Rows.{first_of};
+ghost use Rattle.swarm_roles.specs.Usable.{IsUsable};
+
+pub use changing::changes;
+pub use placing::best_node;
+use swarm_admission::counts;
+use swarm_objects::{Duty, Note, Rows, Task};
+use swarm_roles::tasks;
+
+// The task isn't placed yet, and is to stop.
+fn is_to_drop(task: &Task) -> bool
+    ensures { result ≡ is_to_drop task.now }
+{
+    task.is_below_assigned() && task.is_unwanted()
+}
+
+// The task waits for a node, and is to run.
+fn is_to_place(task: &Task) -> bool
+    ensures { result ≡ is_to_place task.now }
+{
+    task.state.is_pending() && task.is_wanted()
+}
+
+// The note of a task that no node admits is to say why, unless it does.
+fn explanation<R: Rows>(rows: &R, task: &Task) -> Option<Duty>
+    requires { IsUsable (R.tables rows.now) }
+    ensures { result ≡ first_of (placing (R.tables rows.now) task.now None) }
+{
+    if Note::Filters(counts(rows, task)) == task.note {
+        None
+    } else {
+        Some(Duty::Explain(task.id))
+    }
+}
+
+// What there is to do about the task.
+fn schedule<R: Rows>(rows: &R, task: &Task) -> Option<Duty>
+    requires { IsUsable (R.tables rows.now) }
+    ensures { result ≡ first_of (schedule (R.tables rows.now) task.now) }
+{
+    if is_to_drop(task) {
+        return Some(Duty::Drop(task.id));
+    }
+    if !is_to_place(task) {
+        return None;
+    }
+    match best_node(rows, task) {
+        Some(node) => Some(Duty::Place(task.id, node.id)),
+        None => explanation(rows, task),
+    }
+}
+
+/// The scheduler's first duty.
+pub fn least<R: Rows>(rows: &R) -> Option<Duty>
+    requires { IsUsable (R.tables rows.now) }
+    ensures { result ≡ first_of (scheduler (R.tables rows.now)) }
+{
+    for task in tasks(rows) {
+        if let Some(duty) = schedule(rows, task) {
+            return Some(duty);
+        }
+    }
+    None
+}

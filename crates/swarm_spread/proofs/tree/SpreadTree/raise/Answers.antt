@@ -1,0 +1,15 @@
+use Rattle.std.proofs.Common.{refl, rules, ◌+◌}
+use Rattle.swarm_spread.specs.Counts.{one_more}
+use Rattle.swarm_spread.proofs.PlaceLemmas.{change_nowhere, change_there}
+use Rattle.swarm_spread.proofs.tree.SpreadTree.raise.Goals as goal
+
+pub returns-in-Some-clause-count : goal.returns-in-Some-clause-count
+returns-in-Some-clause-count c =
+    change_there one_more c.args.node c.in-Some.place c.index_mut.result.now (c.index_mut.result.now + 1) c.self.inside.nodes
+    c.self.inside.paths c.self.inside.here.items c.self.inside.levels c.args.self.now c.self.view_is c.self.invariant
+    (search rules) (search rules) refl
+
+pub returns-in-None-clause-count : goal.returns-in-None-clause-count
+returns-in-None-clause-count c =
+    change_nowhere one_more c.args.node c.self.inside.nodes c.self.inside.paths c.self.inside.here.items c.self.inside.levels
+    c.args.self.now c.self.view_is c.self.invariant (search rules)

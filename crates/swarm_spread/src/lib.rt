@@ -1,0 +1,12 @@
+// The counts of a service's tasks, on each node and in each branch of its placement preferences.
+#![tactic(auto)]
+
+mod admits;
+mod levels;
+#[cfg(test)]
+mod tests;
+mod tree;
+mod values;
+
+pub use admits::Admits;
+pub use tree::SpreadTree;

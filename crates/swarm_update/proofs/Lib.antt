@@ -1,0 +1,4 @@
+mod Failures
+mod Replacements
+mod Running
+mod Steps

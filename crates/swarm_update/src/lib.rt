@@ -1,0 +1,137 @@
+// The duties on rolling updates over any rows: the first, and what each changes.
+#![tactic(auto)]
+
+mod changing;
+mod failing;
+mod places;
+mod replacing;
+mod runs;
+mod starting;
+
+ghost use Rattle.std.specs.Prelude.{◌≡◌, Some};
+ghost use Rattle.swarm_objects.specs.Loops.Update.{
+  is_to_replace,
+  is_to_swap,
+  lets_replace,
+  run_duties,
+  update,
+  update_duties,
+};
+ghost use Rattle.swarm_objects.specs.Loops.Words.{places_where};
+ghost use Rattle.swarm_objects.specs.Rows.{first_of};
+ghost use Rattle.swarm_objects.specs.Services.Runs.{is_of_version};
+ghost use Rattle.swarm_objects.specs.Tasks.Places.{place_numbers};
+ghost use Rattle.std.specs.Prelude.{◌&&◌};
+ghost use Rattle.swarm_roles.specs.Usable.{IsUsable};
+
+use crate::places::{is_to_replace, is_to_swap};
+use crate::runs::{fails, is_of_version, is_to_finish, is_to_start, is_under_way, lets_replace};
+pub use changing::changes;
+use swarm_objects::{Duty, Rows, Service, UpdateRun};
+use swarm_roles::{place_numbers, services};
+
+// The first place whose old tasks are to stop.
+fn first_swap<R: Rows>(rows: &R, service: &Service, run: &UpdateRun) -> Option<Duty>
+    requires { IsUsable (R.tables rows.now) }
+    ensures { let t = R.tables rows.now in let s = service.now in result ≡ first_of
+        (places_where (is_of_version s run.now) (is_to_swap t s) (Duty.Swap s.id) (place_numbers t s)) }
+{
+    if !is_of_version(service, run) {
+        return None;
+    }
+    for number in place_numbers(rows, service) {
+        if is_to_swap(rows, service, number) {
+            return Some(Duty::Swap(service.id, number));
+        }
+    }
+    None
+}
+
+// The run is to the present template, and one more place may be replaced.
+fn replaces<R: Rows>(rows: &R, service: &Service, run: &UpdateRun) -> bool
+    requires { IsUsable (R.tables rows.now) }
+    ensures { result ≡ (is_of_version service.now run.now && lets_replace (R.tables rows.now) service.now run.now) }
+{
+    is_of_version(service, run) && lets_replace(rows, service, run)
+}
+
+// The first place that is to get a new task.
+fn first_replace<R: Rows>(rows: &R, service: &Service, run: &UpdateRun) -> Option<Duty>
+    requires { IsUsable (R.tables rows.now) }
+    ensures { let t = R.tables rows.now in let s = service.now in
+        let may = is_of_version s run.now && lets_replace t s run.now in result ≡ first_of
+        (places_where may (is_to_replace t s) (Duty.Replace s.id) (place_numbers t s)) }
+{
+    if !replaces(rows, service, run) {
+        return None;
+    }
+    for number in place_numbers(rows, service) {
+        if is_to_replace(rows, service, number) {
+            return Some(Duty::Replace(service.id, number));
+        }
+    }
+    None
+}
+
+// What there is to do about the run of a service.
+#[tactic(auto, using(crate::proofs::Steps::first_steps))]
+fn first_of_run<R: Rows>(rows: &R, service: &Service, run: &UpdateRun) -> Option<Duty>
+    requires { IsUsable (R.tables rows.now) }
+    ensures { result ≡ first_of (run_duties (R.tables rows.now) service.now (Some run.now)) }
+{
+    if !is_under_way(run) {
+        return None;
+    }
+    if fails(rows, service, run) {
+        return Some(Duty::Fail(service.id));
+    }
+    if let Some(duty) = first_swap(rows, service, run) {
+        return Some(duty);
+    }
+    if let Some(duty) = first_replace(rows, service, run) {
+        return Some(duty);
+    }
+    if is_to_finish(rows, service, run) {
+        return Some(Duty::Finish(service.id));
+    }
+    None
+}
+
+// The same, where the service has a run.
+fn run_duty<R: Rows>(rows: &R, service: &Service) -> Option<Duty>
+    requires { IsUsable (R.tables rows.now) }
+    ensures { result ≡ first_of (run_duties (R.tables rows.now) service.now service.now.run) }
+{
+    match &service.run {
+        Some(run) => first_of_run(rows, service, run),
+        None => None,
+    }
+}
+
+// What there is to do about the service.
+#[tactic(auto, using(crate::proofs::Steps::first_steps))]
+fn update_duty<R: Rows>(rows: &R, service: &Service) -> Option<Duty>
+    requires { IsUsable (R.tables rows.now) }
+    ensures { result ≡ first_of (update_duties (R.tables rows.now) service.now service.now.spec.mode) }
+{
+    if service.spec.mode.is_job() {
+        return None;
+    }
+    if is_to_start(rows, service) {
+        return Some(Duty::Start(service.id));
+    }
+    run_duty(rows, service)
+}
+
+/// The first duty on rolling updates.
+pub fn least<R: Rows>(rows: &R) -> Option<Duty>
+    requires { IsUsable (R.tables rows.now) }
+    ensures { result ≡ first_of (update (R.tables rows.now)) }
+{
+    for service in services(rows) {
+        if let Some(duty) = update_duty(rows, service) {
+            return Some(duty);
+        }
+    }
+    None
+}

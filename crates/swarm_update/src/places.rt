@@ -1,0 +1,118 @@
+// The places of a service in an update.
+ghost use Rattle.std.specs.Prelude.{◌≡◌, ◌&&◌, length};
+ghost use Rattle.std.specs.List.{list_any};
+ghost use Rattle.swarm_objects.specs.Loops.Update.{is_to_replace, is_to_swap};
+ghost use Rattle.swarm_objects.specs.Rows.{is_some_and};
+ghost use Rattle.swarm_objects.specs.Services.Words.{is_live_clean, is_live_dirty};
+ghost use Rattle.swarm_objects.specs.Tasks.Places.{
+  closes_dirty,
+  dirty_places,
+  has_clean,
+  has_dirty_place,
+  is_dirty_place,
+  newest,
+  place_tasks,
+};
+ghost use Rattle.swarm_objects.specs.Tasks.Words.{is_running};
+ghost use Rattle.swarm_roles.specs.Usable.{IsUsable};
+
+use swarm_objects::{Rows, Service, Task};
+use swarm_roles::{has_live, newest, place_numbers, place_tasks};
+
+// A dirty live task stands in the place.
+fn has_live_dirty<R: Rows>(rows: &R, service: &Service, number: u64) -> bool
+    requires { IsUsable (R.tables rows.now) }
+    ensures { let t = R.tables rows.now in
+        result ≡ list_any (is_live_dirty service.now) (place_tasks t service.now number) }
+{
+    place_tasks(rows, service, number).any(|task| task.is_live_dirty(service))
+}
+
+// The newest task of the place closes it, and is dirty.
+fn is_closed_dirty<R: Rows>(rows: &R, service: &Service, number: u64) -> bool
+    requires { IsUsable (R.tables rows.now) }
+    ensures { let t = R.tables rows.now in
+        result ≡ is_some_and (closes_dirty service.now) (newest (place_tasks t service.now number)) }
+{
+    match newest(rows, service, service.spec.mode.place_at(number)) {
+        Some(task) => task.closes_dirty(service),
+        None => false,
+    }
+}
+
+// The place is dirty: it has a dirty live task, or no live one and its newest task closes it and is dirty.
+fn is_dirty_place<R: Rows>(rows: &R, service: &Service, number: u64) -> bool
+    requires { IsUsable (R.tables rows.now) }
+    ensures { result ≡ is_dirty_place (R.tables rows.now) service.now number }
+{
+    has_live_dirty(rows, service, number)
+        || (!has_live(rows, service, number) && is_closed_dirty(rows, service, number))
+}
+
+/// A place of the service is dirty.
+pub fn has_dirty_place<R: Rows>(rows: &R, service: &Service) -> bool
+    requires { IsUsable (R.tables rows.now) }
+    ensures { result ≡ has_dirty_place (R.tables rows.now) service.now }
+{
+    for number in place_numbers(rows, service) {
+        if is_dirty_place(rows, service, number) {
+            return true;
+        }
+    }
+    false
+}
+
+/// How many places of the service are dirty.
+#[tactic(auto, using(crate::proofs::Steps::dirty_steps))]
+pub fn dirty_count<R: Rows>(rows: &R, service: &Service) -> u64
+    requires { IsUsable (R.tables rows.now) }
+    ensures { result ≡ length (dirty_places (R.tables rows.now) service.now) }
+{
+    let mut count = 0;
+    for number in place_numbers(rows, service) {
+        if is_dirty_place(rows, service, number) {
+            count += 1;
+        }
+    }
+    count
+}
+
+// A clean live task stands in the place.
+fn has_clean<R: Rows>(rows: &R, service: &Service, number: u64) -> bool
+    requires { IsUsable (R.tables rows.now) }
+    ensures { result ≡ has_clean (R.tables rows.now) service.now number }
+{
+    place_tasks(rows, service, number).any(|task| task.is_live_clean(service))
+}
+
+// The task is clean and live, and runs.
+fn is_running_clean(service: &Service, task: &Task) -> bool
+    ensures { result ≡ (is_live_clean service.now task.now && is_running task.now) }
+{
+    task.is_live_clean(service) && task.is_running()
+}
+
+// Such a task stands in the place.
+fn has_running_clean<R: Rows>(rows: &R, service: &Service, number: u64) -> bool
+    requires { IsUsable (R.tables rows.now) }
+    ensures { let t = R.tables rows.now in
+        result ≡ list_any (λ x. is_live_clean service.now x && is_running x) (place_tasks t service.now number) }
+{
+    place_tasks(rows, service, number).any(|task| is_running_clean(service, task))
+}
+
+/// A clean live task of the place runs, and a dirty one is live.
+pub fn is_to_swap<R: Rows>(rows: &R, service: &Service, number: u64) -> bool
+    requires { IsUsable (R.tables rows.now) }
+    ensures { result ≡ is_to_swap (R.tables rows.now) service.now number }
+{
+    has_running_clean(rows, service, number) && has_live_dirty(rows, service, number)
+}
+
+/// The place is dirty, without a clean live task.
+pub fn is_to_replace<R: Rows>(rows: &R, service: &Service, number: u64) -> bool
+    requires { IsUsable (R.tables rows.now) }
+    ensures { result ≡ is_to_replace (R.tables rows.now) service.now number }
+{
+    is_dirty_place(rows, service, number) && !has_clean(rows, service, number)
+}

@@ -1,0 +1,229 @@
+// Update runs: their failures, their places in flight, and what they allow.
+ghost use Rattle.std.specs.Prelude.{◌≡◌, count_by, filter};
+ghost use Rattle.std.specs.List.{list_all};
+ghost use Rattle.swarm_objects.specs.Loops.Update.{
+  is_to_finish,
+  is_to_start,
+  is_watched,
+  lets_replace,
+};
+ghost use Rattle.swarm_objects.specs.Rows.{is_some_and};
+ghost use Rattle.swarm_objects.specs.Services.Runs.{
+  counts_as_failure,
+  failures,
+  fails,
+  goes_on,
+  has_room,
+  in_flight,
+  is_exceeded,
+  is_failure,
+  is_flying,
+  is_in_flight,
+  is_of_version,
+  is_open,
+  is_present,
+  is_under_way,
+};
+ghost use Rattle.swarm_objects.specs.Tasks.Words.{is_of};
+ghost use Rattle.swarm_roles.specs.Usable.{IsUsable};
+
+use crate::places::has_dirty_place;
+use swarm_objects::{
+    FailureAction, Replaced, Rows, RunStatus, Service, Task, TaskState, UpdateRun,
+};
+use swarm_roles::{tasks_of, tasks_of_place};
+
+// An update that replaces places, back or forth.
+fn is_open(status: RunStatus) -> bool
+    ensures { result ≡ is_open status }
+{
+    match status {
+        RunStatus::Updating | RunStatus::RollbackStarted => true,
+        _ => false,
+    }
+}
+
+/// The run is under way.
+pub fn is_under_way(run: &UpdateRun) -> bool
+    ensures { result ≡ is_under_way run.now }
+{
+    is_open(run.status)
+}
+
+/// It is a run to the service's present template.
+pub fn is_of_version(service: &Service, run: &UpdateRun) -> bool
+    ensures { result ≡ is_of_version service.now run.now }
+{
+    run.version == service.template_version
+}
+
+// It is one under way to the present template.
+fn is_present(service: &Service, run: &UpdateRun) -> bool
+    ensures { result ≡ is_present service.now run.now }
+{
+    is_under_way(run) && is_of_version(service, run)
+}
+
+// A task that is in this state has failed its update.
+fn counts_as_failure(state: TaskState) -> bool
+    ensures { result ≡ counts_as_failure state }
+{
+    match state {
+        TaskState::Rejected | TaskState::Complete | TaskState::Failed => true,
+        _ => false,
+    }
+}
+
+// The task is one of the run's, and ended within the monitor time.
+fn is_failure(service: &Service, run: &UpdateRun, task: &Task) -> bool
+    ensures { result ≡ is_failure service.now run.now task.now }
+{
+    let watched_till = u128::from(task.created) + u128::from(service.spec.update.monitor);
+    task.is_of(service.id)
+        && task.born == run.version
+        && counts_as_failure(task.state)
+        && u128::from(task.since) < watched_till
+}
+
+// How many of the service's tasks have failed the run.
+#[tactic(auto, using(crate::proofs::Steps::failure_steps))]
+fn failures_of<R: Rows>(rows: &R, service: &Service, run: &UpdateRun) -> u64
+    requires { IsUsable (R.tables rows.now) }
+    ensures { let t = R.tables rows.now in
+        result ≡ count_by (is_failure service.now run.now) (filter (is_of service.now.id) t.tasks) }
+{
+    let mut count = 0;
+    for task in tasks_of(rows, service.id) {
+        if is_failure(service, run, task) {
+            count += 1;
+        }
+    }
+    count
+}
+
+// How many tasks have failed the run.
+fn failures<R: Rows>(rows: &R, service: &Service, run: &UpdateRun) -> u64
+    requires { IsUsable (R.tables rows.now) }
+    ensures { result ≡ failures (R.tables rows.now) service.now run.now }
+{
+    failures_of(rows, service, run)
+}
+
+// More tasks have failed than the ratio bears, in thousandths.
+fn is_exceeded<R: Rows>(rows: &R, service: &Service, run: &UpdateRun) -> bool
+    requires { IsUsable (R.tables rows.now) }
+    ensures { result ≡ is_exceeded (R.tables rows.now) service.now run.now }
+{
+    let borne = u128::from(service.spec.update.ratio) * u128::from(run.total);
+    borne < 1000 * u128::from(failures(rows, service, run))
+}
+
+// The update goes on whatever fails.
+fn goes_on(action: FailureAction) -> bool
+    ensures { result ≡ goes_on action }
+{
+    match action {
+        FailureAction::Continue => true,
+        FailureAction::Pause | FailureAction::Rollback => false,
+    }
+}
+
+/// The update has failed.
+pub fn fails<R: Rows>(rows: &R, service: &Service, run: &UpdateRun) -> bool
+    requires { IsUsable (R.tables rows.now) }
+    ensures { result ≡ fails (R.tables rows.now) service.now run.now }
+{
+    is_present(service, run)
+        && !goes_on(service.spec.update.action)
+        && is_exceeded(rows, service, run)
+}
+
+// The task is clean and live, and isn't yet RUNNING for the delay.
+fn is_flying<R: Rows>(rows: &R, service: &Service, task: &Task) -> bool
+    ensures { result ≡ is_flying (R.tables rows.now) service.now task.now }
+{
+    let flies_till = u128::from(task.since) + u128::from(service.spec.update.delay);
+    task.is_live_clean(service)
+        && (task.is_below_running() || (task.is_running() && u128::from(rows.now()) < flies_till))
+}
+
+// Such a task stands in the place that the run has replaced.
+fn is_in_flight<R: Rows>(rows: &R, service: &Service, item: &Replaced) -> bool
+    requires { IsUsable (R.tables rows.now) }
+    ensures { result ≡ is_in_flight (R.tables rows.now) service.now item.now }
+{
+    tasks_of_place(rows, service, item.place).any(|task| is_flying(rows, service, task))
+}
+
+// How many of the replaced places are in flight.
+fn in_flight<R: Rows>(rows: &R, service: &Service, run: &UpdateRun) -> usize
+    requires { IsUsable (R.tables rows.now) }
+    ensures { result ≡ in_flight (R.tables rows.now) service.now run.now }
+{
+    run.replaced
+        .as_slice()
+        .iter()
+        .filter(|item| is_in_flight(rows, service, item))
+        .count()
+}
+
+// The parallelism lets one more place be in flight.
+fn has_room<R: Rows>(rows: &R, service: &Service, run: &UpdateRun) -> bool
+    requires { IsUsable (R.tables rows.now) }
+    ensures { result ≡ has_room (R.tables rows.now) service.now run.now }
+{
+    let parallelism = service.spec.update.parallelism;
+    parallelism == 0 || (in_flight(rows, service, run) as u64) < parallelism
+}
+
+/// One more place may be replaced.
+pub fn lets_replace<R: Rows>(rows: &R, service: &Service, run: &UpdateRun) -> bool
+    requires { IsUsable (R.tables rows.now) }
+    ensures { result ≡ lets_replace (R.tables rows.now) service.now run.now }
+{
+    has_room(rows, service, run) && !fails(rows, service, run)
+}
+
+// The new task of the place was watched for the monitor time.
+fn is_watched<R: Rows>(rows: &R, service: &Service, item: &Replaced) -> bool
+    ensures { result ≡ is_watched (R.tables rows.now) service.now item.now }
+{
+    let watched_till = u128::from(item.created) + u128::from(service.spec.update.monitor);
+    watched_till <= u128::from(rows.now())
+}
+
+// Each new task of the run was watched for the monitor time.
+fn all_watched<R: Rows>(rows: &R, service: &Service, run: &UpdateRun) -> bool
+    ensures { result ≡ list_all (is_watched (R.tables rows.now) service.now) run.now.replaced }
+{
+    run.replaced
+        .as_slice()
+        .iter()
+        .all(|item| is_watched(rows, service, item))
+}
+
+/// All places are clean, and their new tasks were watched.
+pub fn is_to_finish<R: Rows>(rows: &R, service: &Service, run: &UpdateRun) -> bool
+    requires { IsUsable (R.tables rows.now) }
+    ensures { result ≡ is_to_finish (R.tables rows.now) service.now run.now }
+{
+    !has_dirty_place(rows, service) && all_watched(rows, service, run) && !fails(rows, service, run)
+}
+
+// The service has a run to its present template.
+fn has_present_run(service: &Service) -> bool
+    ensures { result ≡ is_some_and (is_of_version service.now) service.now.run }
+{
+    match &service.run {
+        Some(run) => is_of_version(service, run),
+        None => false,
+    }
+}
+
+/// A dirty place is there, and no run to the present template.
+pub fn is_to_start<R: Rows>(rows: &R, service: &Service) -> bool
+    requires { IsUsable (R.tables rows.now) }
+    ensures { result ≡ is_to_start (R.tables rows.now) service.now }
+{
+    has_dirty_place(rows, service) && !has_present_run(service)
+}
