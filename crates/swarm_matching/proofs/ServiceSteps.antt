@@ -1,0 +1,86 @@
+-- What a step leaves of a service's places: the same ones, or none.
+use Rattle.std.proofs.Common.{Bool, ap, arith, false, not, refl, true, ℕ, ◌+◌, ◌∙◌, ◌≡◌}
+use Rattle.std.proofs.lemmas.Bool.Decides.{nat_tests}
+use Rattle.std.specs.Prelude.{◌&&◌, ◌==◌, ◌||◌}
+use Rattle.swarm_matching.proofs.PlaceLists.{SamePlaces, counts-of}
+use Rattle.swarm_matching.proofs.Shapes.{Base, Respecifies, RunStep, SameButRun, begins, ends, goes_back}
+use Rattle.swarm_matching.proofs.Tests.{no-way, refuted}
+use Rattle.swarm_model.proofs.Laws.OneEach.{IsAlike}
+use Rattle.swarm_model.specs.Calls.Services.{next_iteration}
+use Rattle.swarm_objects.specs.Rows.{Has}
+use Rattle.swarm_objects.specs.Services.Words.{is_job}
+use Rattle.swarm_objects.specs.Tasks.Places.{counts_for}
+use Rattle.swarm_objects.specs.World.{Tables}
+use Rattle.swarm_objects.specs.declared.services.Mode.TheVariants as mode
+use Rattle.swarm_objects.specs.declared.services.Mode.{Mode}
+use Rattle.swarm_objects.specs.declared.services.Service.{Service}
+use Rattle.swarm_objects.specs.declared.services.ServiceSpec.{ServiceSpec}
+use Rattle.swarm_objects.specs.declared.tasks.Task.{Task}
+
+pub alike-job : (a b : Mode) → IsAlike a b → is_job a ≡ is_job b
+alike-job (mode.Replicated a) (mode.Replicated b) e = refl
+alike-job mode.Global mode.Global e = refl
+alike-job (mode.Job a b) (mode.Job c d) e = refl
+alike-job (mode.Replicated a) mode.Global e = absurd cc
+alike-job (mode.Replicated a) (mode.Job c d) e = absurd cc
+alike-job mode.Global (mode.Replicated b) e = absurd cc
+alike-job mode.Global (mode.Job c d) e = absurd cc
+alike-job (mode.Job a b) (mode.Replicated c) e = absurd cc
+alike-job (mode.Job a b) mode.Global e = absurd cc
+
+but-run-places : (s v : Service) → SameButRun s v → SamePlaces s v
+but-run-places s v but =
+    record { id = but.id; job = ap (λ (q : ServiceSpec). is_job q.mode) but.spec; now = λ j. but.iteration }
+
+-- a step of a run keeps the places
+pub run-places : (e : ℕ) (t : Tables) (s v : Service) → RunStep e t s v → SamePlaces s v
+run-places e t s v (begins run but at version way) = but-run-places s v but
+run-places e t s v (ends old run but at to version none) = but-run-places s v but
+run-places e t s v (goes_back spec run id previous is alike iteration template at version way) = record {
+  id = id;
+  job = ap (λ (q : ServiceSpec). is_job q.mode) is ∙ alike-job spec.mode s.spec.mode alike;
+  now = λ j. iteration;
+}
+
+next-still : (m : Mode) (k : ℕ) → is_job m ≡ false → next_iteration m k ≡ k
+next-still (mode.Replicated n) k e = refl
+next-still mode.Global k e = refl
+next-still (mode.Job c n) k e = absurd cc
+
+next-more : (m : Mode) (k : ℕ) → is_job m ≡ true → next_iteration m k ≡ k + 1
+next-more (mode.Replicated n) k e = absurd cc
+next-more mode.Global k e = absurd cc
+next-more (mode.Job c n) k e = refl
+
+-- a new specification keeps the places of a service that is no job
+pub respecified-places : (e : ℕ) (spec : ServiceSpec) (s v : Service) → Respecifies e spec s v →
+    is_job s.spec.mode ≡ false → SamePlaces s v
+respecified-places e spec s v r no_job = record {
+  id = r.id;
+  job = ap (λ (q : ServiceSpec). is_job q.mode) r.spec_is ∙ alike-job spec.mode s.spec.mode r.alike;
+  now = λ j. no-way (is_job s.spec.mode) no_job j;
+}
+
+-- and no task counts for a job with a new one
+pub respecified-none : (e : ℕ) (t : Tables) (spec : ServiceSpec) (s v : Service) → Base t → Has t.services s →
+    Respecifies e spec s v → is_job s.spec.mode ≡ true → (x : Task) → Has t.tasks x → counts_for v x ≡ false
+respecified-none e t spec s v base there r job x h =
+    refuted (counts_for v x)
+    (λ counts.
+    let most = base.most x s h there (counts-of v x counts ∙ r.id) in
+    let later : v.iteration ≡ s.iteration + 1 = r.iteration ∙ next-more s.spec.mode s.iteration job in
+    let job_too : is_job v.spec.mode ≡ true =
+    ap (λ (q : ServiceSpec). is_job q.mode) r.spec_is ∙ alike-job spec.mode s.spec.mode r.alike ∙ job in
+    let now : x.iteration ≡ v.iteration = iteration-of v x counts job_too in
+    omega (arith, most, later, now))
+  where
+    iteration-of : (u : Service) (y : Task) → counts_for u y ≡ true → is_job u.spec.mode ≡ true →
+        y.iteration ≡ u.iteration
+    iteration-of u y e j = go (y.service == u.id) (is_job u.spec.mode) (y.iteration == u.iteration) refl e j
+      where
+        go : (a b c : Bool) → (y.iteration == u.iteration) ≡ c → (a && (not b || c)) ≡ true → b ≡ true →
+            y.iteration ≡ u.iteration
+        go true true true f k l = grind (arith, nat_tests, f)
+        go true true false f k l = absurd cc
+        go true false c f k l = absurd cc
+        go false b c f k l = absurd cc

@@ -1,0 +1,7 @@
+pub mod Agents
+pub mod Aimed
+pub mod Laws
+pub mod Messages
+pub mod Rest
+pub mod Sent
+pub mod Served
