@@ -1,6 +1,6 @@
 -- A duty of the agents is due exactly where an agent has it.
-use Rattle.std.proofs.Common.{◌≡◌, ℕ, Bool, true, false, eqb, inl, inr, List, [], ◌∷◌, Option, None, Some, Result, Ok, Err, refl, sym, ap, ◌∙◌, arith}
-use Rattle.std.specs.Prelude.{IfOk, ◌||◌, ◌&&◌, not, is_none, is_some}
+use Rattle.std.proofs.Common.{◌≡◌, ℕ, Bool, true, false, eqb, inl, inr, List, [], ◌∷◌, Option, None, Some, refl, sym, ap, ◌∙◌, arith}
+use Rattle.std.specs.Prelude.{◌||◌, ◌&&◌, not, is_none, is_some}
 use Rattle.std.specs.List.{list_any}
 use Rattle.std.proofs.lemmas.Bool.Decides.{nat_tests}
 use Rattle.swarm_duties.specs.OneAgent.{beats, forgets, has_executor, is_active, pulls, registers, reports, steps, takes_in}
@@ -153,12 +153,6 @@ pull_due w n =
     of_both (is_active n a && is_none a.inbox && live) (is_some (message_for w a.node))
     (of_both (is_active n a && is_none a.inbox) live
     (of_both (is_active n a) (is_none a.inbox) on (ap is_none f.1.0)) f.0) f.1.1)
-
--- the same, of a test that memory may be wanting for
-pub pull_tested : {F : Type 0} (w : World) (n : ℕ) (found : Result Bool F) →
-    IfOk found (λ due. due ≡ list_any (pulls w n) w.agents) → IfOk found (λ due. due ≡ is_due w (duty.Pull n))
-pull_tested w n (Ok found) e = e ∙ pull_due w n
-pull_tested w n (Err fault) e = tt
 
 pub exec_due : (w : World) (n x : ℕ) → list_any (steps w.tables.clock n x) w.agents ≡ is_due w (duty.Exec n x)
 exec_due w n x =

@@ -1,5 +1,5 @@
 -- An entry that comes next, and what it is answered.
-use Rattle.std.proofs.Common.{◌≡◌, ℕ, ◌+◌, List, [], ◌∷◌, ◌++◌, Bool, Result, Ok, Err, true, false, cond, None, Option, Some, inl, inr, refl, sym, ap, ◌∙◌, subst, arith}
+use Rattle.std.proofs.Common.{◌≡◌, ℕ, ◌+◌, [], ◌∷◌, ◌++◌, Bool, Result, Ok, Err, true, false, cond, None, Option, Some, inl, inr, refl, sym, ap, ◌∙◌, subst, arith}
 use Rattle.std.specs.Prelude.{◌&&◌, not}
 use Rattle.swarm_duties.specs.Reached.{IsReached}
 use Rattle.swarm_duties.specs.Stepping.{DoesStep}
@@ -50,7 +50,8 @@ uncounted_call before after c reply may (inl gives) same =
 uncounted_call before after c reply may (inr none) same = none.1
 
 refused_by : (x y : Refusal) (halted full : Bool) (r : Refusal) →
-    ◌≡◌ {A = Option Refusal} (cond halted (Some x) (cond full (Some y) None)) (Some r) → (not halted && not full) ≡ false
+    ◌≡◌ {A = Option Refusal} (cond halted (Some x) (cond full (Some y) None)) (Some r) → (not halted && not full)
+    ≡ false
 refused_by x y true full r e = refl
 refused_by x y false true r e = refl
 refused_by x y false false r e = absurd cc

@@ -46,7 +46,8 @@ first_in w (r ∷ rs) d e = go (first_of (duties r w)) refl e (first_in w rs d)
     go (Some x) is e rest = (r, is ∙ e)
     go None is e rest = rest e
 
-append_first : (ds es : List Duty) → first_of (ds ++ es) ≡ elim (first_of ds) [ Some d ↦ Some d | None ↦ first_of es ]
+pub append_first : (ds es : List Duty) → first_of (ds ++ es)
+    ≡ elim (first_of ds) [ Some d ↦ Some d | None ↦ first_of es ]
 append_first [] es = refl
 append_first (d ∷ ds) es = refl
 
@@ -61,7 +62,8 @@ pub answered_first : (w : World) (first : Option Duty) (answer : Settle) →
     first ≡ first_of (flat_map (λ r. duties r w) roles) →
     answer ≡ elim first [ Some d ↦ settle.Busy d | None ↦ idle_answer w ] → answer ≡ settle_answer w
 answered_first w first answer is told =
-    told ∙ ap (λ (o : Option Duty). elim o [ Some d ↦ settle.Busy d | None ↦ idle_answer w ]) (is ∙ first_of_all w roles)
+    told ∙ ap (λ (o : Option Duty). elim o [ Some d ↦ settle.Busy d | None ↦ idle_answer w ]) (is
+    ∙ first_of_all w roles)
 
 -- Of the settle test: what it answers where nothing is due names no duty.
 

@@ -29,7 +29,7 @@ use Rattle.swarm_duties.specs.Allocating.{holds_address, is_address}
 
 -- Rising numbers.
 
-with_number-cases : (k i : ℕ) (ks : List ℕ) → Has (with_number k ks) i → (k ≡ i) ⊎ Has ks i
+pub with_number-cases : (k i : ℕ) (ks : List ℕ) → Has (with_number k ks) i → (k ≡ i) ⊎ Has ks i
 with_number-cases k i [] h = elim h [ inl e ↦ inl e | inr none ↦ absurd none ]
 with_number-cases k i (j ∷ js) h = go (ltb k j) (eqb k j) (with_number-cases k i js) h
   where

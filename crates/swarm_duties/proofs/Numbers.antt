@@ -31,7 +31,7 @@ or_turned true false c = refl
 or_turned false true c = refl
 or_turned false false c = refl
 
-any_with : (p : ℕ → Bool) (k : ℕ) (ks : List ℕ) → list_any p (with_number k ks) ≡ (p k || list_any p ks)
+pub any_with : (p : ℕ → Bool) (k : ℕ) (ks : List ℕ) → list_any p (with_number k ks) ≡ (p k || list_any p ks)
 any_with p k [] = refl
 any_with p k (j ∷ js) = go (ltb k j) (eqb k j) (same_number k j) (any_with p k js)
   where
@@ -81,13 +81,13 @@ any_beside t s x rows found are any =
 
 -- A place that is held has a number.
 
-one_place : (a b : Place) → same_place a b ≡ true → place_number a ≡ place_number b
+pub one_place : (a b : Place) → same_place a b ≡ true → place_number a ≡ place_number b
 one_place (Slot k) (Slot j) e = same_number k j e
 one_place (Slot k) (On j) e = absurd cc
 one_place (On k) (Slot j) e = absurd cc
 one_place (On k) (On j) e = same_number k j e
 
-number_at : (m : Mode) (k : ℕ) → place_number (place_at m k) ≡ k
+pub number_at : (m : Mode) (k : ℕ) → place_number (place_at m k) ≡ k
 number_at (mode.Replicated n) k = refl
 number_at mode.Global k = refl
 number_at (mode.Job c n) k = refl
@@ -104,11 +104,11 @@ some_task s p tasks e = go (list_any (is_in_place s p) tasks) (none_left (is_in_
     go true below = refl
     go false below = absurd (empty (filter (is_in_place s p) tasks) (below refl) e)
 
-both_left : (a b : Bool) → (a && b) ≡ true → a ≡ true
+pub both_left : (a b : Bool) → (a && b) ≡ true → a ≡ true
 both_left true b e = refl
 both_left false b e = e
 
-both_right : (a b : Bool) → (a && b) ≡ true → b ≡ true
+pub both_right : (a b : Bool) → (a && b) ≡ true → b ≡ true
 both_right true b e = e
 both_right false b e = absurd cc
 

@@ -7,7 +7,7 @@ use Rattle.swarm_model.proofs.Laws.Orderly.{orderly-replay}
 use Rattle.swarm_model.proofs.Laws.Small.{IsSmall-replay}
 use Rattle.swarm_model.proofs.Moves.Worlds.{IsOrderly}
 use Rattle.swarm_objects.specs.Bounds.{IsSmall}
-use Rattle.swarm_objects.specs.Sound.{IsOrderedBeside, IsSound, is_subnet}
+use Rattle.swarm_objects.specs.Sound.{IsOrderedBeside, is_subnet}
 use Rattle.swarm_objects.specs.World.{World}
 use Rattle.swarm_plain.proofs.DutyEntries.{order-of}
 use Rattle.swarm_plain.specs.Entries.{HasOrder}

@@ -1,6 +1,8 @@
 -- Words of private contracts.
 pub mod Filtering
 pub mod Homes
+pub mod Loads
+pub mod News
 pub mod OfPlace
 pub mod Scheduling
 pub mod Updating

@@ -17,6 +17,7 @@ ghost use Rattle.swarm_duties.specs.OneAgent.{
 };
 ghost use Rattle.swarm_objects.specs.Agents.Messages.{change_executor, message_for};
 ghost use Rattle.swarm_objects.specs.Bounds.{IsSmall, far_end, is_near_agent, is_near_executor};
+ghost use Rattle.swarm_objects.specs.Changes.{with_tables};
 ghost use Rattle.swarm_objects.specs.Duties.{is_due};
 ghost use Rattle.swarm_objects.specs.Loops.Agents.{
   after_apply,
@@ -45,15 +46,16 @@ ghost use Rattle.swarm_objects.specs.Loops.Agents.{
   told,
   wants_report,
 };
-ghost use Rattle.swarm_objects.specs.Changes.{with_tables};
 ghost use Rattle.swarm_objects.specs.Loops.Words.{duty_where};
 ghost use Rattle.swarm_objects.specs.Nodes.Sessions.{ready_node, session_of};
-ghost use Rattle.swarm_objects.specs.Rows.{RisesFrom, agent_node, change_row, drop_row, executor_task, is_some_and};
+ghost use Rattle.swarm_objects.specs.Rows.{RisesFrom, agent_node, change_row, drop_row, executor_task, is_some_and, first_of};
 ghost use Rattle.swarm_objects.specs.Rows.{node_id, row_at, session_node};
 ghost use Rattle.swarm_objects.specs.Sound.{IsOrderedBeside};
+ghost use Rattle.swarm_plain.specs.Entries.{HasOrder};
 ghost use Rattle.swarm_plain.specs.Plain.{tables_of, world_of};
 
 use crate::executors::{applied, executor_of, has_passed, has_step, make_step};
+use crate::news::has_message;
 use swarm_objects::{
     AgentMode, Duty, Executor, Id, List, Message, Ms, NoMemory, Node, NodeAgent, NodeSession,
     NodeState, Rows, TaskState, Version, add, drop_row, put_in_order, rank,
@@ -103,12 +105,13 @@ fn is_news(state: TaskState, reported: Option<TaskState>) -> bool
     }
 }
 
+// It has news of a task that is there. The task is looked up last.
 fn wants_report(plain: &Plain, executor: &Executor) -> bool
     ensures { result ≡ wants_report (tables_of plain.now) executor.now }
 {
     !executor.gone
-        && plain.task(executor.task).is_some()
         && is_news(executor.state, executor.reported)
+        && plain.task(executor.task).is_some()
 }
 
 // It is gone and has ended.
@@ -133,27 +136,18 @@ fn session_duty(plain: &Plain, agent: &NodeAgent, live: bool) -> Option<Duty>
     None
 }
 
-// A message is there for the node.
-fn has_message(plain: &Plain, node: Id) -> Result<bool, NoMemory>
-    requires { IsSmall (world_of plain.now) }
-    ensures { IfOk result (λ there. there ≡ is_some (message_for (world_of plain.now) node)) }
-{
-    Ok(plain.message_for(node)?.is_some())
-}
-
 // The message in the inbox is applied; where there is none and one is there, it is pulled.
-fn inbox_duty(plain: &Plain, agent: &NodeAgent, live: bool) -> Result<Option<Duty>, NoMemory>
-    requires { IsSmall (world_of plain.now) }
-    ensures { let a = agent.now in
-        IfOk result (λ due. option_to_list due ≡ inbox_duties (world_of plain.now) a live a.inbox) }
+fn inbox_duty(plain: &Plain, agent: &NodeAgent, live: bool) -> Option<Duty>
+    requires { HasOrder (tables_of plain.now) }
+    ensures { let a = agent.now in option_to_list result ≡ inbox_duties (world_of plain.now) a live a.inbox }
 {
     if agent.inbox.is_some() {
-        return Ok(Some(Duty::Apply(agent.node)));
+        return Some(Duty::Apply(agent.node));
     }
-    if live && has_message(plain, agent.node)? {
-        return Ok(Some(Duty::Pull(agent.node)));
+    if live && has_message(plain, agent.node) {
+        return Some(Duty::Pull(agent.node));
     }
-    Ok(None)
+    None
 }
 
 // Puts the duty last, where there is one.
@@ -208,11 +202,11 @@ fn add_duties_on(
     agent: &NodeAgent,
     live: bool,
 ) -> Result<(), NoMemory>
-    requires { IsSmall (world_of plain.now) }
+    requires { HasOrder (tables_of plain.now) }
     ensures { OnOk result (duties.new ≡ duties.old ++ duties_on (world_of plain.now) agent.now live) }
 {
     add_duty(duties, session_duty(plain, agent, live))?;
-    add_duty(duties, inbox_duty(plain, agent, live)?)?;
+    add_duty(duties, inbox_duty(plain, agent, live))?;
     add_steps(duties, plain.clock, agent)?;
     if live {
         add_reports(duties, plain, agent)?;
@@ -225,7 +219,7 @@ fn add_agent_duties(
     plain: &Plain,
     agent: &NodeAgent,
 ) -> Result<(), NoMemory>
-    requires { IsSmall (world_of plain.now) }
+    requires { HasOrder (tables_of plain.now) }
     ensures { OnOk result (duties.new ≡ duties.old ++ agent_duties (world_of plain.now) agent.now) }
 {
     if !is_on(agent) {
@@ -236,7 +230,7 @@ fn add_agent_duties(
 
 /// What the agents have to do, agent by agent.
 pub fn agents_duties(plain: &Plain) -> Result<List<Duty>, NoMemory>
-    requires { IsSmall (world_of plain.now) }
+    requires { HasOrder (tables_of plain.now) }
     ensures { IfOk result (λ duties. duties ≡ agents (world_of plain.now)) }
 {
     let mut duties = List::new(plain.alloc);
@@ -244,6 +238,123 @@ pub fn agents_duties(plain: &Plain) -> Result<List<Duty>, NoMemory>
         add_agent_duties(&mut duties, plain, agent)?;
     }
     Ok(duties)
+}
+
+// The first of them, agent by agent.
+
+// The agent's first executor that has a step to make.
+fn first_step(clock: Ms, agent: &NodeAgent) -> Option<Duty>
+    ensures { let a = agent.now in
+        result ≡ first_of (duty_where (has_step clock) (λ e. Duty.Exec a.node e.task) a.executors) }
+{
+    for executor in agent.executors.as_slice() {
+        if has_step(clock, executor) {
+            return Some(Duty::Exec(agent.node, executor.task));
+        }
+    }
+    None
+}
+
+// The first that has a state to report.
+fn first_report(plain: &Plain, agent: &NodeAgent) -> Option<Duty>
+    ensures { result ≡ first_of (report_duties (world_of plain.now) agent.now true) }
+{
+    for executor in agent.executors.as_slice() {
+        if wants_report(plain, executor) {
+            return Some(Duty::Report(agent.node, executor.task));
+        }
+    }
+    None
+}
+
+// The first that is forgotten.
+fn first_forgotten(agent: &NodeAgent) -> Option<Duty>
+    ensures { let a = agent.now in
+        result ≡ first_of (duty_where is_forgotten (λ e. Duty.Forget a.node e.task) a.executors) }
+{
+    for executor in agent.executors.as_slice() {
+        if is_forgotten(executor) {
+            return Some(Duty::Forget(agent.node, executor.task));
+        }
+    }
+    None
+}
+
+// The first about executors, behind their steps.
+fn first_told(plain: &Plain, agent: &NodeAgent, live: bool) -> Option<Duty>
+    ensures { let a = agent.now in result ≡ first_of (report_duties (world_of plain.now) a live
+        ++ duty_where is_forgotten (λ e. Duty.Forget a.node e.task) a.executors) }
+{
+    if live {
+        if let Some(duty) = first_report(plain, agent) {
+            return Some(duty);
+        }
+    }
+    first_forgotten(agent)
+}
+
+// The first about executors.
+fn first_executed(plain: &Plain, agent: &NodeAgent, live: bool) -> Option<Duty>
+    ensures { let a = agent.now in result
+        ≡ first_of (duty_where (has_step (tables_of plain.now).clock) (λ e. Duty.Exec a.node e.task) a.executors
+        ++ report_duties (world_of plain.now) a live
+        ++ duty_where is_forgotten (λ e. Duty.Forget a.node e.task) a.executors) }
+{
+    match first_step(plain.clock, agent) {
+        Some(duty) => Some(duty),
+        None => first_told(plain, agent, live),
+    }
+}
+
+// The first behind that about the session.
+fn first_within(plain: &Plain, agent: &NodeAgent, live: bool) -> Option<Duty>
+    requires { HasOrder (tables_of plain.now) }
+    ensures { let a = agent.now in result ≡ first_of (inbox_duties (world_of plain.now) a live a.inbox
+        ++ duty_where (has_step (tables_of plain.now).clock) (λ e. Duty.Exec a.node e.task) a.executors
+        ++ report_duties (world_of plain.now) a live
+        ++ duty_where is_forgotten (λ e. Duty.Forget a.node e.task) a.executors) }
+{
+    match inbox_duty(plain, agent, live) {
+        Some(duty) => Some(duty),
+        None => first_executed(plain, agent, live),
+    }
+}
+
+// The first of an agent that is on, whose session is live or isn't.
+fn first_on(plain: &Plain, agent: &NodeAgent, live: bool) -> Option<Duty>
+    requires { HasOrder (tables_of plain.now) }
+    ensures { result ≡ first_of (duties_on (world_of plain.now) agent.now live) }
+{
+    match session_duty(plain, agent, live) {
+        Some(duty) => Some(duty),
+        None => first_within(plain, agent, live),
+    }
+}
+
+// The first of an agent.
+fn agent_first(plain: &Plain, agent: &NodeAgent) -> Option<Duty>
+    requires { HasOrder (tables_of plain.now) }
+    ensures { result ≡ first_of (agent_duties (world_of plain.now) agent.now) }
+{
+    if is_on(agent) {
+        first_on(plain, agent, plain.session_live(agent.node))
+    } else {
+        None
+    }
+}
+
+/// The first of these duties.
+pub fn agents_first(plain: &Plain) -> Option<Duty>
+    requires { HasOrder (tables_of plain.now) }
+    ensures { result ≡ first_of (agents (world_of plain.now)) }
+{
+    for agent in plain.agents.as_slice() {
+        let duty = agent_first(plain, agent);
+        if duty.is_some() {
+            return duty;
+        }
+    }
+    None
 }
 
 // The test of one duty.
@@ -327,33 +438,33 @@ pub fn is_apply_due(plain: &Plain, node: Id) -> bool
     one_takes_in(plain, node)
 }
 
-fn pulls(plain: &Plain, node: Id, agent: &NodeAgent) -> Result<bool, NoMemory>
-    requires { IsSmall (world_of plain.now) }
-    ensures { IfOk result (λ due. due ≡ pulls (world_of plain.now) node agent.now) }
+fn pulls(plain: &Plain, node: Id, agent: &NodeAgent) -> bool
+    requires { HasOrder (tables_of plain.now) }
+    ensures { result ≡ pulls (world_of plain.now) node agent.now }
 {
-    if is_active(agent, node) && agent.inbox.is_none() && plain.session_live(agent.node) {
-        return has_message(plain, agent.node);
-    }
-    Ok(false)
+    is_active(agent, node)
+        && agent.inbox.is_none()
+        && plain.session_live(agent.node)
+        && has_message(plain, agent.node)
 }
 
 // The node has an agent that pulls.
-fn one_pulls(plain: &Plain, node: Id) -> Result<bool, NoMemory>
-    requires { IsSmall (world_of plain.now) }
-    ensures { IfOk result (λ due. due ≡ list_any (pulls (world_of plain.now) node) plain.now.agents) }
+fn one_pulls(plain: &Plain, node: Id) -> bool
+    requires { HasOrder (tables_of plain.now) }
+    ensures { result ≡ list_any (pulls (world_of plain.now) node) plain.now.agents }
 {
     for agent in plain.agents.as_slice() {
-        if pulls(plain, node, agent)? {
-            return Ok(true);
+        if pulls(plain, node, agent) {
+            return true;
         }
     }
-    Ok(false)
+    false
 }
 
 /// The node's agent is to pull a message.
-pub fn is_pull_due(plain: &Plain, node: Id) -> Result<bool, NoMemory>
-    requires { IsSmall (world_of plain.now) }
-    ensures { IfOk result (λ due. due ≡ is_due (world_of plain.now) (Duty.Pull node)) }
+pub fn is_pull_due(plain: &Plain, node: Id) -> bool
+    requires { HasOrder (tables_of plain.now) }
+    ensures { result ≡ is_due (world_of plain.now) (Duty.Pull node) }
 {
     one_pulls(plain, node)
 }

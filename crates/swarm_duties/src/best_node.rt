@@ -1,15 +1,17 @@
 // The best node for a task.
-ghost use Rattle.std.specs.Prelude.{◌≡◌, [], List as Seq, ℕ, find};
+ghost use Rattle.std.specs.Prelude.{◌≡◌, [], List as Seq, Some, cond, find, ℕ};
 ghost use Rattle.std.specs.Cmp.Lexicographic.{slice_cmp};
 ghost use Rattle.std.specs.Option.{option_copied};
 ghost use Rattle.std.specs.Ordering.{nat_cmp, ordering_then};
 ghost use Rattle.std.specs.Str.{bytes_eq};
-ghost use Rattle.swarm_objects.specs.Nodes.BestNode.{agrees, best_node, branch_load, load, node_cmp, spread_cmp};
+ghost use Rattle.swarm_duties.specs.Inside.Loads.{HoldsBest, IsLoad};
+ghost use Rattle.swarm_objects.specs.Nodes.BestNode.{agrees, best_node, branch_load, node_cmp, spread_cmp};
 ghost use Rattle.swarm_objects.specs.Nodes.Constraints.{key_value, label_value};
-ghost use Rattle.swarm_objects.specs.Rows.{keep_least, least_by};
+ghost use Rattle.swarm_objects.specs.Rows.{keep_least};
 ghost use Rattle.swarm_plain.specs.Plain.{world_of};
 
-use crate::filters::{here, is_open, is_placed_on};
+use crate::filters::here;
+use crate::loads::{NodeLoad, load_if_open};
 use itoa::Buffer;
 use std::cmp::Ordering;
 use swarm_objects::{Id, Key, Labels, Name, Node, Task};
@@ -114,47 +116,43 @@ fn spread_cmp(plain: &Plain, service: Id, keys: &[Key], a: &Node, b: &Node) -> O
     Ordering::Equal
 }
 
-// The live tasks of all services from ASSIGNED to RUNNING on the node.
-fn load(plain: &Plain, node: Id) -> usize
-    ensures { result ≡ load (world_of plain.now).tables node }
-{
-    plain
-        .tasks
-        .as_slice()
-        .iter()
-        .filter(|task| task.is_live() && is_placed_on(task, node))
-        .count()
-}
-
-// Which of two nodes comes first for the task.
-fn node_cmp(plain: &Plain, task: &Task, a: &Node, b: &Node) -> Ordering
+// Which of two nodes with these loads comes first for the task.
+fn compare(
+    plain: &Plain,
+    task: &Task,
+    a: &Node,
+    load_of_a: NodeLoad,
+    b: &Node,
+    load_of_b: NodeLoad,
+) -> Ordering
+    requires a { IsLoad (world_of plain.now).tables a.now.id task.now.service load_of_a }
+    requires b { IsLoad (world_of plain.now).tables b.now.id task.now.service load_of_b }
     ensures { result ≡ node_cmp (world_of plain.now).tables task.now a.now b.now }
 {
     spread_cmp(plain, task.service, task.template.spread.as_slice(), a, b)
-        .then(here(plain, a.id, task.service).cmp(&here(plain, b.id, task.service)))
-        .then(load(plain, a.id).cmp(&load(plain, b.id)))
+        .then(load_of_a.here.cmp(&load_of_b.here))
+        .then(load_of_a.live.cmp(&load_of_b.live))
         .then(a.id.cmp(&b.id))
 }
 
-// The best node so far, or the other one where it comes before.
-fn better<'a>(
+// The node with this load comes before the best one so far, which has that load.
+fn comes_first(
     plain: &Plain,
     task: &Task,
-    best: Option<&'a Node>,
-    node: &'a Node,
-) -> Option<&'a Node>
+    node: &Node,
+    load: NodeLoad,
+    best: Option<&Node>,
+    best_load: NodeLoad,
+) -> bool
+    requires node { IsLoad (world_of plain.now).tables node.now.id task.now.service load }
+    requires best { HoldsBest (world_of plain.now).tables task.now.service (option_copied best) best_load }
     ensures { let order = node_cmp (world_of plain.now).tables task.now in
-        option_copied result ≡ keep_least order (option_copied best.entry) node.now }
+        keep_least order (option_copied best.entry) node.now
+        ≡ cond result (Some node.now) (option_copied best.entry) }
 {
     match best {
-        None => Some(node),
-        Some(held) => {
-            if node_cmp(plain, task, node, held) == Ordering::Less {
-                Some(node)
-            } else {
-                Some(held)
-            }
-        }
+        None => true,
+        Some(best) => compare(plain, task, node, load, best, best_load) == Ordering::Less,
     }
 }
 
@@ -163,9 +161,18 @@ pub fn best_node<'a>(plain: &'a Plain, task: &Task) -> Option<&'a Node>
     ensures { option_copied result ≡ best_node (world_of plain.now).tables task.now }
 {
     let mut best = None;
+    let mut best_load = NodeLoad {
+        cpu: 0,
+        mem: 0,
+        here: 0,
+        live: 0,
+    };
     for node in plain.nodes.as_slice() {
-        if is_open(plain, task, node) {
-            best = better(plain, task, best, node);
+        if let Some(load) = load_if_open(plain, task, node) {
+            if comes_first(plain, task, node, load, best, best_load) {
+                best = Some(node);
+                best_load = load;
+            }
         }
     }
     best

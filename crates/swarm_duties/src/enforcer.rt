@@ -3,6 +3,7 @@ ghost use Rattle.std.specs.Prelude.{◌≡◌, ◌==◌, ◌&&◌, IfOk};
 ghost use Rattle.std.specs.List.{list_any};
 ghost use Rattle.swarm_objects.specs.Duties.{effect_by, is_due};
 ghost use Rattle.swarm_objects.specs.Loops.Enforcer.{breaks_constraints, enforcer, is_misplaced};
+ghost use Rattle.swarm_objects.specs.Rows.{first_of};
 ghost use Rattle.swarm_plain.specs.Plain.{world_of};
 
 use crate::nodes::{meets_all, node_of};
@@ -17,10 +18,14 @@ fn breaks_constraints(task: &Task, node: &Node) -> bool
     !meets_all(task.template.constraints.as_slice(), node)
 }
 
-// It is live, on a node that doesn't meet its constraints any more.
+// It is live, on a node that doesn't meet its constraints any more. Where it has none, its node isn't looked up.
+#[tactic(auto, using(crate::proofs::Looks::none_misplaced))]
 fn is_misplaced<R: Rows>(rows: &R, task: &Task) -> bool
     ensures { result ≡ is_misplaced (R.tables rows.now) task.now }
 {
+    if task.template.constraints.is_empty() {
+        return false;
+    }
     task.is_live()
         && task.is_placed()
         && node_of(rows, task).is_some_and(|node| breaks_constraints(task, node))
@@ -37,6 +42,18 @@ pub fn enforcer_duties(plain: &Plain) -> Result<List<Duty>, NoMemory>
         }
     }
     Ok(duties)
+}
+
+/// The first of them.
+pub fn enforcer_first(plain: &Plain) -> Option<Duty>
+    ensures { result ≡ first_of (enforcer (world_of plain.now).tables) }
+{
+    for task in plain.tasks.as_slice() {
+        if is_misplaced(plain, task) {
+            return Some(Duty::Reject(task.id));
+        }
+    }
+    None
 }
 
 // Some task with this id is misplaced.

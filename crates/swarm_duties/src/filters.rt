@@ -1,7 +1,7 @@
 // Which nodes admit a task, and which filter refuses it the others.
 ghost use Rattle.std.specs.Prelude.{◌≡◌, ◌+◌, count_by, find, nat_le, not, ℕ};
 ghost use Rattle.std.specs.List.{list_any};
-ghost use Rattle.swarm_duties.specs.Inside.Filtering.{is_counted, is_open};
+ghost use Rattle.swarm_duties.specs.Inside.Filtering.{is_counted};
 ghost use Rattle.swarm_objects.specs.Nodes.Filters.{
   has_free_host_ports,
   has_resources,
@@ -30,8 +30,8 @@ use swarm_filters::matches;
 use swarm_objects::{Constraint, Id, Node, Place, Platform, Port, Rows, Task};
 use swarm_plain::Plain;
 
-// A task whose place is a node is tested on that node alone.
-fn is_tested_on(place: Place, node: Id) -> bool
+/// A task whose place is a node is tested on that node alone.
+pub fn is_tested_on(place: Place, node: Id) -> bool
     ensures { result ≡ is_tested_on place node }
 {
     match place {
@@ -40,8 +40,8 @@ fn is_tested_on(place: Place, node: Id) -> bool
     }
 }
 
-// The node is READY and ACTIVE, and its session is live.
-fn takes_tasks<R: Rows>(rows: &R, node: &Node) -> bool
+/// The node is READY and ACTIVE, and its session is live.
+pub fn takes_tasks<R: Rows>(rows: &R, node: &Node) -> bool
     ensures { result ≡ takes_tasks (R.tables rows.now) node.now }
 {
     node.is_ready() && node.is_active() && rows.session_live(node.id)
@@ -80,8 +80,8 @@ fn reserved_mem(plain: &Plain, node: Id) -> u128
     sum
 }
 
-// So much more than what is reserved is still within the whole.
-fn fits(reserved: u128, more: u64, whole: u64) -> bool
+/// So much more than what is reserved is still within the whole.
+pub fn fits(reserved: u128, more: u64, whole: u64) -> bool
     ensures { result ≡ nat_le (reserved + more) whole }
 {
     reserved.saturating_add(u128::from(more)) <= u128::from(whole)
@@ -94,8 +94,8 @@ fn has_resources(plain: &Plain, task: &Task, node: &Node) -> bool
         && fits(reserved_mem(plain, node.id), task.template.mem, node.mem)
 }
 
-// The node meets each of the constraints.
-fn meets_all(constraints: &[Constraint], node: &Node) -> bool
+/// The node meets each of the constraints.
+pub fn meets_all(constraints: &[Constraint], node: &Node) -> bool
     ensures { result ≡ meets_all constraints.now node.now }
 {
     constraints
@@ -116,9 +116,9 @@ fn has_platform(platforms: &[Platform], node: &Node) -> bool
     platforms.iter().any(|platform| is_platform(node, platform))
 }
 
-// No platform is named, or one is the node's.
+/// No platform is named, or one is the node's.
 #[tactic(auto, using(crate::proofs::Supported::one_named))]
-fn is_supported(platforms: &[Platform], node: &Node) -> bool
+pub fn is_supported(platforms: &[Platform], node: &Node) -> bool
     ensures { result ≡ is_supported platforms.now node.now }
 {
     platforms.is_empty() || has_platform(platforms, node)
@@ -160,7 +160,8 @@ fn is_one_used(plain: &Plain, node: Id, ports: &[Port]) -> bool
         .any(|port| is_host_port_used(plain, node, port))
 }
 
-fn has_free_host_ports(plain: &Plain, task: &Task, node: &Node) -> bool
+/// No task that is placed on the node has one of the task's host ports.
+pub fn has_free_host_ports(plain: &Plain, task: &Task, node: &Node) -> bool
     ensures { result ≡ has_free_host_ports (world_of plain.now).tables task.now node.now }
 {
     !is_one_used(plain, node.id, task.template.host_ports.as_slice())
@@ -216,14 +217,6 @@ fn refused_by(plain: &Plain, task: &Task, node: &Node) -> Option<u64>
     ensures { result ≡ refused_by (world_of plain.now).tables task.now node.now }
 {
     first_refusing(plain, task, node, &[0, 1, 2, 3, 4, 5])
-}
-
-/// The node is tested, and admits the task.
-#[tactic(auto, unfolding(crate::specs::Inside::Filtering::is_open))]
-pub fn is_open(plain: &Plain, task: &Task, node: &Node) -> bool
-    ensures { result ≡ is_open (world_of plain.now).tables task.now node.now }
-{
-    is_tested_on(task.place, node.id) && refused_by(plain, task, node).is_none()
 }
 
 // The node is tested, and the filter with this number refuses it the task.

@@ -14,7 +14,7 @@ ghost use Rattle.swarm_objects.specs.Loops.Global.{
   wants_here,
 };
 ghost use Rattle.swarm_objects.specs.Nodes.Words.{meets_all};
-ghost use Rattle.swarm_objects.specs.Rows.{is_row_and, node_id};
+ghost use Rattle.swarm_objects.specs.Rows.{is_row_and, node_id, first_of};
 ghost use Rattle.swarm_plain.specs.Plain.{world_of};
 
 use crate::places::{is_held_place, place_numbers};
@@ -137,6 +137,78 @@ pub fn global_duties(plain: &Plain) -> Result<List<Duty>, NoMemory>
     put_leaves(plain, &mut duties)?;
     put_comes(plain, &mut duties)?;
     Ok(duties)
+}
+
+// The first node that the service leaves.
+fn first_leave_of(plain: &Plain, service: &Service) -> Result<Option<Duty>, NoMemory>
+    ensures { let t = (world_of plain.now).tables in
+        IfOk result (λ first. first ≡ first_of (leave_duties t service.now service.now.spec.mode)) }
+{
+    let Mode::Global = service.spec.mode else {
+        return Ok(None);
+    };
+    let numbers = place_numbers(plain, service)?;
+    for node in numbers.as_slice() {
+        if is_to_leave(plain, service, *node) {
+            return Ok(Some(Duty::Leave(service.id, *node)));
+        }
+    }
+    Ok(None)
+}
+
+// The first node that the service comes to.
+fn first_come_of(plain: &Plain, service: &Service) -> Option<Duty>
+    ensures { let t = (world_of plain.now).tables in
+        result ≡ first_of (come_duties t service.now service.now.spec.mode) }
+{
+    let Mode::Global = service.spec.mode else {
+        return None;
+    };
+    for node in plain.nodes.as_slice() {
+        if is_missing(plain, service, node) {
+            return Some(Duty::GlobalCreate(service.id, node.id));
+        }
+    }
+    None
+}
+
+// The first node that a service leaves.
+fn first_leave(plain: &Plain) -> Result<Option<Duty>, NoMemory>
+    ensures { let t = (world_of plain.now).tables in
+        IfOk result (λ first. first ≡ first_of (flat_map (λ s. leave_duties t s s.spec.mode) t.services)) }
+{
+    for service in plain.services.as_slice() {
+        let duty = first_leave_of(plain, service)?;
+        if duty.is_some() {
+            return Ok(duty);
+        }
+    }
+    Ok(None)
+}
+
+// The first node that a service comes to.
+fn first_come(plain: &Plain) -> Option<Duty>
+    ensures { let t = (world_of plain.now).tables in
+        result ≡ first_of (flat_map (λ s. come_duties t s s.spec.mode) t.services) }
+{
+    for service in plain.services.as_slice() {
+        let duty = first_come_of(plain, service);
+        if duty.is_some() {
+            return duty;
+        }
+    }
+    None
+}
+
+/// The first of these duties.
+#[tactic(auto, using(crate::proofs::First::append_first))]
+pub fn global_first(plain: &Plain) -> Result<Option<Duty>, NoMemory>
+    ensures { IfOk result (λ first. first ≡ first_of (global (world_of plain.now).tables)) }
+{
+    match first_leave(plain)? {
+        Some(duty) => Ok(Some(duty)),
+        None => Ok(first_come(plain)),
+    }
 }
 
 // The service has a task on each node.

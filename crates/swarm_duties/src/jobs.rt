@@ -1,5 +1,5 @@
 // The duties on jobs.
-ghost use Rattle.std.specs.Prelude.{◌≡◌, ◌==◌, ◌&&◌, ◌++◌, length, nat_lt, not};
+ghost use Rattle.std.specs.Prelude.{◌≡◌, ◌==◌, ◌&&◌, ◌++◌, length, nat_lt, not, flat_map};
 ghost use Rattle.std.specs.Prelude.{IfOk, OnErr, OnOk, flat_map, option_to_list};
 ghost use Rattle.std.specs.List.{list_any};
 ghost use Rattle.swarm_objects.specs.Bounds.{IsSmall};
@@ -7,10 +7,11 @@ ghost use Rattle.swarm_objects.specs.Duties.{effect_by, is_due};
 ghost use Rattle.swarm_objects.specs.Kinds.{same_duty};
 ghost use Rattle.swarm_objects.specs.Loops.Jobs.{has_old, is_old, is_old_of, jobs, next_duty};
 ghost use Rattle.swarm_objects.specs.Loops.Words.{duty_where};
+ghost use Rattle.swarm_objects.specs.Rows.{first_of};
 ghost use Rattle.swarm_objects.specs.Tasks.Places.{live_places};
 ghost use Rattle.swarm_plain.specs.Plain.{world_of};
 
-use crate::places::{first_gap, live_places};
+use crate::places::{first_gap, held_places, live_places};
 use crate::tasks::{create_task, want};
 use swarm_objects::{Desired, Duty, Id, List, Mode, NoMemory, Rows, Service, Task, Version, add};
 use swarm_plain::Plain;
@@ -66,7 +67,7 @@ fn next_duty(plain: &Plain, service: &Service) -> Result<Option<Duty>, NoMemory>
     let Mode::Job { concurrent, total } = service.spec.mode else {
         return Ok(None);
     };
-    let held = plain.held_places(service)?;
+    let held = held_places(plain, service)?;
     if has_next(plain, service, held.len() as u64, concurrent, total)? {
         Ok(Some(Duty::JobCreate(service.id, first_gap(0, held.as_slice()))))
     } else {
@@ -108,6 +109,44 @@ pub fn job_duties(plain: &Plain) -> Result<List<Duty>, NoMemory>
     put_old(plain, &mut duties)?;
     put_next(plain, &mut duties)?;
     Ok(duties)
+}
+
+// The first task of an earlier iteration.
+fn first_old(plain: &Plain) -> Option<Duty>
+    ensures { let t = (world_of plain.now).tables in
+        result ≡ first_of (duty_where (is_old t) (λ x. Duty.Old x.id) t.tasks) }
+{
+    for task in plain.tasks.as_slice() {
+        if is_old(plain, task) {
+            return Some(Duty::Old(task.id));
+        }
+    }
+    None
+}
+
+// The first new task.
+fn first_next(plain: &Plain) -> Result<Option<Duty>, NoMemory>
+    ensures { let t = (world_of plain.now).tables in
+        IfOk result (λ first. first ≡ first_of (flat_map (λ s. next_duty t s s.spec.mode) t.services)) }
+{
+    for service in plain.services.as_slice() {
+        let duty = next_duty(plain, service)?;
+        if duty.is_some() {
+            return Ok(duty);
+        }
+    }
+    Ok(None)
+}
+
+/// The first of these duties.
+#[tactic(auto, using(crate::proofs::First::append_first))]
+pub fn job_first(plain: &Plain) -> Result<Option<Duty>, NoMemory>
+    ensures { IfOk result (λ first. first ≡ first_of (jobs (world_of plain.now).tables)) }
+{
+    match first_old(plain) {
+        Some(duty) => Ok(Some(duty)),
+        None => first_next(plain),
+    }
 }
 
 // A task with this id is to go, since its job has a later iteration; by the scan.

@@ -1,31 +1,15 @@
 // The places of a service in the plain world. The held ones are `Plain::held_places`.
-ghost use Rattle.std.specs.Prelude.{◌≡◌, ◌==◌, ◌&&◌, ◌+◌, ◌<◌, ◌^◌, IfOk, length, not};
+ghost use Rattle.std.specs.Prelude.{◌≡◌, ◌==◌, ◌&&◌, ◌+◌, ◌<◌, ◌^◌, IfOk, length, not, ◌||◌, OnOk};
 ghost use Rattle.std.specs.List.{list_any};
 ghost use Rattle.std.specs.Option.{option_copied};
-ghost use Rattle.swarm_objects.specs.Rows.{first_gap, is_some_and};
+ghost use Rattle.swarm_duties.specs.Inside.OfPlace.{is_live_at, is_suspect};
+ghost use Rattle.swarm_objects.specs.Rows.{first_gap, is_some_and, IsRising, itself, with_number};
 ghost use Rattle.swarm_objects.specs.Services.Words.{is_live_clean, is_live_dirty};
-ghost use Rattle.swarm_objects.specs.Tasks.Places.{
-  closes_dirty,
-  counts_for,
-  dirty_places,
-  has_clean,
-  has_dirty_place,
-  has_live,
-  has_other,
-  is_dirty_place,
-  is_held_place,
-  is_in_place,
-  live_places,
-  newest,
-  place_at,
-  place_number,
-  place_numbers,
-  place_tasks,
-};
+ghost use Rattle.swarm_objects.specs.Tasks.Places.{closes_dirty, counts_for, dirty_places, has_clean, has_dirty_place, has_live, has_other, is_dirty_place, is_held_place, is_in_place, live_places, newest, place_at, place_number, place_numbers, place_tasks, closes, held_places};
 ghost use Rattle.swarm_objects.specs.Tasks.Words.{is_live};
 ghost use Rattle.swarm_plain.specs.Plain.{world_of};
 
-use swarm_objects::{List, NoMemory, Place, Service, Task, add};
+use swarm_objects::{List, NoMemory, Place, Service, Task, add, put_in_order};
 use swarm_plain::{Plain, places};
 
 /// The task stands in the service's place with this number.
@@ -138,18 +122,57 @@ fn closes_dirty(plain: &Plain, service: &Service, number: u64) -> bool
     }
 }
 
+// The task stands in its place of the service, live.
+fn is_live_at(service: &Service, task: &Task) -> bool
+    ensures { result ≡ is_live_at service.now task.now }
+{
+    is_at(service, task.place.place_number(), task) && task.is_live()
+}
+
+// Puts the number among rising ones. Where it is above them all, no other is looked at.
+fn add_number(numbers: &mut List<u64>, number: u64) -> Result<(), NoMemory>
+    requires { IsRising itself numbers.old }
+    ensures { OnOk result (numbers.new ≡ with_number number numbers.old) }
+{
+    if let Some(last) = numbers.as_slice().last() {
+        if *last < number {
+            return add(numbers, number);
+        }
+    }
+    put_in_order(numbers, number)
+}
+
 /// The numbers of the places with a live task, rising.
 pub fn live_places(plain: &Plain, service: &Service) -> Result<List<u64>, NoMemory>
     ensures { IfOk result (λ numbers. numbers ≡ live_places (world_of plain.now).tables service.now) }
 {
-    let numbers = place_numbers(plain, service)?;
-    let mut live = List::new(plain.alloc);
-    for number in numbers.as_slice() {
-        if has_live(plain, service, *number) {
-            add(&mut live, *number)?;
+    let mut numbers = List::new(plain.alloc);
+    for task in plain.tasks.as_slice() {
+        if is_live_at(service, task) {
+            add_number(&mut numbers, task.place.place_number())?;
         }
     }
-    Ok(live)
+    Ok(numbers)
+}
+
+// A task of the service closes its place.
+fn any_closing(service: &Service, tasks: &[Task]) -> bool
+    ensures { result ≡ list_any (λ x. counts_for service.now x && closes x) tasks.now }
+{
+    tasks
+        .iter()
+        .any(|task| task.counts_for(service) && task.closes())
+}
+
+/// The numbers of the places that are held, rising. Where no task closes its place, they are those with a live task.
+pub fn held_places(plain: &Plain, service: &Service) -> Result<List<u64>, NoMemory>
+    ensures { IfOk result (λ held. held ≡ held_places (world_of plain.now).tables service.now) }
+{
+    if any_closing(service, plain.tasks.as_slice()) {
+        plain.held_places(service)
+    } else {
+        live_places(plain, service)
+    }
 }
 
 /// The numbers of the dirty places, rising.
@@ -166,20 +189,27 @@ pub fn dirty_places(plain: &Plain, service: &Service) -> Result<List<u64>, NoMem
     Ok(dirty)
 }
 
-// The place of a task of the service is dirty.
-fn any_dirty_place(plain: &Plain, service: &Service) -> bool
-    ensures { let t = (world_of plain.now).tables in result ≡ list_any
-        (λ x. counts_for service.now x && is_dirty_place t service.now (place_number x.place)) t.tasks }
+// The task may make its place dirty.
+fn is_suspect(service: &Service, task: &Task) -> bool
+    ensures { result ≡ is_suspect service.now task.now }
 {
-    plain.tasks.as_slice().iter().any(|task| task.counts_for(service)
+    task.counts_for(service) && (task.is_live_dirty(service) || task.closes_dirty(service))
+}
+
+// Such a task stands in a dirty place.
+fn any_suspect(plain: &Plain, service: &Service) -> bool
+    ensures { let t = (world_of plain.now).tables in result ≡ list_any
+        (λ x. is_suspect service.now x && is_dirty_place t service.now (place_number x.place)) t.tasks }
+{
+    plain.tasks.as_slice().iter().any(|task| is_suspect(service, task)
         && is_dirty_place(plain, service, task.place.place_number()))
 }
 
-/// A place of the service is dirty. It takes no memory, since it asks for the place of each task.
+/// A place of the service is dirty. Only the places of tasks that may make it so are looked at.
 pub fn has_dirty_place(plain: &Plain, service: &Service) -> bool
     ensures { result ≡ has_dirty_place (world_of plain.now).tables service.now }
 {
-    any_dirty_place(plain, service)
+    any_suspect(plain, service)
 }
 
 /// The first number from this one on that is none of these rising ones.

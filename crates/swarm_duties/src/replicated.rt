@@ -1,7 +1,9 @@
 // The duties on replicated services, and on tasks whose service is gone.
 ghost use Rattle.std.specs.Prelude.{◌≡◌, ◌==◌, ◌&&◌, ◌++◌, IfOk, None, OnErr, OnOk, flat_map, option_to_list};
+ghost use Rattle.std.specs.List.{list_any};
 ghost use Rattle.swarm_objects.specs.Bounds.{IsSmall};
 ghost use Rattle.swarm_objects.specs.Duties.{effect_by, is_due};
+ghost use Rattle.swarm_objects.specs.Kinds.{bit, same_duty};
 ghost use Rattle.swarm_objects.specs.Loops.Replicated.{
   create_duty,
   crowd,
@@ -13,15 +15,13 @@ ghost use Rattle.swarm_objects.specs.Loops.Replicated.{
   place_crowd,
   replicated,
 };
-ghost use Rattle.std.specs.List.{list_any};
-ghost use Rattle.swarm_objects.specs.Kinds.{bit, same_duty};
 ghost use Rattle.swarm_objects.specs.Loops.Words.{duty_where};
-ghost use Rattle.swarm_objects.specs.Rows.{keep_least, least_by};
+ghost use Rattle.swarm_objects.specs.Rows.{keep_least, least_by, first_of};
 ghost use Rattle.swarm_objects.specs.Tasks.Places.{is_in_place};
 ghost use Rattle.swarm_objects.specs.Tasks.Words.{is_live, is_of, is_on, is_running};
 ghost use Rattle.swarm_plain.specs.Plain.{world_of};
 
-use crate::places::{first_gap, is_at};
+use crate::places::{first_gap, held_places, is_at};
 use crate::tasks::{create_task, remove_place, want};
 use std::cmp::Ordering;
 use swarm_objects::{
@@ -140,7 +140,7 @@ fn down_duty(plain: &Plain, service: &Service) -> Result<Option<Duty>, NoMemory>
     let Mode::Replicated(replicas) = service.spec.mode else {
         return Ok(None);
     };
-    let held = plain.held_places(service)?;
+    let held = held_places(plain, service)?;
     if (held.len() as u64) <= replicas {
         return Ok(None);
     }
@@ -155,7 +155,7 @@ fn create_duty(plain: &Plain, service: &Service) -> Result<Option<Duty>, NoMemor
     let Mode::Replicated(replicas) = service.spec.mode else {
         return Ok(None);
     };
-    let held = plain.held_places(service)?;
+    let held = held_places(plain, service)?;
     if replicas <= held.len() as u64 {
         return Ok(None);
     }
@@ -210,6 +210,71 @@ pub fn replicated_duties(plain: &Plain) -> Result<List<Duty>, NoMemory>
     put_downs(plain, &mut duties)?;
     put_creates(plain, &mut duties)?;
     Ok(duties)
+}
+
+// The first task that goes with its service.
+fn first_gone(plain: &Plain) -> Option<Duty>
+    ensures { let t = (world_of plain.now).tables in
+        result ≡ first_of (duty_where (is_gone t) (λ x. Duty.Gone x.id) t.tasks) }
+{
+    for task in plain.tasks.as_slice() {
+        if is_gone(plain, task) {
+            return Some(Duty::Gone(task.id));
+        }
+    }
+    None
+}
+
+// The first place that is given up.
+fn first_down(plain: &Plain) -> Result<Option<Duty>, NoMemory>
+    ensures { let t = (world_of plain.now).tables in
+        IfOk result (λ first. first ≡ first_of (flat_map (λ s. down_duty t s s.spec.mode) t.services)) }
+{
+    for service in plain.services.as_slice() {
+        let duty = down_duty(plain, service)?;
+        if duty.is_some() {
+            return Ok(duty);
+        }
+    }
+    Ok(None)
+}
+
+// The first new task.
+fn first_create(plain: &Plain) -> Result<Option<Duty>, NoMemory>
+    ensures { let t = (world_of plain.now).tables in
+        IfOk result (λ first. first ≡ first_of (flat_map (λ s. create_duty t s s.spec.mode) t.services)) }
+{
+    for service in plain.services.as_slice() {
+        let duty = create_duty(plain, service)?;
+        if duty.is_some() {
+            return Ok(duty);
+        }
+    }
+    Ok(None)
+}
+
+// The first about the places of replicated services.
+#[tactic(auto, using(crate::proofs::First::append_first))]
+fn first_place(plain: &Plain) -> Result<Option<Duty>, NoMemory>
+    ensures { let t = (world_of plain.now).tables in
+        IfOk result (λ first. first ≡ first_of (flat_map (λ s. down_duty t s s.spec.mode) t.services
+        ++ flat_map (λ s. create_duty t s s.spec.mode) t.services)) }
+{
+    match first_down(plain)? {
+        Some(duty) => Ok(Some(duty)),
+        None => first_create(plain),
+    }
+}
+
+/// The first of these duties.
+#[tactic(auto, using(crate::proofs::First::append_first))]
+pub fn replicated_first(plain: &Plain) -> Result<Option<Duty>, NoMemory>
+    ensures { IfOk result (λ first. first ≡ first_of (replicated (world_of plain.now).tables)) }
+{
+    match first_gone(plain) {
+        Some(duty) => Ok(Some(duty)),
+        None => first_place(plain),
+    }
 }
 
 // A task with this id is to go with its service; by the scan.

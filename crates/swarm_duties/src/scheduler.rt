@@ -6,7 +6,7 @@ ghost use Rattle.swarm_objects.specs.Changes.{change_task, in_state, noted, plac
 ghost use Rattle.swarm_objects.specs.Duties.{effect_by, is_due};
 ghost use Rattle.swarm_objects.specs.Kinds.{same_duty};
 ghost use Rattle.swarm_objects.specs.Loops.Scheduler.{is_to_drop, is_to_place, placing, schedule, scheduler};
-ghost use Rattle.swarm_objects.specs.Rows.{change_row, task_id};
+ghost use Rattle.swarm_objects.specs.Rows.{change_row, task_id, first_of};
 ghost use Rattle.swarm_plain.specs.Entries.{HasOrder};
 ghost use Rattle.swarm_plain.specs.Plain.{tables_of, world_of};
 
@@ -67,6 +67,19 @@ pub fn scheduler_duties(plain: &Plain) -> Result<List<Duty>, NoMemory>
         }
     }
     Ok(duties)
+}
+
+/// The first of these duties. Of the tasks behind its own nothing is worked out.
+pub fn scheduler_first(plain: &Plain) -> Option<Duty>
+    ensures { result ≡ first_of (scheduler (world_of plain.now).tables) }
+{
+    for task in plain.tasks.as_slice() {
+        let duty = schedule(plain, task);
+        if duty.is_some() {
+            return duty;
+        }
+    }
+    None
 }
 
 // The duty is to drop the task.

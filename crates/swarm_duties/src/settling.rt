@@ -9,18 +9,18 @@ ghost use Rattle.swarm_objects.specs.Kinds.{roles};
 ghost use Rattle.swarm_objects.specs.Rows.{first_of};
 ghost use Rattle.swarm_plain.specs.Plain.{world_of};
 
-use crate::agents::agents_duties;
-use crate::allocator::allocator_duties;
-use crate::dispatcher::dispatcher_duties;
-use crate::enforcer::enforcer_duties;
-use crate::global::global_duties;
+use crate::agents::{agents_duties, agents_first};
+use crate::allocator::{allocator_duties, allocator_first};
+use crate::dispatcher::{dispatcher_duties, dispatcher_first};
+use crate::enforcer::{enforcer_duties, enforcer_first};
+use crate::global::{global_duties, global_first};
 use crate::idle::idle_answer;
-use crate::jobs::job_duties;
-use crate::reaper::reaper_duties;
-use crate::replicated::replicated_duties;
-use crate::restart::restart_duties;
-use crate::scheduler::scheduler_duties;
-use crate::updates::update_duties;
+use crate::jobs::{job_duties, job_first};
+use crate::reaper::{reaper_duties, reaper_first};
+use crate::replicated::{replicated_duties, replicated_first};
+use crate::restart::{restart_duties, restart_first};
+use crate::scheduler::{scheduler_duties, scheduler_first};
+use crate::updates::{update_duties, update_first};
 use swarm_objects::{Call, Duty, List, NoMemory, Refusal, Reply, Role, Settle};
 use swarm_plain::Plain;
 
@@ -44,15 +44,39 @@ pub fn duties(plain: &Plain, role: Role) -> Result<List<Duty>, NoMemory>
     }
 }
 
-/// The first duty of the control loop, if it has one.
+/// The first duty of the control loop, if it has one. What comes behind it isn't worked out.
 pub fn next_duty(plain: &Plain, role: Role) -> Result<Option<Duty>, NoMemory>
     requires { IsReached (world_of plain.now) }
     ensures { IfOk result (λ first. first ≡ first_of (duties role (world_of plain.now))) }
 {
-    match duties(plain, role) {
-        Ok(all) => Ok(all.as_slice().first().copied()),
-        Err(NoMemory) => Err(NoMemory),
+    match role {
+        Role::Dispatcher => Ok(dispatcher_first(plain)),
+        Role::Enforcer => Ok(enforcer_first(plain)),
+        Role::Restart => Ok(restart_first(plain)),
+        Role::Update => update_first(plain),
+        Role::Replicated => replicated_first(plain),
+        Role::Global => global_first(plain),
+        Role::Job => job_first(plain),
+        Role::Allocator => Ok(allocator_first(plain)),
+        Role::Scheduler => Ok(scheduler_first(plain)),
+        Role::Reaper => Ok(reaper_first(plain)),
+        Role::Agents => Ok(agents_first(plain)),
     }
+}
+
+// The first duty of the first of these control loops that has one.
+fn first_among(plain: &Plain, loops: &[Role]) -> Result<Option<Duty>, NoMemory>
+    requires { IsReached (world_of plain.now) }
+    ensures { let w = world_of plain.now in
+        IfOk result (λ first. first ≡ first_of (flat_map (λ role. duties role w) loops.now)) }
+{
+    for role in loops {
+        let duty = next_duty(plain, *role)?;
+        if duty.is_some() {
+            return Ok(duty);
+        }
+    }
+    Ok(None)
 }
 
 // The first duty of the first control loop that has one.
@@ -61,12 +85,7 @@ fn first_duty(plain: &Plain) -> Result<Option<Duty>, NoMemory>
     ensures { let w = world_of plain.now in
         IfOk result (λ first. first ≡ first_of (flat_map (λ role. duties role w) roles)) }
 {
-    for role in &Role::ALL {
-        if let Some(duty) = duties(plain, *role)?.as_slice().first() {
-            return Ok(Some(*duty));
-        }
-    }
-    Ok(None)
+    first_among(plain, &Role::ALL)
 }
 
 /// The settle test: the first duty of the first control loop that has one; else what is waited for, held or paused, or

@@ -75,7 +75,7 @@ fn is_due(plain: &Plain, duty: Duty) -> Result<bool, NoMemory>
         Duty::Register(node) => is_register_due(plain, node),
         Duty::Beat(node) => is_beat_due(plain, node),
         Duty::Apply(node) => is_apply_due(plain, node),
-        Duty::Pull(node) => return is_pull_due(plain, node),
+        Duty::Pull(node) => is_pull_due(plain, node),
         Duty::Exec(node, task) => is_exec_due(plain, node, task),
         Duty::Report(node, task) => is_report_due(plain, node, task),
         Duty::Forget(node, task) => is_forget_due(plain, node, task),

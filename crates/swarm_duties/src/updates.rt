@@ -24,10 +24,10 @@ ghost use Rattle.swarm_objects.specs.Loops.Update.{
   update_duties,
 };
 ghost use Rattle.swarm_objects.specs.Loops.Words.{places_where, when};
-ghost use Rattle.swarm_objects.specs.Rows.{is_some_and};
+ghost use Rattle.swarm_objects.specs.Rows.{is_some_and, first_of};
 ghost use Rattle.swarm_objects.specs.Services.Runs.{is_of_version};
 ghost use Rattle.swarm_objects.specs.Services.Words.{is_live_clean};
-ghost use Rattle.swarm_objects.specs.Tasks.Places.{is_in_place, place_tasks};
+ghost use Rattle.swarm_objects.specs.Tasks.Places.{is_in_place, place_tasks, place_numbers};
 ghost use Rattle.swarm_objects.specs.Tasks.Words.{is_running};
 ghost use Rattle.swarm_plain.specs.Plain.{world_of};
 
@@ -235,6 +235,109 @@ pub fn update_duties(plain: &Plain) -> Result<List<Duty>, NoMemory>
         put_update(plain, service, &mut duties)?;
     }
     Ok(duties)
+}
+
+// Of these places the first whose old tasks are to stop.
+fn first_swap(plain: &Plain, service: &Service, run: &UpdateRun, numbers: &[u64]) -> Option<Duty>
+    ensures { let t = (world_of plain.now).tables in let s = service.now in result
+        ≡ first_of (places_where (is_of_version s run.now) (is_to_swap t s) (Duty.Swap s.id) numbers.now) }
+{
+    if !is_of_version(service, run) {
+        return None;
+    }
+    for number in numbers {
+        if is_to_swap(plain, service, *number) {
+            return Some(Duty::Swap(service.id, *number));
+        }
+    }
+    None
+}
+
+// The first that is to get a new task.
+fn first_replacement(
+    plain: &Plain,
+    service: &Service,
+    run: &UpdateRun,
+    numbers: &[u64],
+) -> Option<Duty>
+    ensures { let t = (world_of plain.now).tables in let s = service.now in
+        let may = is_of_version s run.now && lets_replace t s run.now in
+        result ≡ first_of (places_where may (is_to_replace t s) (Duty.Replace s.id) numbers.now) }
+{
+    if !replaces(plain, service, run) {
+        return None;
+    }
+    for number in numbers {
+        if is_to_replace(plain, service, *number) {
+            return Some(Duty::Replace(service.id, *number));
+        }
+    }
+    None
+}
+
+// The first about these places of a run.
+#[tactic(auto, using(crate::proofs::First::append_first))]
+fn first_change(plain: &Plain, service: &Service, run: &UpdateRun, numbers: &[u64]) -> Option<Duty>
+    ensures { let t = (world_of plain.now).tables in let s = service.now in
+        let may = is_of_version s run.now && lets_replace t s run.now in
+        result ≡ first_of (places_where (is_of_version s run.now) (is_to_swap t s) (Duty.Swap s.id) numbers.now
+        ++ places_where may (is_to_replace t s) (Duty.Replace s.id) numbers.now) }
+{
+    match first_swap(plain, service, run, numbers) {
+        Some(duty) => Some(duty),
+        None => first_replacement(plain, service, run, numbers),
+    }
+}
+
+// The first about the run of a service.
+fn run_first(plain: &Plain, service: &Service, run: &UpdateRun) -> Result<Option<Duty>, NoMemory>
+    ensures { let t = (world_of plain.now).tables in
+        IfOk result (λ first. first ≡ first_of (run_duties t service.now (Some run.now))) }
+{
+    if !is_under_way(run) {
+        return Ok(None);
+    }
+    if fails(plain, service, run) {
+        return Ok(Some(Duty::Fail(service.id)));
+    }
+    let numbers = place_numbers(plain, service)?;
+    if let Some(duty) = first_change(plain, service, run, numbers.as_slice()) {
+        return Ok(Some(duty));
+    }
+    if is_to_finish(plain, service, run) {
+        return Ok(Some(Duty::Finish(service.id)));
+    }
+    Ok(None)
+}
+
+// The first about the service.
+fn first_update(plain: &Plain, service: &Service) -> Result<Option<Duty>, NoMemory>
+    ensures { let t = (world_of plain.now).tables in
+        IfOk result (λ first. first ≡ first_of (update_duties t service.now service.now.spec.mode)) }
+{
+    if service.spec.mode.is_job() {
+        return Ok(None);
+    }
+    if is_to_start(plain, service) {
+        return Ok(Some(Duty::Start(service.id)));
+    }
+    match &service.run {
+        Some(run) => run_first(plain, service, run),
+        None => Ok(None),
+    }
+}
+
+/// The first of these duties.
+pub fn update_first(plain: &Plain) -> Result<Option<Duty>, NoMemory>
+    ensures { IfOk result (λ first. first ≡ first_of (update (world_of plain.now).tables)) }
+{
+    for service in plain.services.as_slice() {
+        let duty = first_update(plain, service)?;
+        if duty.is_some() {
+            return Ok(duty);
+        }
+    }
+    Ok(None)
 }
 
 // One duty.

@@ -1,5 +1,6 @@
 pub mod Base
 pub mod Examples
+pub mod Following
 pub mod Laws
 pub mod Moves
 pub mod ReplyLaws

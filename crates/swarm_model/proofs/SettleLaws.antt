@@ -61,7 +61,7 @@ is_not false e = refl
 
 -- Nothing is due.
 
-nothing_first : (w : World) (rs : List Role) (r : Role) → first_duty w rs ≡ None → Has rs r → duties r w ≡ []
+pub nothing_first : (w : World) (rs : List Role) (r : Role) → first_duty w rs ≡ None → Has rs r → duties r w ≡ []
 nothing_first w [] r e h = absurd h
 nothing_first w (x ∷ rs) r e h = go (duties x w) refl e h (nothing_first w rs r)
   where

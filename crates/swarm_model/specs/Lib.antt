@@ -5,8 +5,11 @@ pub mod Content
 pub mod Events
 pub mod Follows
 pub mod History
+pub mod Kept
 pub mod Laws
+pub mod OneCaller
 pub mod Outcome
+pub mod Own
 pub mod Script
 pub mod Serial
 pub mod Settle

@@ -1,10 +1,12 @@
 //! What holds over every legal history, of each of its worlds and of each step: each law is the contract of a function
 //! that does nothing.
 ghost use Rattle.swarm_model.specs.Events.{ChangesLaw, PollLaw, ToldOnceLaw, WaitingLaw};
+ghost use Rattle.swarm_model.specs.Kept.{KeptAloneLaw, KeptLaw};
 ghost use Rattle.swarm_model.specs.Laws.DeadSessions.{DeadSessionLaw};
 ghost use Rattle.swarm_model.specs.Laws.Fits.{FittingLaw};
 ghost use Rattle.swarm_model.specs.Laws.OneTemplate.{OneTemplateLaw};
 ghost use Rattle.swarm_model.specs.Laws.Rises.{RisingLaw};
+ghost use Rattle.swarm_model.specs.OneCaller.{RepliesLaw, SerialLaw};
 ghost use Rattle.swarm_model.specs.Laws.Worlds.{OrderLaw, SizeLaw, SoundLaw};
 
 /// A task keeps what it was made with, and its node; its state and what is wanted of it only rise; no id comes back.
@@ -40,4 +42,17 @@ pub fn worlds_are_sound()
     ensures sound { SoundLaw }
     ensures order { OrderLaw }
     ensures size { SizeLaw }
+{}
+
+/// A single caller that goes by the settle test has one history for each list of lines, and all replies are its own.
+pub fn single_callers_are_serial()
+    ensures serial { SerialLaw }
+    ensures replies { RepliesLaw }
+{}
+
+/// What caller 0 knows of its entries as it reads lines makes the whole history follow them, whatever the workers did
+/// meanwhile.
+pub fn kept_entries_follow()
+    ensures many { KeptLaw }
+    ensures alone { KeptAloneLaw }
 {}

@@ -6,6 +6,7 @@ use Rattle.std.proofs.lemmas.Bool.Decides.{nat_tests}
 use Rattle.std.proofs.lemmas.Grind.{flat_map-append}
 use Rattle.std.proofs.lemmas.List.{length-append, take-append-le}
 use Rattle.std.proofs.lemmas.List.Folds.{list_any-append}
+use Rattle.swarm_model.proofs.Following.Strides.{is_tick_by, tick_is, tick_says, wait_step}
 use Rattle.swarm_model.specs.History.{replay, replay_from, replies_from, step_reply, step_world}
 use Rattle.swarm_model.specs.Script.{full_stretch, next_tick, own_call}
 use Rattle.swarm_model.specs.Serial.{next_stride, settle_entries, wait_entries}
@@ -16,7 +17,6 @@ use Rattle.swarm_objects.specs.declared.calls.Entry.{Entry}
 use Rattle.swarm_print.specs.Texts.{reply_text}
 use Rattle.swarm_top.proofs.Readings.{replies-append}
 use Rattle.swarm_top.proofs.Settling.{silent_all, unrefused}
-use Rattle.swarm_top.proofs.Waits.{is_tick_by, tick_is, tick_says, wait_step}
 use Rattle.swarm_script.specs.Line.{Line}
 use Rattle.swarm_script.specs.Line.TheVariants.{Blank, Call as CallLine, Wait, Settle as SettleLine}
 use Rattle.swarm_top.proofs.Prefixes.{appends_none}

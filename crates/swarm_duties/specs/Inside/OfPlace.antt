@@ -1,11 +1,11 @@
 -- Which tasks of a place are meant, and which services have a place on each node.
-use Rattle.std.specs.Prelude.{Bool, true, false, ℕ, ◌&&◌, ◌==◌}
+use Rattle.std.specs.Prelude.{Bool, true, false, ℕ, ◌&&◌, ◌||◌, ◌==◌}
 use Rattle.std.specs.List.{list_any}
 use Rattle.swarm_duties.specs.declared.tasks.Which.{Which}
 use Rattle.swarm_duties.specs.declared.tasks.Which.TheVariants as which
 use Rattle.swarm_objects.specs.Loops.Global.{is_missing}
 use Rattle.swarm_objects.specs.Services.Words.{is_live_dirty}
-use Rattle.swarm_objects.specs.Tasks.Places.{is_in_place, place_at}
+use Rattle.swarm_objects.specs.Tasks.Places.{closes_dirty, counts_for, is_in_place, place_at, place_number}
 use Rattle.swarm_objects.specs.Tasks.Words.{is_kept, is_live}
 use Rattle.swarm_objects.specs.World.{Tables}
 use Rattle.swarm_objects.specs.declared.services.Mode.{Mode}
@@ -30,3 +30,11 @@ is_global (mode.Job concurrent total) = false
 -- the node with this id is to have a task of the service
 abbrev pub missing_on : Tables → Service → ℕ → Bool
 missing_on t s node = list_any (λ n. n.id == node && is_missing t s n) t.nodes
+
+-- the task stands in its place of the service, live
+abbrev pub is_live_at : Service → Task → Bool
+is_live_at s x = is_in_place s (place_at s.spec.mode (place_number x.place)) x && is_live x
+
+-- the task may make its place dirty
+abbrev pub is_suspect : Service → Task → Bool
+is_suspect s x = counts_for s x && (is_live_dirty s x || closes_dirty s x)

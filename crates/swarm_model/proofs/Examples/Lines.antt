@@ -1,16 +1,19 @@
 -- A script of five lines: its serial history, which follows the lines, and the size of a world.
 use Rattle.std.proofs.Common.{arith}
-use Rattle.std.specs.Prelude.{List, [], codes, drop, refl, take, ◌∷◌, ◌≡◌}
+use Rattle.std.specs.Prelude.{List, [], codes, drop, false, refl, take, ◌∷◌, ◌≡◌}
+use Rattle.std.specs.List.{list_all}
 use Rattle.swarm_model.proofs.Examples.Words.{create, plain_draft, world_after}
 use Rattle.swarm_model.specs.Follows.{Follows, IsCalled, IsSettled, IsWaited}
 use Rattle.swarm_model.specs.History.{replay}
 use Rattle.swarm_model.specs.Laws.Size.{size}
-use Rattle.swarm_model.specs.Script.{Asked, Asks, Settles, Waits, own_call, own_duty}
+use Rattle.swarm_model.specs.Own.{own, step_at}
+use Rattle.swarm_model.specs.Script.{Asked, Asks, Settles, Waits, is_of_a_caller, own_call, own_duty}
 use Rattle.swarm_model.specs.Serial.{serial}
 use Rattle.swarm_objects.specs.declared.calls.Call.{Call}
 use Rattle.swarm_objects.specs.declared.calls.Call.TheVariants as call
 use Rattle.swarm_objects.specs.declared.calls.Entry.{Entry}
 use Rattle.swarm_objects.specs.declared.calls.Query.TheVariants as query
+use Rattle.swarm_objects.specs.declared.calls.What.TheVariants as what
 use Rattle.swarm_objects.specs.declared.duties.Duty.TheVariants as duty
 
 abbrev one_service : List Asked
@@ -97,3 +100,31 @@ it_follows = record {
     ),
   );
 }
+
+-- A worker's duty comes between: it is none of caller 0's, and stands in the history before its next entry.
+
+abbrev worked : List Entry
+worked =
+    own_call (create (codes "web") plain_draft)
+    ∷ record { by = 1; what = what.Duty (duty.ReplicatedCreate 1 1) }
+    ∷ own_call call.Halt
+    ∷ []
+
+worked_follows : Follows worked (Asks (create (codes "web") plain_draft) ∷ []) 1
+worked_follows = record {
+  callers = refl;
+  lines_are = (
+    take 1 worked,
+    drop 1 worked,
+    refl,
+    called (create (codes "web") plain_draft),
+    record { part = take 1 (drop 1 worked); entries = refl; part_is = (refl, refl) },
+  );
+}
+
+worked_own : own 0 worked
+    ≡ step_at [] (own_call (create (codes "web") plain_draft)) ∷ step_at (take 2 worked) (own_call call.Halt) ∷ []
+worked_own = refl
+
+worker_alone : list_all (is_of_a_caller 0) worked ≡ false
+worker_alone = refl

@@ -12,5 +12,10 @@ pub loop-node-init : goal.loop-node-init
 loop-node-init c =
     let t = tables_of c.args.plain.now in
     let x = c.args.task.now in
-    ap (λ (nodes : List Node). least_by (node_cmp t x) None (filter (is_open t x) nodes)) c.as_slice-node-items.ensures
-    ∙ best_is t x
+    record {
+      best =
+          ap (λ (nodes : List Node). least_by (node_cmp t x) None (filter (is_open t x) nodes))
+          c.as_slice-node-items.ensures
+          ∙ best_is t x;
+      held = tt;
+    }

@@ -1,8 +1,16 @@
-use Rattle.std.proofs.Common.{◌≡◌, take}
+use Rattle.std.proofs.Common.{◌≡◌, drop}
 use Rattle.std.specs.Prelude.{filter}
-use Rattle.swarm_objects.specs.Tasks.Places.{has_live}
+use Rattle.swarm_duties.proofs.LivePlaces.{numbered_behind}
+use Rattle.swarm_duties.specs.Inside.OfPlace.{is_live_at}
+use Rattle.swarm_objects.specs.Rows.{IsRising, itself}
+use Rattle.swarm_objects.specs.Tasks.Places.{live_places}
 use Rattle.swarm_plain.specs.Plain.{tables_of}
 use Rattle.swarm_duties.proofs.places.live_places.Given as goal
 
-abbrev pub invariant-loop-number : goal.invariant-loop-number
-invariant-loop-number l = l.live ≡ filter (has_live (tables_of l.plain) l.service) (take l.number-index l.number-items)
+abbrev pub invariant-loop-task : goal.invariant-loop-task
+invariant-loop-task l = record {
+  rises : IsRising itself l.numbers;
+  left :
+      numbered_behind l.numbers (filter (is_live_at l.service) (drop l.task-index l.task-items))
+      ≡ live_places (tables_of l.plain) l.service;
+}

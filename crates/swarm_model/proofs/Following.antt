@@ -1,0 +1,12 @@
+pub mod Alone
+pub mod Clock
+pub mod First
+pub mod Idle
+pub mod Keeping
+pub mod Kept
+pub mod KeptAlone
+pub mod Lines
+pub mod Named
+pub mod Own
+pub mod Strides
+pub mod Turns

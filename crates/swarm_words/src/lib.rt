@@ -1,0 +1,11 @@
+// The words of the command line.
+#![tactic(auto)]
+
+mod commands;
+mod finds;
+mod forms;
+mod spellings;
+#[cfg(test)]
+mod tests;
+
+pub use forms::{Form, USAGE, WordFault, read_words};
