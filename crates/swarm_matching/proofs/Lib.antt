@@ -8,6 +8,7 @@ pub mod Closings
 pub mod DutyOwners
 pub mod Ended
 pub mod EndedRuns
+pub mod Examples
 pub mod GlobalPlaces
 pub mod Goals
 pub mod HasClosings

@@ -21,11 +21,13 @@ use Rattle.swarm_matching.proofs.Tests.{all-pass, both, is-not, neither-left, ne
 use Rattle.swarm_matching.proofs.Unmet.{unmet}
 use Rattle.swarm_matching.proofs.WellPlaced.{node-found, one-live-task}
 use Rattle.swarm_matching.specs.Laws.{AreAlone, HasPlaces, NothingElse, SayWhy, StandsWell, is_good_for}
+use Rattle.swarm_matching.specs.Matched.{IsMatched}
 use Rattle.swarm_model.proofs.Moves.Duties.{and-left, and-right}
 use Rattle.swarm_model.proofs.Moves.Rows.{RisesBetween}
 use Rattle.swarm_model.specs.History.{replay}
 use Rattle.swarm_model.specs.Laws.Matches.{are_closings_right, is_aimed, is_executed, is_executor_running, is_in_hand, is_matched_node, is_matched_service, is_one_well, is_place_well, is_run_on, is_unplaceable, is_unprovided, is_well, live_tasks, matches_agent, matches_mode, matches_world, runs_task, runs_well, runs_well_on, stands_somewhere, tasks_in_hand, tasks_run_on}
 use Rattle.swarm_model.specs.Laws.Reconciliation.{ReconciliationLaw}
+use Rattle.swarm_model.specs.Settle.{settle_answer}
 use Rattle.swarm_objects.proofs.RowLemmas.{Has-filter, Has-filter_cases, Has-from_row_at, Has-map, Has-map_cases, number_above}
 use Rattle.swarm_objects.specs.Nodes.Words.{is_node_and, is_ready}
 use Rattle.swarm_objects.specs.Rows.{Has, RisesFrom, agent_node, executor_task, is_row_and, is_some_and, itself, node_id, row_at, service_id, task_id}
@@ -37,6 +39,7 @@ use Rattle.swarm_objects.specs.Values.Ranks.{desired_rank, rank}
 use Rattle.swarm_objects.specs.World.{World}
 use Rattle.swarm_objects.specs.declared.agents.Executor.{Executor}
 use Rattle.swarm_objects.specs.declared.agents.NodeAgent.{NodeAgent}
+use Rattle.swarm_objects.specs.declared.duties.Settle.TheVariants as settle
 use Rattle.swarm_objects.specs.declared.nodes.Node.{Node}
 use Rattle.swarm_objects.specs.declared.services.Service.{Service}
 use Rattle.swarm_objects.specs.declared.tasks.Desired.TheVariants as desired
@@ -358,3 +361,6 @@ settled-matches h legal settled =
     (matched-world (replay h) (calm h legal quiet) (unmet h legal rest) (one-live-task h legal settled)
     (places h legal rest) (nothing-else h legal rest))
     (closed-places h legal settled)
+
+pub settled-matched : (w : World) → settle_answer w ≡ settle.Settled → IsMatched w
+settled-matched w settled h legal is = settled-matches h legal (subst (λ (v : World). settle_answer v ≡ settle.Settled) is settled)

@@ -2,7 +2,7 @@
 use Rattle.std.specs.Prelude.{List, None, Option, Some, [], false, refl, true, ℕ, ◌∷◌, ◌≡◌}
 use Rattle.swarm_objects.proofs.Examples.Rows.{node, placed_task, replicas, tables, task, workload}
 use Rattle.swarm_objects.specs.Agents.Executors.{executor_step}
-use Rattle.swarm_objects.specs.Agents.Messages.{due_set, left_out, message_for}
+use Rattle.swarm_objects.specs.Agents.Messages.{applied, due_set, left_out, message_for}
 use Rattle.swarm_objects.specs.Loops.Agents.{after_apply, after_beat, after_exec, after_forget, after_pull, after_register, after_report, agents}
 use Rattle.swarm_objects.specs.World.{Tables, World, empty_world}
 use Rattle.swarm_objects.specs.declared.agents.AgentMode.TheVariants as agent_mode
@@ -174,6 +174,12 @@ applied_update : after_apply (received_one a_message) 1
           ∷ [];
     }
 applied_update = refl
+
+-- a removal marks the executor as gone
+applied_removal :
+    applied 1000 (record a_message { changes = assign.Remove 3 ∷ [] }) (executor state.Running ∷ [])
+    ≡ record (executor state.Running) { gone = true } ∷ []
+applied_removal = refl
 
 -- a difference leaves the others
 not_left_out : left_out a_message (record (executor state.Running) { task = 9 })

@@ -1,0 +1,7 @@
+pub mod Executors
+pub mod NoNode
+pub mod PausedNode
+pub mod Places
+pub mod Settled
+pub mod Unmet
+pub mod Worlds
