@@ -1,7 +1,4 @@
-pub mod Allocating
 pub mod Flights
-pub mod Inside
-pub mod OneAgent
+pub mod Quiet
 pub mod Reached
 pub mod Stepping
-pub mod Taken

@@ -5,17 +5,19 @@ ghost use Rattle.swarm_model.specs.History.{effect};
 ghost use Rattle.swarm_objects.specs.Duties.{effect_by, is_due};
 ghost use Rattle.swarm_plain.specs.Plain.{world_of};
 
-use crate::agents::{apply, beat, exec, forget, pull, register, report};
-use crate::allocator::{address_task, give_port, note_task};
-use crate::dispatcher::{expire, orphan};
-use crate::enforcer::reject;
-use crate::global::{create_on_node, leave_node};
-use crate::jobs::{create_job_task, remove_old};
-use crate::reaper::remove_task;
-use crate::replicated::{create_replica, remove_gone, scale_down};
-use crate::restart::{raise, restart};
-use crate::scheduler::{drop_task, explain_task, place_task};
-use crate::update_effects::{fail_update, finish_update, replace_place, start_update, swap_place};
+use duty_agents::agents::{apply, beat, exec, forget, pull, register, report};
+use duty_orchestrators::dispatcher::{expire, orphan};
+use duty_orchestrators::enforcer::reject;
+use duty_orchestrators::global::{create_on_node, leave_node};
+use duty_orchestrators::jobs::{create_job_task, remove_old};
+use duty_orchestrators::reaper::remove_task;
+use duty_orchestrators::replicated::{create_replica, remove_gone, scale_down};
+use duty_orchestrators::restart::{raise, restart};
+use duty_placement::allocator::{address_task, give_port, note_task};
+use duty_placement::scheduler::{drop_task, explain_task, place_task};
+use duty_updates::update_effects::{
+    fail_update, finish_update, replace_place, start_update, swap_place,
+};
 use swarm_objects::{Duty, NoMemory, Version};
 use swarm_plain::Plain;
 

@@ -15,9 +15,9 @@ ghost use Rattle.swarm_objects.specs.Rows.{first_of};
 ghost use Rattle.swarm_objects.specs.Services.Runs.{has_open_run};
 ghost use Rattle.swarm_plain.specs.Plain.{tables_of, world_of};
 
-use crate::runs::{is_of_version, is_under_way};
 use crate::update_waits::update_waits;
 use crate::waits::{Wait, executor_waits, remote_waits, session_waits, start_waits};
+use duty_updates::runs::{is_of_version, is_under_way};
 use swarm_objects::{NoMemory, RunStatus, Service, Settle, Task};
 use swarm_plain::Plain;
 

@@ -1,6 +1,9 @@
 // The duties of each control loop, and the settle test.
-ghost use Rattle.std.specs.Prelude.{◌≡◌, IfOk, flat_map};
+ghost use Rattle.std.specs.Prelude.{◌≡◌, IfOk, None, flat_map};
+ghost use Rattle.std.specs.Bool.{OnTrue};
+ghost use Rattle.swarm_duties.specs.Quiet.{IsQuiet, table_roles};
 ghost use Rattle.swarm_duties.specs.Reached.{IsReached};
+ghost use Rattle.swarm_matching.specs.Matched.{IsMatched};
 ghost use Rattle.swarm_model.specs.Calls.{outcome};
 ghost use Rattle.swarm_model.specs.Outcome.{Meets};
 ghost use Rattle.swarm_model.specs.Settle.{settle_answer};
@@ -9,20 +12,35 @@ ghost use Rattle.swarm_objects.specs.Kinds.{roles};
 ghost use Rattle.swarm_objects.specs.Rows.{first_of};
 ghost use Rattle.swarm_plain.specs.Plain.{world_of};
 
-use crate::agents::{agents_duties, agents_first};
-use crate::allocator::{allocator_duties, allocator_first};
-use crate::dispatcher::{dispatcher_duties, dispatcher_first};
-use crate::enforcer::{enforcer_duties, enforcer_first};
-use crate::global::{global_duties, global_first};
 use crate::idle::idle_answer;
-use crate::jobs::{job_duties, job_first};
-use crate::reaper::{reaper_duties, reaper_first};
-use crate::replicated::{replicated_duties, replicated_first};
-use crate::restart::{restart_duties, restart_first};
-use crate::scheduler::{scheduler_duties, scheduler_first};
-use crate::updates::{update_duties, update_first};
+use crate::quiet::{Quiet, agents_first};
+use duty_agents::agents::agents_duties;
+use duty_orchestrators::dispatcher::{dispatcher_duties, dispatcher_first};
+use duty_orchestrators::enforcer::{enforcer_duties, enforcer_first};
+use duty_orchestrators::global::{global_duties, global_first};
+use duty_orchestrators::jobs::{job_duties, job_first};
+use duty_orchestrators::reaper::{reaper_duties, reaper_first};
+use duty_orchestrators::replicated::{replicated_duties, replicated_first};
+use duty_orchestrators::restart::{restart_duties, restart_first};
+use duty_placement::allocator::{allocator_duties, allocator_first};
+use duty_placement::scheduler::{scheduler_duties, scheduler_first};
+use duty_updates::updates::{update_duties, update_first};
 use swarm_objects::{Call, Duty, List, NoMemory, Refusal, Reply, Role, Settle};
 use swarm_plain::Plain;
+
+// The control loops that read the tables alone.
+const TABLE_LOOPS: [Role; 10] = [
+    Role::Dispatcher,
+    Role::Enforcer,
+    Role::Restart,
+    Role::Update,
+    Role::Replicated,
+    Role::Global,
+    Role::Job,
+    Role::Allocator,
+    Role::Scheduler,
+    Role::Reaper,
+];
 
 /// What the control loop has to do, in order.
 pub fn duties(plain: &Plain, role: Role) -> Result<List<Duty>, NoMemory>
@@ -60,7 +78,7 @@ pub fn next_duty(plain: &Plain, role: Role) -> Result<Option<Duty>, NoMemory>
         Role::Allocator => Ok(allocator_first(plain)),
         Role::Scheduler => Ok(scheduler_first(plain)),
         Role::Reaper => Ok(reaper_first(plain)),
-        Role::Agents => Ok(agents_first(plain)),
+        Role::Agents => Ok(agents_first(plain, None)),
     }
 }
 
@@ -79,22 +97,51 @@ fn first_among(plain: &Plain, loops: &[Role]) -> Result<Option<Duty>, NoMemory>
     Ok(None)
 }
 
+// The first duty of the first of the control loops over the tables that has one. Where none has, none is asked.
+fn first_by_tables(plain: &Plain, quiet: bool) -> Result<Option<Duty>, NoMemory>
+    requires reached { IsReached (world_of plain.now) }
+    requires quiet { let w = world_of plain.now in
+        OnTrue quiet (first_of (flat_map (λ role. duties role w) table_roles) ≡ None) }
+    ensures { let w = world_of plain.now in
+        IfOk result (λ first. first ≡ first_of (flat_map (λ role. duties role w) table_roles)) }
+{
+    if quiet {
+        Ok(None)
+    } else {
+        first_among(plain, &TABLE_LOOPS)
+    }
+}
+
 // The first duty of the first control loop that has one.
-fn first_duty(plain: &Plain) -> Result<Option<Duty>, NoMemory>
-    requires { IsReached (world_of plain.now) }
+fn first_duty(plain: &Plain, quiet: Quiet) -> Result<Option<Duty>, NoMemory>
+    requires reached { IsReached (world_of plain.now) }
+    requires quiet { IsQuiet quiet (world_of plain.now) }
     ensures { let w = world_of plain.now in
         IfOk result (λ first. first ≡ first_of (flat_map (λ role. duties role w) roles)) }
 {
-    first_among(plain, &Role::ALL)
+    match first_by_tables(plain, quiet.tables)? {
+        Some(duty) => Ok(Some(duty)),
+        None => Ok(agents_first(plain, quiet.before)),
+    }
 }
 
 /// The settle test: the first duty of the first control loop that has one; else what is waited for, held or paused, or
-/// that all is settled.
+/// that all is settled. Then what runs matches the specifications.
 pub fn settle(plain: &Plain) -> Result<Settle, NoMemory>
     requires { IsReached (world_of plain.now) }
+    ensures answers { IfOk result (λ answer. answer ≡ settle_answer (world_of plain.now)) }
+    ensures matched { IfOk result (λ answer. answer ≡ Settle.Settled → IsMatched (world_of plain.now)) }
+{
+    settle_knowing(plain, Quiet::nowhere())
+}
+
+/// The same, which doesn't look where it is known to be quiet.
+pub fn settle_knowing(plain: &Plain, quiet: Quiet) -> Result<Settle, NoMemory>
+    requires reached { IsReached (world_of plain.now) }
+    requires quiet { IsQuiet quiet (world_of plain.now) }
     ensures { IfOk result (λ answer. answer ≡ settle_answer (world_of plain.now)) }
 {
-    match first_duty(plain)? {
+    match first_duty(plain, quiet)? {
         Some(duty) => Ok(Settle::Busy(duty)),
         None => idle_answer(plain),
     }
@@ -103,8 +150,9 @@ pub fn settle(plain: &Plain) -> Result<Settle, NoMemory>
 /// Answers the call by which a line with this budget asks whether the world has settled, as an entry.
 pub fn settle_call(plain: &mut Plain, budget: u64) -> Reply
     requires { IsReached (world_of plain.old) }
-    ensures { let before = world_of plain.old in
+    ensures meets { let before = world_of plain.old in
         Meets (outcome before (Call.Settle budget)) before result (world_of plain.new) }
+    ensures matched { result ≡ Reply.Settle budget Settle.Settled → IsMatched (world_of plain.old) }
 {
     if let Some(refusal) = plain.refuses(&Call::Settle(budget)) {
         return Reply::Refused(refusal);

@@ -8,22 +8,24 @@ ghost use Rattle.swarm_model.specs.Outcome.{Meets};
 ghost use Rattle.swarm_objects.specs.Duties.{is_due};
 ghost use Rattle.swarm_plain.specs.Plain.{world_of};
 
-use crate::agents::{
+use crate::effects::do_duty;
+use crate::settling::settle_call;
+use duty_agents::agents::{
     is_apply_due, is_beat_due, is_exec_due, is_forget_due, is_pull_due, is_register_due,
     is_report_due,
 };
-use crate::allocator::{is_address_due, is_note_due, is_port_due};
-use crate::dispatcher::{is_expire_due, is_orphan_due};
-use crate::effects::do_duty;
-use crate::enforcer::is_reject_due;
-use crate::global::{is_global_create_due, is_leave_due};
-use crate::jobs::{is_job_create_due, is_old_due};
-use crate::reaper::{is_delete_due, is_trim_due};
-use crate::replicated::{is_down_due, is_gone_due, is_replicated_create_due};
-use crate::restart::{is_raise_due, is_restart_due};
-use crate::scheduler::{is_drop_due, is_explain_due, is_place_due};
-use crate::settling::settle_call;
-use crate::updates::{is_fail_due, is_finish_due, is_replace_due, is_start_due, is_swap_due};
+use duty_orchestrators::dispatcher::{is_expire_due, is_orphan_due};
+use duty_orchestrators::enforcer::is_reject_due;
+use duty_orchestrators::global::{is_global_create_due, is_leave_due};
+use duty_orchestrators::jobs::{is_job_create_due, is_old_due};
+use duty_orchestrators::reaper::{is_delete_due, is_trim_due};
+use duty_orchestrators::replicated::{is_down_due, is_gone_due, is_replicated_create_due};
+use duty_orchestrators::restart::{is_raise_due, is_restart_due};
+use duty_placement::allocator::{is_address_due, is_note_due, is_port_due};
+use duty_placement::scheduler::{is_drop_due, is_explain_due, is_place_due};
+use duty_updates::updates::{
+    is_fail_due, is_finish_due, is_replace_due, is_start_due, is_swap_due,
+};
 use swarm_objects::limits::MOST_ENTRIES;
 use swarm_objects::{Call, Duty, NoMemory, Reply, What};
 use swarm_plain::Plain;

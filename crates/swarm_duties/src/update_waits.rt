@@ -21,10 +21,10 @@ ghost use Rattle.swarm_objects.specs.Tasks.Places.{is_in_place};
 ghost use Rattle.swarm_objects.specs.Tasks.Words.{is_running};
 ghost use Rattle.swarm_plain.specs.Plain.{tables_of};
 
-use crate::places::{has_dirty_place, place_numbers};
-use crate::runs::{has_room, is_flying, is_under_way, is_watched};
-use crate::updates::is_to_replace;
 use crate::waits::{Wait, wait_till};
+use duty_rows::places::{has_dirty_place, place_numbers};
+use duty_updates::runs::{has_room, is_flying, is_under_way, is_watched};
+use duty_updates::updates::is_to_replace;
 use swarm_objects::{Cause, Ms, NoMemory, Replaced, Service, Task, UpdateRun};
 use swarm_plain::Plain;
 

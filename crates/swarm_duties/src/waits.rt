@@ -25,7 +25,7 @@ ghost use Rattle.swarm_objects.specs.Rows.{agent_node, is_row_and, keep_least, l
 ghost use Rattle.swarm_objects.specs.Tasks.Words.{is_live, is_to_wait};
 ghost use Rattle.swarm_plain.specs.Plain.{tables_of, world_of};
 
-use crate::executors::phase_time;
+use duty_agents::executors::phase_time;
 use std::cmp::Ordering;
 use std::marker::Model;
 use swarm_objects::{

@@ -1,14 +1,11 @@
--- What a caller's call or turn does to the history.
-use Rattle.std.specs.Prelude.{ℕ, ◌≡◌, List, [], ◌∷◌, ◌++◌, length, Option, Some, None}
+-- What a caller's call or duty does to the history.
+use Rattle.std.specs.Prelude.{ℕ, ◌≡◌, List, [], ◌∷◌, ◌++◌, length}
 use Rattle.swarm_model.specs.History.{replay, step_reply}
 use Rattle.swarm_objects.specs.Limits.{most_entries}
-use Rattle.swarm_objects.specs.Rows.{first_of}
-use Rattle.swarm_objects.specs.Duties.{duties}
 use Rattle.swarm_objects.specs.declared.calls.Call.{Call}
 use Rattle.swarm_objects.specs.declared.calls.Entry.{Entry}
 use Rattle.swarm_objects.specs.declared.calls.What.TheVariants.{Call as Called, Duty as WhatDuty}
 use Rattle.swarm_objects.specs.declared.duties.Duty.{Duty}
-use Rattle.swarm_objects.specs.declared.loops.Role.{Role}
 use Rattle.swarm_objects.specs.declared.replies.Reply.{Reply}
 use Rattle.swarm_top.specs.declared.run.Unanswered.{Unanswered}
 use Rattle.swarm_top.specs.declared.run.Unanswered.TheVariants.{Full, NoMemory}
@@ -25,12 +22,6 @@ duty_by by duty = record { by = by; what = WhatDuty duty }
 pub record Calls (by : ℕ) (call : Call) (before : List Entry) (reply : Reply) (after : List Entry) : Type 0 where
   pub entry : after ≡ before ++ call_by by call ∷ []
   pub reply_is : reply ≡ step_reply (replay before) (call_by by call)
-
--- the first duty of the control loop is the next entry; or the loop has none, and nothing changed
-abbrev pub Turns : ℕ → Role → List Entry → Option Duty → List Entry → Type 0
-Turns by role before (Some duty) after =
-    (after ≡ before ++ duty_by by duty ∷ []) × (first_of (duties role (replay before)) ≡ Some duty)
-Turns by role before None after = (after ≡ before) × (first_of (duties role (replay before)) ≡ None)
 
 -- there is no entry, and this is why
 abbrev pub AddsNothing : Unanswered → List Entry → List Entry → Type 0

@@ -1,5 +1,5 @@
 use Rattle.std.proofs.Common.{◌∙◌, sym}
-use Rattle.swarm_duties.proofs.First.{due_of_first}
+use Rattle.duty_rows.proofs.First.{due_of_first}
 use Rattle.swarm_plain.specs.Plain.{world_of}
 use Rattle.swarm_walks.proofs.steps.do_next.Goals as goal
 

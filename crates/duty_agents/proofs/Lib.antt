@@ -1,0 +1,4 @@
+pub mod AgentApplies
+pub mod AgentChanges
+pub mod AgentDues
+pub mod Unsent

@@ -1,0 +1,14 @@
+use Rattle.std.proofs.Common.{sym, ◌∙◌}
+use Rattle.swarm_objects.specs.Loops.Global.{leave_duties}
+use Rattle.swarm_objects.specs.declared.services.Service.{Service}
+use Rattle.swarm_plain.specs.Plain.{tables_of}
+use Rattle.duty_rows.proofs.Looks.{given_first}
+use Rattle.duty_orchestrators.proofs.global.first_leave.Goals as goal
+
+pub returns-then-is_some : goal.returns-then-is_some
+returns-then-is_some c =
+    let t = tables_of c.args.plain.now in
+    given_first
+    (λ (s : Service). leave_duties t s s.spec.mode) c.as_slice-service-items.result.now c.loop-service.service-index
+    c.service-item.result c.in_ok-duty.duty _ c.loop-service-test.true c.service-item.is c.loop-service.invariant
+    c.in_ok-duty.ensures (sym c.is_some.ensures ∙ c.if-is_some.true)

@@ -1,0 +1,57 @@
+-- Nodes that pass two tests, one after the other.
+use Rattle.std.proofs.Common.{◌≡◌, ℕ, Bool, true, false, cond, List, [], ◌∷◌, length, None, refl, sym, ap, ◌∙◌}
+use Rattle.std.specs.Prelude.{◌&&◌, count_by, filter}
+use Rattle.std.proofs.lemmas.List.Sums.{length-filter}
+use Rattle.duty_placement.specs.Inside.Filtering.{is_counted, is_open}
+use Rattle.swarm_objects.specs.Nodes.BestNode.{best_node, node_cmp}
+use Rattle.swarm_objects.specs.Nodes.Filters.{admits, is_refused_by, is_tested_on, refusal_counts, tested_nodes}
+use Rattle.swarm_objects.specs.Rows.{least_by}
+use Rattle.swarm_objects.specs.World.{Tables}
+use Rattle.swarm_objects.specs.declared.nodes.Node.{Node}
+use Rattle.swarm_objects.specs.declared.tasks.Task.{Task}
+
+filter_both : {X : Type 0} (p q : X → Bool) (xs : List X) → filter (λ x. p x && q x) xs ≡ filter q (filter p xs)
+filter_both p q [] = refl
+filter_both p q (x ∷ xs) = go (p x) (q x) refl (filter_both p q xs)
+  where
+    go : (a b : Bool) → q x ≡ b → filter (λ y. p y && q y) xs ≡ filter q (filter p xs) →
+        cond (a && b) (x ∷ filter (λ y. p y && q y) xs) (filter (λ y. p y && q y) xs)
+        ≡ filter q (cond a (x ∷ filter p xs) (filter p xs))
+    go true true is below =
+        ap (λ ys. x ∷ ys) below ∙ sym (ap (λ b. cond b (x ∷ filter q (filter p xs)) (filter q (filter p xs))) is)
+    go true false is below = below ∙ sym (ap (λ b. cond b (x ∷ filter q (filter p xs)) (filter q (filter p xs))) is)
+    go false true is below = below
+    go false false is below = below
+
+count_both : {X : Type 0} (p q : X → Bool) (xs : List X) → count_by (λ x. p x && q x) xs ≡ count_by q (filter p xs)
+count_both p q xs =
+    sym (length-filter (λ x. p x && q x) xs) ∙ ap length (filter_both p q xs) ∙ length-filter q (filter p xs)
+
+counted : (t : Tables) (x : Task) (k : ℕ) →
+    count_by (is_counted t x k) t.nodes ≡ count_by (is_refused_by t x k) (tested_nodes t x)
+unfolding is_counted
+counted t x k = count_both (λ (n : Node). is_tested_on x.place n.id) (is_refused_by t x k) t.nodes
+
+-- the counts of the six filters
+pub six_counts : (t : Tables) (x : Task) (a b c d e f : ℕ) → a ≡ count_by (is_counted t x 0) t.nodes →
+    b ≡ count_by (is_counted t x 1) t.nodes → c ≡ count_by (is_counted t x 2) t.nodes →
+    d ≡ count_by (is_counted t x 3) t.nodes → e ≡ count_by (is_counted t x 4) t.nodes →
+    f ≡ count_by (is_counted t x 5) t.nodes → a ∷ b ∷ c ∷ d ∷ e ∷ f ∷ [] ≡ refusal_counts t x
+six_counts t x a b c d e f is_a is_b is_c is_d is_e is_f =
+    both a (count 0) (b ∷ c ∷ d ∷ e ∷ f ∷ []) _ (is_a ∙ counted t x 0)
+    (both b (count 1) (c ∷ d ∷ e ∷ f ∷ []) _ (is_b ∙ counted t x 1)
+    (both c (count 2) (d ∷ e ∷ f ∷ []) _ (is_c ∙ counted t x 2)
+    (both d (count 3) (e ∷ f ∷ []) _ (is_d ∙ counted t x 3)
+    (both e (count 4) (f ∷ []) _ (is_e ∙ counted t x 4)
+    (both f (count 5) [] _ (is_f ∙ counted t x 5) refl)))))
+  where
+    count : ℕ → ℕ
+    count k = count_by (is_refused_by t x k) (tested_nodes t x)
+
+    both : (m n : ℕ) (ms ns : List ℕ) → m ≡ n → ms ≡ ns → m ∷ ms ≡ n ∷ ns
+    both m n ms ns first rest = ap (λ k. k ∷ ms) first ∙ ap (λ ks. n ∷ ks) rest
+
+pub best_is : (t : Tables) (x : Task) → least_by (node_cmp t x) None (filter (is_open t x) t.nodes) ≡ best_node t x
+unfolding is_open
+best_is t x =
+    ap (least_by (node_cmp t x) None) (filter_both (λ (n : Node). is_tested_on x.place n.id) (admits t x) t.nodes)

@@ -1,0 +1,290 @@
+-- The least number that is free is the first that nobody holds, counted up from the lowest.
+use Rattle.std.proofs.Common.{◌≡◌, ◌∙◌, ◌+◌, ◌<◌, ◌≤◌, ◌⊎◌, Bool, List, None, Option, Some, [], ◌++◌, ap, arith, cond, eqb, false, inl, inr, leb, ltb, refl, subst, sym, true, ℕ, ◌∷◌}
+use Rattle.std.proofs.lemmas.Bool.Decides.{nat_tests}
+use Rattle.std.proofs.Math.Nat.{div-add-mod, mul-add, mul-le-mul_left}
+use Rattle.std.proofs.lemmas.Nat.{pow-add, pow_pos}
+use Rattle.std.specs.List.{list_any}
+use Rattle.std.specs.Option.{option_eq}
+use Rattle.std.specs.Prelude.{◌==◌, filter, find, flat_map, fold, is_none, map, not, option_to_list, ◌%◌, ◌&&◌, ◌*◌, ◌-◌, ◌/◌, ◌^◌, ◌||◌}
+use Rattle.swarm_model.proofs.Laws.Any.{any-has, has-any, rising-has}
+use Rattle.swarm_objects.proofs.Gaps.{IsRising-with_row, first_gap-ge}
+use Rattle.swarm_objects.proofs.RowLemmas.{number_above}
+use Rattle.swarm_objects.specs.Rows.{Has, IsRising, RisesFrom, first_free, first_gap, itself, rising, with_number}
+use Rattle.swarm_objects.specs.Limits.{first_port, last_port}
+use Rattle.swarm_objects.specs.Rules.Networks.{subnet_breaks, subnet_rules}
+use Rattle.swarm_objects.specs.Same.{same_bool, same_number}
+use Rattle.swarm_objects.specs.Services.Ports.{free_port, has_port_number, holds_port, is_numbered, numbers_given, numbers_named, ports_held, ports_of}
+use Rattle.swarm_objects.specs.Tasks.Addresses.{addresses_held, addresses_in, free_in}
+use Rattle.swarm_objects.specs.Tasks.Words.{is_not_over}
+use Rattle.swarm_objects.specs.World.{Tables}
+use Rattle.swarm_objects.specs.declared.networks.Network.{Network}
+use Rattle.swarm_objects.specs.declared.rules.SpecRule.TheVariants as rule
+use Rattle.swarm_objects.specs.declared.services.PortNumber.{PortNumber}
+use Rattle.swarm_objects.specs.declared.services.Service.{Service}
+use Rattle.swarm_objects.specs.declared.tasks.Address.{Address}
+use Rattle.swarm_objects.specs.declared.tasks.Task.{Task}
+use Rattle.swarm_objects.specs.declared.templates.Port.{Port}
+use Rattle.duty_rows.proofs.AnyOf.{any_append, any_each, any_same, or_false}
+use Rattle.duty_rows.proofs.Numbers.{with_number-cases}
+use Rattle.duty_placement.specs.Allocating.{holds_address, is_address}
+
+-- Rising numbers.
+
+rising-cases : (numbers : List ℕ) (k : ℕ) → Has (rising numbers) k → Has numbers k
+rising-cases numbers k h = elim (go [] numbers h) [ inl none ↦ absurd none | inr t ↦ t ]
+  where
+    go : (ks xs : List ℕ) → Has (fold (λ ks n. with_number n ks) ks xs) k → Has ks k ⊎ Has xs k
+    go ks [] t = inl t
+    go ks (x ∷ xs) t = elim (go (with_number x ks) xs t) [
+      | inl u ↦ (elim (with_number-cases x k ks u) [ inl e ↦ inr (inl e) | inr v ↦ inl v ])
+      | inr v ↦ inr (inr v)
+    ]
+
+rising-rises : (numbers : List ℕ) → IsRising itself (rising numbers)
+rising-rises numbers = go [] numbers tt
+  where
+    go : (ks xs : List ℕ) → IsRising itself ks → IsRising itself (fold (λ ks n. with_number n ks) ks xs)
+    go ks [] r = r
+    go ks (x ∷ xs) r = go (with_number x ks) xs (IsRising-with_row itself x ks r)
+
+-- The first gap.
+
+gap-free : (from : ℕ) (ks : List ℕ) → ¬ (Has ks from) → first_gap from ks ≡ from
+gap-free from [] free = refl
+gap-free from (k ∷ ks) free = go (ltb k from) (eqb k from) refl (gap-free from ks (λ t. free (inr t)))
+  where
+    go : (a b : Bool) → eqb k from ≡ b → first_gap from ks ≡ from →
+        cond a (first_gap from ks) (cond b (first_gap (from + 1) ks) from) ≡ from
+    go true b e below = below
+    go false true e below = absurd (let same : k ≡ from = grind (arith, nat_tests) in free (inl same))
+    go false false e below = refl
+
+gap_step : (k from : ℕ) (ks : List ℕ) → RisesFrom itself k ks → Has (k ∷ ks) from →
+    (Has ks from → first_gap from ks ≡ first_gap (from + 1) ks) →
+    first_gap from (k ∷ ks) ≡ first_gap (from + 1) (k ∷ ks)
+gap_step k from ks r (inl same) below = grind (arith, nat_tests, same)
+gap_step k from ks r (inr t) below = let above = number_above itself k ks from r t in grind (arith, nat_tests, below t)
+
+gap_above : (n from : ℕ) (ks : List ℕ) → RisesFrom itself n ks → Has ks from →
+    first_gap from ks ≡ first_gap (from + 1) ks
+gap_above n from [] r h = absurd h
+gap_above n from (k ∷ ks) r h = gap_step k from ks r.1 h (gap_above k from ks r.1)
+
+gap-held : (from : ℕ) (ks : List ℕ) → IsRising itself ks → Has ks from → first_gap from ks ≡ first_gap (from + 1) ks
+gap-held from [] r h = absurd h
+gap-held from (k ∷ ks) r h = gap_step k from ks r h (gap_above k from ks r)
+
+-- Any of the items that pass, or of what is made of them.
+
+any_filter : {X : Type 0} (p test : X → Bool) (rows : List X) →
+    list_any p (filter test rows) ≡ list_any (λ x. test x && p x) rows
+any_filter p test [] = refl
+any_filter p test (x ∷ rows) = go (test x) (any_filter p test rows)
+  where
+    go : (a : Bool) → list_any p (filter test rows) ≡ list_any (λ y. test y && p y) rows →
+        list_any p (cond a (x ∷ filter test rows) (filter test rows)) ≡
+        ((a && p x) || list_any (λ y. test y && p y) rows)
+    go true e = ap (λ c. p x || c) e
+    go false e = e
+
+any_map : {X Y : Type 0} (p : Y → Bool) (f : X → Y) (rows : List X) →
+    list_any p (map f rows) ≡ list_any (λ x. p (f x)) rows
+any_map p f [] = refl
+any_map p f (x ∷ rows) = ap (λ c. p (f x) || c) (any_map p f rows)
+
+-- Counting up to the first that is free.
+
+-- the number is taken
+abbrev pub is_taken : List ℕ → ℕ → Bool
+is_taken taken n = list_any (λ k. eqb k n) taken
+
+taken-Has : (taken : List ℕ) (n : ℕ) → is_taken taken n ≡ true → Has taken n
+taken-Has taken n e =
+    let found = any-has (λ k. eqb k n) taken e in
+    let same : found.0 ≡ n = grind (arith, nat_tests, found.2) in
+    subst (λ (k : ℕ). Has taken k) same found.1
+
+not-Has : (taken : List ℕ) (n : ℕ) → is_taken taken n ≡ false → ¬ (Has taken n)
+not-Has taken n e h =
+    let same : eqb n n ≡ true = grind (arith, nat_tests) in
+    let yes' = has-any (λ k. eqb k n) taken n h same in
+    let no' : false ≡ true = sym e ∙ yes' in cc
+
+-- the numbers from the lowest one up to this one are taken
+abbrev pub AreTaken : ℕ → List ℕ → ℕ → Type 0
+AreTaken low taken n = first_gap n (rising taken) ≡ first_gap low (rising taken)
+
+taken-next : (low : ℕ) (taken : List ℕ) (n : ℕ) → is_taken taken n ≡ true → AreTaken low taken n →
+    AreTaken low taken (n + 1)
+taken-next low taken n e so_far =
+    sym (gap-held n (rising taken) (rising-rises taken) (rising-has taken n (taken-Has taken n e))) ∙ so_far
+
+free_cases : (high g n : ℕ) → g ≡ n → n ≤ high → Some n ≡ cond (leb g high) (Some g) None
+free_cases high g n same le = grind (arith, nat_tests, same)
+
+first-found : (low high : ℕ) (taken : List ℕ) (n : ℕ) → is_taken taken n ≡ false → n ≤ high → AreTaken low taken n →
+    Some n ≡ first_free low high taken
+first-found low high taken n free le so_far =
+    free_cases high (first_gap low (rising taken)) n
+    (sym so_far ∙ gap-free n (rising taken) (λ t. not-Has taken n free (rising-cases taken n t))) le
+
+none_cases : (high g n : ℕ) → n ≤ g → high < n → ◌≡◌ {A = Option ℕ} None (cond (leb g high) (Some g) None)
+none_cases high g n le above = grind (arith, nat_tests)
+
+none-found : (low high : ℕ) (taken : List ℕ) (n : ℕ) → high < n → AreTaken low taken n →
+    ◌≡◌ {A = Option ℕ} None (first_free low high taken)
+none-found low high taken n above so_far =
+    none_cases high (first_gap low (rising taken)) n
+    (let ge = first_gap-ge n (rising taken) in omega (arith, so_far, ge)) above
+
+-- Ports.
+
+port_named : (udp : Bool) (n : ℕ) (p : Port) →
+    (same_bool p.udp udp && list_any (λ k. eqb k n) (option_to_list p.number)) ≡ has_port_number udp n p
+port_named udp n p = go p.number
+  where
+    go : (o : Option ℕ) → (same_bool p.udp udp && list_any (λ k. eqb k n) (option_to_list o))
+        ≡ (same_bool p.udp udp && option_eq same_number o (Some n))
+    go None = refl
+    go (Some k) = ap (λ (b : Bool). same_bool p.udp udp && b) (or_false (eqb k n))
+
+named-ports : (udp : Bool) (n : ℕ) (ports : List Port) →
+    is_taken (numbers_named udp ports) n ≡ list_any (has_port_number udp n) ports
+named-ports udp n ports =
+    any_each (λ k. eqb k n) (λ (p : Port). option_to_list p.number) (filter (λ (p : Port). same_bool p.udp udp) ports)
+    ∙ any_filter (λ (p : Port). list_any (λ k. eqb k n) (option_to_list p.number)) (λ (p : Port). same_bool p.udp udp)
+    ports
+    ∙ any_same (λ (p : Port). same_bool p.udp udp && list_any (λ k. eqb k n) (option_to_list p.number))
+    (has_port_number udp n)
+    ports (port_named udp n)
+
+given-numbers : (udp : Bool) (n : ℕ) (numbers : List PortNumber) →
+    is_taken (numbers_given udp numbers) n ≡ list_any (is_numbered udp n) numbers
+given-numbers udp n numbers =
+    any_map (λ k. eqb k n) (λ (m : PortNumber). m.number) (filter (λ (m : PortNumber). same_bool m.udp udp) numbers)
+    ∙ any_filter (λ (m : PortNumber). eqb m.number n) (λ (m : PortNumber). same_bool m.udp udp) numbers
+
+held-ports : (udp : Bool) (n : ℕ) (s : Service) → is_taken (ports_held udp s) n ≡ holds_port udp n s
+held-ports udp n s =
+    let front = numbers_named udp s.spec.ports in
+    let before = numbers_named udp (ports_of s.previous) in
+    let given = numbers_given udp s.numbers in
+    any_append (λ k. eqb k n) (front ++ before) given
+    ∙ ap (λ (b : Bool). b || is_taken given n) (any_append (λ k. eqb k n) front before)
+    ∙ ap (λ (b : Bool). (b || is_taken before n) || is_taken given n) (named-ports udp n s.spec.ports)
+    ∙ ap (λ (b : Bool). (list_any (has_port_number udp n) s.spec.ports || b) || is_taken given n)
+    (named-ports udp n (ports_of s.previous))
+    ∙ ap (λ (b : Bool). (list_any (has_port_number udp n) s.spec.ports
+    || list_any (has_port_number udp n) (ports_of s.previous)) || b) (given-numbers udp n s.numbers)
+
+abbrev pub all_ports : Tables → Bool → List ℕ
+all_ports t udp = flat_map (ports_held udp) t.services
+
+port-taken : (t : Tables) (udp : Bool) (n : ℕ) → list_any (holds_port udp n) t.services ≡ is_taken (all_ports t udp) n
+port-taken t udp n =
+    sym (any_each (λ k. eqb k n) (ports_held udp) t.services
+    ∙ any_same (λ (s : Service). is_taken (ports_held udp s) n) (holds_port udp n) t.services (held-ports udp n))
+
+pub next_port : (t : Tables) (udp : Bool) (n : ℕ) (held : Bool) → held ≡ list_any (holds_port udp n) t.services →
+    held ≡ true → AreTaken first_port (all_ports t udp) n → AreTaken first_port (all_ports t udp) (n + 1)
+next_port t udp n held is e so_far =
+    taken-next first_port (all_ports t udp) n (sym (port-taken t udp n) ∙ sym is ∙ e) so_far
+
+pub port_found : (t : Tables) (udp : Bool) (n : ℕ) (held : Bool) → held ≡ list_any (holds_port udp n) t.services →
+    held ≡ false → n ≤ last_port → AreTaken first_port (all_ports t udp) n → Some n ≡ free_port t udp
+port_found t udp n held is e le so_far =
+    first-found first_port last_port (all_ports t udp) n (sym (port-taken t udp n) ∙ sym is ∙ e) le so_far
+
+pub no_port : (t : Tables) (udp : Bool) (n : ℕ) → last_port < n → AreTaken first_port (all_ports t udp) n →
+    ◌≡◌ {A = Option ℕ} None (free_port t udp)
+no_port t udp n above so_far = none-found first_port last_port (all_ports t udp) n above so_far
+
+-- Addresses.
+
+held-addresses : (network n : ℕ) (x : Task) →
+    is_taken (addresses_in network x) n ≡ list_any (is_address network n) x.addresses
+held-addresses network n x =
+    any_map (λ k. eqb k n) (λ (a : Address). a.number) (filter (λ (a : Address). a.network == network) x.addresses)
+    ∙ any_filter (λ (a : Address). eqb a.number n) (λ (a : Address). a.network == network) x.addresses
+
+address-taken : (t : Tables) (network n : ℕ) →
+    list_any (holds_address network n) t.tasks ≡ is_taken (addresses_held t network) n
+address-taken t network n =
+    sym (any_each (λ k. eqb k n) (addresses_in network) (filter is_not_over t.tasks)
+    ∙ any_filter (λ (x : Task). is_taken (addresses_in network x) n) is_not_over t.tasks
+    ∙ any_same (λ (x : Task). is_not_over x && is_taken (addresses_in network x) n) (holds_address network n) t.tasks
+    (λ (x : Task). ap (λ (b : Bool). is_not_over x && b) (held-addresses network n x)))
+
+-- the first address of the network that a task may have, and the last
+abbrev pub lowest : Network → ℕ
+lowest n = n.base + 2
+
+abbrev pub highest : Network → ℕ
+highest n = n.base + 2 ^ (32 - n.length) - 2
+
+pub next_address : (t : Tables) (id : ℕ) (network : Network) (n : ℕ) (held : Bool) →
+    held ≡ list_any (holds_address id n) t.tasks → held ≡ true → AreTaken (lowest network) (addresses_held t id) n →
+    AreTaken (lowest network) (addresses_held t id) (n + 1)
+next_address t id network n held is e so_far =
+    taken-next (lowest network) (addresses_held t id) n (sym (address-taken t id n) ∙ sym is ∙ e) so_far
+
+pub address_found : (t : Tables) (id : ℕ) (network : Network) (n : ℕ) (held : Bool) →
+    held ≡ list_any (holds_address id n) t.tasks → held ≡ false → n ≤ highest network →
+    AreTaken (lowest network) (addresses_held t id) n → Some n ≡ free_in (addresses_held t id) network
+address_found t id network n held is e le so_far =
+    first-found (lowest network) (highest network) (addresses_held t id) n (sym (address-taken t id n) ∙ sym is ∙ e) le
+    so_far
+
+pub no_address : (t : Tables) (id : ℕ) (network : Network) (n : ℕ) → highest network < n →
+    AreTaken (lowest network) (addresses_held t id) n → ◌≡◌ {A = Option ℕ} None (free_in (addresses_held t id) network)
+no_address t id network n above so_far =
+    none-found (lowest network) (highest network) (addresses_held t id) n above so_far
+
+-- The addresses of a subnet have 32 bits.
+
+below_factor : (p q b : ℕ) → p * q < p * b → q < b
+below_factor p q b lt = go (ltb q b) refl
+  where
+    go : (c : Bool) → ltb q b ≡ c → q < b
+    go true e = grind (arith, nat_tests)
+    go false e = let ge : b ≤ q = grind (arith, nat_tests) in absurd (omega (arith, mul-le-mul_left p ge))
+
+-- a multiple of a part that is less than the whole, and that part
+multiple_fits : (a b p : ℕ) → a % p ≡ 0 → a < p * b → a + p ≤ p * b
+multiple_fits a b p e lt =
+    let whole : p * (a / p) ≡ a = omega (arith, div-add-mod a p, e) in
+    let fewer = below_factor p (a / p) b (omega (arith, whole, lt)) in
+    omega (arith, whole, mul-le-mul_left p fewer, mul-add p 1 (a / p))
+
+aligned_fits : (base a b whole : ℕ) → 2 ^ (a + b) ≡ whole → base % 2 ^ a ≡ 0 → base < whole → base + 2 ^ a - 2 < whole
+aligned_fits base a b whole is e lt =
+    let parts : 2 ^ a * 2 ^ b ≡ whole = sym (pow-add 2 a b) ∙ is in
+    let fits = multiple_fits base (2 ^ b) (2 ^ a) e (omega (arith, parts, lt)) in
+    omega (arith, parts, fits, pow_pos a)
+
+unbroken : (length : ℕ) (host : Bool) →
+    is_none (cond ((ltb length 16 || ltb 29 length) || host) (Some rule.Subnet) None) ≡ true →
+    (length ≤ 29) × (host ≡ false)
+unbroken length host e = go (ltb length 16) (ltb 29 length) refl host e
+  where
+    go : (low high : Bool) → ltb 29 length ≡ high → (h : Bool) →
+        is_none (cond ((low || high) || h) (Some rule.Subnet) None) ≡ true → (length ≤ 29) × (h ≡ false)
+    go true high q h k = cc
+    go false true q h k = cc
+    go false false q true k = cc
+    go false false q false k = (grind (arith, nat_tests), refl)
+
+no_host : (n : ℕ) → not (eqb n 0) ≡ false → n ≡ 0
+no_host n e = grind (arith, nat_tests)
+
+subnet_fits : (base length : ℕ) → base < 2 ^ 32 → is_none (find (subnet_breaks base length) subnet_rules) ≡ true →
+    base + 2 ^ (32 - length) - 2 < 2 ^ 32
+subnet_fits base length lt e =
+    let rules = unbroken length (not (eqb (base % 2 ^ (32 - length)) 0)) e in
+    let count : 32 - length + length ≡ 32 = omega (arith, rules.0) in
+    aligned_fits base (32 - length) length (2 ^ 32) (ap (λ k. 2 ^ k) count)
+    (no_host (base % 2 ^ (32 - length)) rules.1) lt
+
+pub last_fits : (base length last : ℕ) → last ≡ base + 2 ^ (32 - length) - 2 → base < 2 ^ 32 →
+    is_none (find (subnet_breaks base length) subnet_rules) ≡ true → last < 2 ^ 32
+last_fits base length last is lt e = omega (arith, is, subnet_fits base length lt e)

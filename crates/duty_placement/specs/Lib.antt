@@ -1,0 +1,2 @@
+pub mod Allocating
+pub mod Inside

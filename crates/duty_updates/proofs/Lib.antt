@@ -1,0 +1,3 @@
+pub mod UpdateLists
+pub mod UpdateSteps
+pub mod UpdatesDue
