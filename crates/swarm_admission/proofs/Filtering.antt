@@ -9,23 +9,11 @@ use Rattle.swarm_objects.specs.Rows.{least_by}
 use Rattle.swarm_objects.specs.World.{Tables}
 use Rattle.swarm_objects.specs.declared.nodes.Node.{Node}
 use Rattle.swarm_objects.specs.declared.tasks.Task.{Task}
-
-filter_both : {X : Type 0} (p q : X → Bool) (xs : List X) → filter (λ x. p x && q x) xs ≡ filter q (filter p xs)
-filter_both p q [] = refl
-filter_both p q (x ∷ xs) = go (p x) (q x) refl (filter_both p q xs)
-  where
-    go : (a b : Bool) → q x ≡ b → filter (λ y. p y && q y) xs ≡ filter q (filter p xs) →
-        cond (a && b) (x ∷ filter (λ y. p y && q y) xs) (filter (λ y. p y && q y) xs)
-        ≡ filter q (cond a (x ∷ filter p xs) (filter p xs))
-    go true true is below =
-        ap (λ ys. x ∷ ys) below ∙ sym (ap (λ b. cond b (x ∷ filter q (filter p xs)) (filter q (filter p xs))) is)
-    go true false is below = below ∙ sym (ap (λ b. cond b (x ∷ filter q (filter p xs)) (filter q (filter p xs))) is)
-    go false true is below = below
-    go false false is below = below
+use Rattle.swarm_roles.proofs.Applied.{filter_both}
 
 count_both : {X : Type 0} (p q : X → Bool) (xs : List X) → count_by (λ x. p x && q x) xs ≡ count_by q (filter p xs)
 count_both p q xs =
-    sym (length-filter (λ x. p x && q x) xs) ∙ ap length (filter_both p q xs) ∙ length-filter q (filter p xs)
+    sym (length-filter (λ x. p x && q x) xs) ∙ ap length (sym (filter_both p q xs)) ∙ length-filter q (filter p xs)
 
 counted : (t : Tables) (x : Task) (k : ℕ) →
     count_by (is_counted t x k) t.nodes ≡ count_by (is_refused_by t x k) (tested_nodes t x)
@@ -54,4 +42,4 @@ six_counts t x a b c d e f is_a is_b is_c is_d is_e is_f =
 pub best_is : (t : Tables) (x : Task) → least_by (node_cmp t x) None (filter (is_open t x) t.nodes) ≡ best_node t x
 unfolding is_open
 best_is t x =
-    ap (least_by (node_cmp t x) None) (filter_both (λ (n : Node). is_tested_on x.place n.id) (admits t x) t.nodes)
+    ap (least_by (node_cmp t x) None) (sym (filter_both (λ (n : Node). is_tested_on x.place n.id) (admits t x) t.nodes))

@@ -1,3 +1,4 @@
 pub mod Filtering
+mod LabelValues
 mod Placing
 mod Supported

@@ -2,8 +2,10 @@
 #![tactic(auto)]
 
 mod filters;
+mod key_values;
 mod placed;
 mod refusals;
 
+pub use key_values::key_value;
 pub use placed::{PlacedTasks, here, load, tasks_placed_on};
 pub use refusals::{counts, first_refusal, is_open};

@@ -14,7 +14,7 @@ use Rattle.swarm_objects.specs.declared.rows.Change.{Change}
 use Rattle.swarm_objects.specs.declared.rows.Change.TheVariants as change
 use Rattle.swarm_objects.specs.declared.services.PortNumber.{PortNumber}
 use Rattle.swarm_objects.specs.declared.services.Service.{Service}
-use Rattle.swarm_roles.proofs.Applied.{found_makes, makes_none, put_service}
+use Rattle.swarm_roles.proofs.Applied.{found_makes, makes_none, service_makes}
 use Rattle.swarm_roles.specs.Changes.{Makes, put_found}
 
 pub ruleset no_changes = (makes_none)
@@ -29,13 +29,6 @@ unchanged id f (s ∷ rows) e = go (eqb s.id id) (unchanged id f rows) e
         cond b (Some s) (row_at service_id id rows) ≡ None → s ∷ rows ≡ cond b (f s) s ∷ change_row service_id id f rows
     go true below k = absurd cc
     go false below k = ap (λ zs. s ∷ zs) (below k)
-
-service_makes : (f : Service → Service) (t : Tables) (s : Service) → IsSound t → row_at service_id s.id t.services
-    ≡ Some s → (f s).id ≡ s.id → Makes t (change.PutService (f s) ∷ []) (change_service s.id f t)
-service_makes f t s sound e same = record {
-  can = (ap (λ id. has_row service_id id t.services) same ∙ ap is_some e, tt);
-  gives = put_service f t s sound.ordered.services (Has-from_row_at service_id s.id t.services s e).0 same;
-}
 
 -- one service that may be there
 services_make : (f : Service → Service) (id : ℕ) (t : Tables) (cs : List Change) → IsSound t →
@@ -52,7 +45,7 @@ services_make f id t cs sound same list = go (row_at service_id id t.services) r
         let found : row_at service_id s.id t.services ≡ Some s = ap (λ k. row_at service_id k t.services) is ∙ e in
         subst (λ ds. Makes t ds (change_service id f t)) (sym l)
         (subst (λ k. Makes t (change.PutService (f s) ∷ []) (change_service k f t)) is
-        (service_makes f t s sound found (same s)))
+        (service_makes f t s sound (sym found) (same s)))
 
 pub numberings_make : (version : ℕ) (number : PortNumber) (id : ℕ) (t : Tables) (cs : List Change) → IsSound t →
     cs ≡ put_service_list (with_port version number) (row_at service_id id t.services) →

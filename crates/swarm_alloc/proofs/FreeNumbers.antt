@@ -19,8 +19,9 @@ use Rattle.swarm_objects.specs.declared.services.Service.{Service}
 use Rattle.swarm_objects.specs.declared.tasks.Address.{Address}
 use Rattle.swarm_objects.specs.declared.tasks.Task.{Task}
 use Rattle.swarm_objects.specs.declared.templates.Port.{Port}
-use Rattle.swarm_alloc.proofs.AnyOf.{any-has, any_append, any_each, any_same, has-any, or_false, rising-has}
+use Rattle.swarm_roles.proofs.AnyOf.{any-has, any_append, any_each, any_same, has-any, or_false, rising-has}
 use Rattle.swarm_alloc.specs.Allocating.{holds_address, is_address}
+use Rattle.swarm_roles.proofs.PlaceLemmas.{any_filter}
 
 -- Rising numbers.
 
@@ -82,17 +83,6 @@ gap-held from [] r h = absurd h
 gap-held from (k ∷ ks) r h = gap_step k from ks r h (gap_above k from ks r)
 
 -- Any of the items that pass, or of what is made of them.
-
-any_filter : {X : Type 0} (p test : X → Bool) (rows : List X) →
-    list_any p (filter test rows) ≡ list_any (λ x. test x && p x) rows
-any_filter p test [] = refl
-any_filter p test (x ∷ rows) = go (test x) (any_filter p test rows)
-  where
-    go : (a : Bool) → list_any p (filter test rows) ≡ list_any (λ y. test y && p y) rows →
-        list_any p (cond a (x ∷ filter test rows) (filter test rows)) ≡
-        ((a && p x) || list_any (λ y. test y && p y) rows)
-    go true e = ap (λ c. p x || c) e
-    go false e = e
 
 any_map : {X Y : Type 0} (p : Y → Bool) (f : X → Y) (rows : List X) →
     list_any p (map f rows) ≡ list_any (λ x. p (f x)) rows
@@ -159,7 +149,7 @@ named-ports : (udp : Bool) (n : ℕ) (ports : List Port) →
     is_taken (numbers_named udp ports) n ≡ list_any (has_port_number udp n) ports
 named-ports udp n ports =
     any_each (λ k. eqb k n) (λ (p : Port). option_to_list p.number) (filter (λ (p : Port). same_bool p.udp udp) ports)
-    ∙ any_filter (λ (p : Port). list_any (λ k. eqb k n) (option_to_list p.number)) (λ (p : Port). same_bool p.udp udp)
+    ∙ any_filter (λ (p : Port). same_bool p.udp udp) (λ (p : Port). list_any (λ k. eqb k n) (option_to_list p.number))
     ports
     ∙ any_same (λ (p : Port). same_bool p.udp udp && list_any (λ k. eqb k n) (option_to_list p.number))
     (has_port_number udp n)
@@ -169,7 +159,7 @@ given-numbers : (udp : Bool) (n : ℕ) (numbers : List PortNumber) →
     is_taken (numbers_given udp numbers) n ≡ list_any (is_numbered udp n) numbers
 given-numbers udp n numbers =
     any_map (λ k. eqb k n) (λ (m : PortNumber). m.number) (filter (λ (m : PortNumber). same_bool m.udp udp) numbers)
-    ∙ any_filter (λ (m : PortNumber). eqb m.number n) (λ (m : PortNumber). same_bool m.udp udp) numbers
+    ∙ any_filter (λ (m : PortNumber). same_bool m.udp udp) (λ (m : PortNumber). eqb m.number n) numbers
 
 held-ports : (udp : Bool) (n : ℕ) (s : Service) → is_taken (ports_held udp s) n ≡ holds_port udp n s
 held-ports udp n s =
@@ -212,13 +202,13 @@ held-addresses : (network n : ℕ) (x : Task) →
     is_taken (addresses_in network x) n ≡ list_any (is_address network n) x.addresses
 held-addresses network n x =
     any_map (λ k. eqb k n) (λ (a : Address). a.number) (filter (λ (a : Address). a.network == network) x.addresses)
-    ∙ any_filter (λ (a : Address). eqb a.number n) (λ (a : Address). a.network == network) x.addresses
+    ∙ any_filter (λ (a : Address). a.network == network) (λ (a : Address). eqb a.number n) x.addresses
 
 address-taken : (t : Tables) (network n : ℕ) →
     list_any (holds_address network n) t.tasks ≡ is_taken (addresses_held t network) n
 address-taken t network n =
     sym (any_each (λ k. eqb k n) (addresses_in network) (filter is_not_over t.tasks)
-    ∙ any_filter (λ (x : Task). is_taken (addresses_in network x) n) is_not_over t.tasks
+    ∙ any_filter is_not_over (λ (x : Task). is_taken (addresses_in network x) n) t.tasks
     ∙ any_same (λ (x : Task). is_not_over x && is_taken (addresses_in network x) n) (holds_address network n) t.tasks
     (λ (x : Task). ap (λ (b : Bool). is_not_over x && b) (held-addresses network n x)))
 

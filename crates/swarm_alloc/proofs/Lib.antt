@@ -1,4 +1,3 @@
-mod AnyOf
 mod Applying
 mod FreeNumbers
 mod Pooled

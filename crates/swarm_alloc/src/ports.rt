@@ -11,6 +11,7 @@ ghost use Rattle.swarm_objects.specs.Services.Ports.{
 };
 
 use swarm_objects::{Port, PortNumber, Service, ServiceSpec};
+use swarm_roles::gives_number;
 
 /// The numbers that open ingress ports are given.
 pub const FIRST_PORT: u16 = 30_000;
@@ -61,17 +62,10 @@ pub fn holds_port(udp: bool, number: u16, service: &Service) -> bool
         || is_given(udp, number, service.numbers.as_slice())
 }
 
-// The number was given to the port.
-fn gives_number(port: Port, given: PortNumber) -> bool
-    ensures { result ≡ gives_number port given }
-{
-    given.target == port.target && given.udp == port.udp
-}
-
 fn was_given(numbers: &[PortNumber], port: Port) -> bool
     ensures { result ≡ list_any (gives_number port) numbers.now }
 {
-    numbers.iter().any(|given| gives_number(port, *given))
+    numbers.iter().any(|given| gives_number(&port, *given))
 }
 
 /// The ingress port has no number, and was given none.

@@ -5,4 +5,8 @@
 #[cfg(test)]
 mod allocations;
 #[cfg(test)]
+mod comparing;
+#[cfg(test)]
+mod journals;
+#[cfg(test)]
 mod tests;

@@ -2,7 +2,7 @@
 use Rattle.std.proofs.Common.{◌≡◌, ℕ, ◌≤◌, Bool, true, false, cond, eqb, inl, inr, List, [], ◌∷◌, ◌++◌, Option, Some, None, refl, sym, ap, ◌∙◌, subst, arith}
 use Rattle.std.proofs.lemmas.Bool.Decides.{nat_tests}
 use Rattle.std.specs.Prelude.{◌&&◌, filter, map, is_some, not}
-use Rattle.swarm_objects.specs.Changes.{change_task, change_where, in_state, noted, wanted, with_new, without_place}
+use Rattle.swarm_objects.specs.Changes.{change_service, change_task, change_where, in_state, noted, wanted, with_new, without_place}
 use Rattle.swarm_objects.specs.Loops.Reaper.{without_task}
 use Rattle.swarm_objects.specs.Rows.{change_row, drop_row, put_row, row_at, has_row, service_id, task_id, Has, IsBelow, RisesFrom}
 use Rattle.swarm_objects.specs.Sound.{IsSound}
@@ -152,7 +152,7 @@ applied_where test f t sound same =
     applied_puts f (filter test t.tasks) t same (λ x h. there t x sound (Has-filter_cases test t.tasks x h).0)
     ∙ ap (λ rows. record t { tasks = rows }) (puts_where test f 0 t.tasks same sound.ordered.tasks)
 
-filter_both : {X : Type 0} (p q : X → Bool) (xs : List X) → filter q (filter p xs) ≡ filter (λ x. p x && q x) xs
+pub filter_both : {X : Type 0} (p q : X → Bool) (xs : List X) → filter q (filter p xs) ≡ filter (λ x. p x && q x) xs
 filter_both p q [] = refl
 filter_both p q (x ∷ xs) = go (p x) (filter_both p q xs)
   where
@@ -216,6 +216,14 @@ put_service f t s r h same =
 
 pub makes_none : (t : Tables) (cs : List Change) → cs ≡ [] → Makes t cs t
 makes_none t cs e = subst (λ ds. Makes t ds t) (sym e) (record { can = tt; gives = refl })
+
+pub service_makes : (f : Service → Service) (t : Tables) (s : Service) → IsSound t → Some s
+    ≡ row_at service_id s.id t.services
+    → (f s).id ≡ s.id → Makes t (change.PutService (f s) ∷ []) (change_service s.id f t)
+service_makes f t s sound e same = record {
+  can = (ap (λ id. has_row service_id id t.services) same ∙ ap is_some (sym e), tt);
+  gives = put_service f t s sound.ordered.services (Has-from_row_at service_id s.id t.services s (sym e)).0 same;
+}
 
 pub makes_found : (f : Task → Task) (id : ℕ) (t : Tables) (x : Task) → IsSound t → Some x ≡ row_at task_id id t.tasks
     → ((y : Task) → (f y).id ≡ y.id) → Makes t (change.PutTask (f x) ∷ []) (change_task id f t)

@@ -4,6 +4,7 @@
 mod changing;
 mod node_words;
 mod places;
+mod service_words;
 mod theorems;
 mod walks;
 
@@ -15,6 +16,7 @@ pub use places::{
     HeldPlaces, PlaceNumbers, PlaceTasks, first_gap, has_live, held_count, held_places,
     is_held_place, live_count, newest, place_numbers, place_tasks, tasks_of_place,
 };
+pub use service_words::{gives_number, has_open_run, is_under_way};
 pub use theorems::{duties_change_tables, small_worlds_are_usable};
 pub use walks::{
     NetworkRows, NodeRows, NodeTasks, ServiceRows, ServiceTasks, TaskRows, networks, nodes,

@@ -1,2 +1,1 @@
-mod LabelValues
 mod Scheduling

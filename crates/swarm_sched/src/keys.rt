@@ -1,52 +1,15 @@
-// The values that nodes have for keys.
-ghost use Rattle.std.specs.Prelude.{◌≡◌, List as Seq, ℕ, find};
+// How nodes compare by the values that they have for keys.
+ghost use Rattle.std.specs.Prelude.{◌≡◌};
 ghost use Rattle.std.specs.Cmp.Lexicographic.{slice_cmp};
-ghost use Rattle.std.specs.Option.{option_copied};
 ghost use Rattle.std.specs.Ordering.{nat_cmp};
 ghost use Rattle.std.specs.Str.{bytes_eq};
 ghost use Rattle.swarm_objects.specs.Nodes.BestNode.{agrees};
-ghost use Rattle.swarm_objects.specs.Nodes.Constraints.{key_value, label_value};
+ghost use Rattle.swarm_objects.specs.Nodes.Constraints.{key_value};
 
 use itoa::Buffer;
 use std::cmp::Ordering;
-use swarm_objects::{Key, Labels, Name, Node};
-
-// The first label with this key.
-fn label_of<'a>(labels: &'a Labels, name: &str) -> Option<&'a (Name, Name)>
-    ensures { let has_name = λ (label : Seq ℕ × Seq ℕ). bytes_eq label.0 name.now in
-        option_copied result ≡ find has_name labels.now }
-{
-    labels
-        .as_slice()
-        .iter()
-        .find(|label| label.0.as_str() == name)
-}
-
-// Its value; that of a missing one is empty.
-#[tactic(auto, using(crate::proofs::LabelValues::label_value_is))]
-fn label_value<'a>(labels: &'a Labels, name: &str) -> &'a str
-    ensures { result.now ≡ label_value labels.now name.now }
-{
-    match label_of(labels, name) {
-        Some(label) => label.1.as_str(),
-        None => "",
-    }
-}
-
-// The text that the node has for the key. Its digits stand in the buffer.
-fn key_value<'a>(node: &'a Node, key: &Key, digits: &'a mut Buffer) -> &'a str
-    ensures { result.now ≡ key_value node.now key.now }
-{
-    match key {
-        Key::NodeId => digits.format(node.id),
-        Key::Hostname => node.name.as_str(),
-        Key::Role => node.role.as_str(),
-        Key::Os => node.os.as_str(),
-        Key::Arch => node.arch.as_str(),
-        Key::Label(name) => label_value(&node.labels, name.as_str()),
-        Key::Engine(name) => label_value(&node.engine, name.as_str()),
-    }
-}
+use swarm_admission::key_value;
+use swarm_objects::{Key, Node};
 
 /// How the values of two nodes for the key compare.
 pub fn value_cmp(key: &Key, a: &Node, b: &Node) -> Ordering

@@ -5,7 +5,6 @@ use Rattle.std.specs.declared.cmp.Ordering.{Ordering}
 use Rattle.swarm_objects.specs.Nodes.BestNode.{load, node_cmp}
 use Rattle.swarm_objects.specs.Nodes.Constraints.{key_value}
 use Rattle.swarm_objects.specs.Nodes.Filters.{here}
-use Rattle.swarm_objects.specs.Nodes.Holdings.{is_placed_on}
 use Rattle.swarm_objects.specs.Rows.{RisesFrom, itself, least_by, node_id, on_row}
 use Rattle.swarm_objects.specs.Tasks.Words.{is_live, is_placed}
 use Rattle.swarm_objects.specs.World.{Tables}
@@ -60,9 +59,6 @@ HasTask c node =
 -- the task is one of those that a node has
 abbrev pub is_counted : Task → Bool
 is_counted x = is_live x && is_placed x
-
-abbrev pub is_loaded : ℕ → Task → Bool
-is_loaded node x = is_live x && is_placed_on node x
 
 -- the node that the task counts on
 abbrev pub counted_node : Task → Option ℕ

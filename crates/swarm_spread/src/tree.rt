@@ -33,7 +33,6 @@ ghost use Rattle.swarm_spread.specs.Counts.{
   counts_of,
   empty_counts,
   is_before,
-  is_loaded,
   one_fewer,
   one_more,
   place_order,
@@ -47,8 +46,9 @@ use crate::values::{nodes_of, paths_of};
 use std::alloc::Global;
 use std::cmp::Ordering;
 use std::marker::Model;
+use swarm_admission::load;
 use swarm_objects::{Id, Key, List, Name, NoMemory, Node, Rows, Task};
-use swarm_roles::{nodes, tasks_of, tasks_on};
+use swarm_roles::{nodes, tasks_of};
 
 /// The counts of a service's tasks, on each node and in each branch of its placement preferences. Contracts see the
 /// nodes, the values of each and how many tasks it has.
@@ -98,27 +98,6 @@ fn counted_node(task: &Task) -> Option<Id>
     } else {
         None
     }
-}
-
-fn is_loaded(node: Id, task: &Task) -> bool
-    ensures { result ≡ is_loaded node task.now }
-{
-    task.is_live() && (task.is_placed() && task.is_on(node))
-}
-
-// How many tasks of all services the node has.
-#[tactic(auto, using(crate::proofs::Loads::load_steps))]
-fn load<R: Rows>(rows: &R, node: Id) -> u64
-    requires { IsUsable (R.tables rows.now) }
-    ensures { result ≡ load (R.tables rows.now) node }
-{
-    let mut count = 0;
-    for task in tasks_on(rows, node) {
-        if is_loaded(node, task) {
-            count += 1;
-        }
-    }
-    count
 }
 
 // Which of two nodes comes first by the tasks of all services, and then by its id.

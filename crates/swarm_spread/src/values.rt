@@ -1,53 +1,15 @@
 // The ids of nodes, and their values for the keys of preferences.
-ghost use Rattle.std.specs.Prelude.{◌≡◌, IfOk, List as Seq, find, map, ℕ};
-ghost use Rattle.std.specs.Option.{option_copied};
-ghost use Rattle.std.specs.Str.{bytes_eq};
-ghost use Rattle.swarm_objects.specs.Nodes.Constraints.{key_value, label_value};
+ghost use Rattle.std.specs.Prelude.{◌≡◌, IfOk, map};
+ghost use Rattle.swarm_objects.specs.Nodes.Constraints.{key_value};
 ghost use Rattle.swarm_objects.specs.Rows.{node_id};
 ghost use Rattle.swarm_roles.specs.Usable.{IsUsable};
 ghost use Rattle.swarm_spread.specs.Counts.{path_of};
 
 use itoa::Buffer;
 use std::alloc::Global;
-use swarm_objects::{Id, Key, Labels, List, Name, NoMemory, Node, Rows, add};
+use swarm_admission::key_value;
+use swarm_objects::{Id, Key, List, Name, NoMemory, Node, Rows, add};
 use swarm_roles::nodes;
-
-// The first label with this key.
-fn label_of<'a>(labels: &'a Labels, name: &str) -> Option<&'a (Name, Name)>
-    ensures { let has_name = λ (label : Seq ℕ × Seq ℕ). bytes_eq label.0 name.now in
-        option_copied result ≡ find has_name labels.now }
-{
-    labels
-        .as_slice()
-        .iter()
-        .find(|label| label.0.as_str() == name)
-}
-
-// Its value; that of a missing one is empty.
-#[tactic(auto, using(crate::proofs::LabelValues::label_value_is))]
-fn label_value<'a>(labels: &'a Labels, name: &str) -> &'a str
-    ensures { result.now ≡ label_value labels.now name.now }
-{
-    match label_of(labels, name) {
-        Some(label) => label.1.as_str(),
-        None => "",
-    }
-}
-
-// The text that the node has for the key. Its digits stand in the buffer.
-fn key_value<'a>(node: &'a Node, key: &Key, digits: &'a mut Buffer) -> &'a str
-    ensures { result.now ≡ key_value node.now key.now }
-{
-    match key {
-        Key::NodeId => digits.format(node.id),
-        Key::Hostname => node.name.as_str(),
-        Key::Role => node.role.as_str(),
-        Key::Os => node.os.as_str(),
-        Key::Arch => node.arch.as_str(),
-        Key::Label(name) => label_value(&node.labels, name.as_str()),
-        Key::Engine(name) => label_value(&node.engine, name.as_str()),
-    }
-}
 
 fn value_of(alloc: Global, node: &Node, key: &Key) -> Result<Name, NoMemory>
     ensures { IfOk result (λ value. value ≡ key_value node.now key.now) }

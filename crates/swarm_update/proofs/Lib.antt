@@ -1,3 +1,4 @@
+mod Dirty
 mod Failures
 mod Replacements
 mod Running

@@ -13,18 +13,10 @@ use Rattle.swarm_objects.specs.declared.rows.Change.TheVariants as change
 use Rattle.swarm_objects.specs.declared.services.RunStatus.TheVariants as status
 use Rattle.swarm_objects.specs.declared.services.Service.{Service}
 use Rattle.swarm_objects.specs.declared.services.ServiceSpec.{ServiceSpec}
-use Rattle.swarm_roles.proofs.Applied.{makes_none, put_service}
+use Rattle.swarm_roles.proofs.Applied.{makes_none, service_makes}
 use Rattle.swarm_roles.specs.Changes.{Makes}
 
 -- one service that is there, as the function leaves it
-pub service_makes : (f : Service → Service) (t : Tables) (s : Service) → IsSound t → Some s
-    ≡ row_at service_id s.id t.services
-    → (f s).id ≡ s.id → Makes t (change.PutService (f s) ∷ []) (change_service s.id f t)
-service_makes f t s sound e same = record {
-  can = (ap (λ id. has_row service_id id t.services) same ∙ ap is_some (sym e), tt);
-  gives = put_service f t s sound.ordered.services (Has-from_row_at service_id s.id t.services s (sym e)).0 same;
-}
-
 list_makes : (f : Service → Service) (t : Tables) (s : Service) (cs : List Change) → IsSound t
     → Some s ≡ row_at service_id s.id t.services → (f s).id ≡ s.id → cs ≡ change.PutService (f s) ∷ []
     → Makes t cs (change_service s.id f t)

@@ -16,7 +16,7 @@ ghost use Rattle.swarm_objects.specs.Loops.Update.{
   with_run,
 };
 ghost use Rattle.swarm_objects.specs.Rows.{row_at, service_id};
-ghost use Rattle.swarm_objects.specs.Services.Ports.{gives_number, is_open_in, kept_numbers};
+ghost use Rattle.swarm_objects.specs.Services.Ports.{is_open_in, kept_numbers};
 ghost use Rattle.swarm_objects.specs.declared.services.UpdateRun.{UpdateRun as Run};
 ghost use Rattle.swarm_roles.specs.Changes.{Makes};
 ghost use Rattle.swarm_roles.specs.Usable.{IsUsable};
@@ -27,6 +27,7 @@ use swarm_objects::{
     Change, Duplicate, FailureAction, List, NoMemory, Port, PortNumber, Rows, RunStatus, Service,
     ServiceSpec, UpdateRun, Version, add, list_of,
 };
+use swarm_roles::gives_number;
 
 // The status of a run that can't go on.
 fn paused_status(status: RunStatus) -> RunStatus
@@ -109,13 +110,6 @@ fn may_roll_back(service: &Service) -> bool
         Some(run) => is_rollback(service.spec.update.action) && is_updating(run.status),
         None => false,
     }
-}
-
-// The item is this port's number.
-fn gives_number(port: &Port, given: PortNumber) -> bool
-    ensures { result ≡ gives_number port.now given }
-{
-    given.target == port.target && given.udp == port.udp
 }
 
 // One of the ports is open, and this is its number.

@@ -25,10 +25,10 @@ ghost use Rattle.std.specs.Prelude.{◌&&◌};
 ghost use Rattle.swarm_roles.specs.Usable.{IsUsable};
 
 use crate::places::{is_to_replace, is_to_swap};
-use crate::runs::{fails, is_of_version, is_to_finish, is_to_start, is_under_way, lets_replace};
+use crate::runs::{fails, is_of_version, is_to_finish, is_to_start, lets_replace};
 pub use changing::changes;
 use swarm_objects::{Duty, Rows, Service, UpdateRun};
-use swarm_roles::{place_numbers, services};
+use swarm_roles::{is_under_way, place_numbers, services};
 
 // The first place whose old tasks are to stop.
 fn first_swap<R: Rows>(rows: &R, service: &Service, run: &UpdateRun) -> Option<Duty>

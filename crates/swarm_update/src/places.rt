@@ -1,9 +1,9 @@
 // The places of a service in an update.
-ghost use Rattle.std.specs.Prelude.{◌≡◌, ◌&&◌, length};
+ghost use Rattle.std.specs.Prelude.{◌≡◌, ◌&&◌, filter, length};
 ghost use Rattle.std.specs.List.{list_any};
 ghost use Rattle.swarm_objects.specs.Loops.Update.{is_to_replace, is_to_swap};
 ghost use Rattle.swarm_objects.specs.Rows.{is_some_and};
-ghost use Rattle.swarm_objects.specs.Services.Words.{is_live_clean, is_live_dirty};
+ghost use Rattle.swarm_objects.specs.Services.Words.{is_dirty, is_live_clean, is_live_dirty};
 ghost use Rattle.swarm_objects.specs.Tasks.Places.{
   closes_dirty,
   dirty_places,
@@ -13,11 +13,11 @@ ghost use Rattle.swarm_objects.specs.Tasks.Places.{
   newest,
   place_tasks,
 };
-ghost use Rattle.swarm_objects.specs.Tasks.Words.{is_running};
+ghost use Rattle.swarm_objects.specs.Tasks.Words.{is_of, is_running};
 ghost use Rattle.swarm_roles.specs.Usable.{IsUsable};
 
 use swarm_objects::{Rows, Service, Task};
-use swarm_roles::{has_live, newest, place_numbers, place_tasks};
+use swarm_roles::{has_live, newest, place_numbers, place_tasks, tasks_of};
 
 // A dirty live task stands in the place.
 fn has_live_dirty<R: Rows>(rows: &R, service: &Service, number: u64) -> bool
@@ -49,11 +49,24 @@ fn is_dirty_place<R: Rows>(rows: &R, service: &Service, number: u64) -> bool
         || (!has_live(rows, service, number) && is_closed_dirty(rows, service, number))
 }
 
-/// A place of the service is dirty.
+// A task of the service is dirty.
+fn has_dirty_task<R: Rows>(rows: &R, service: &Service) -> bool
+    requires { IsUsable (R.tables rows.now) }
+    ensures { let t = R.tables rows.now in
+        result ≡ list_any (is_dirty service.now) (filter (is_of service.now.id) t.tasks) }
+{
+    tasks_of(rows, service.id).any(|task| task.is_dirty(service))
+}
+
+/// A place of the service is dirty. Where none of its tasks is, the places aren't gone over.
+#[tactic(auto, using(crate::proofs::Dirty::none_dirty))]
 pub fn has_dirty_place<R: Rows>(rows: &R, service: &Service) -> bool
     requires { IsUsable (R.tables rows.now) }
     ensures { result ≡ has_dirty_place (R.tables rows.now) service.now }
 {
+    if !has_dirty_task(rows, service) {
+        return false;
+    }
     for number in place_numbers(rows, service) {
         if is_dirty_place(rows, service, number) {
             return true;

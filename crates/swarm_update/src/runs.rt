@@ -20,35 +20,14 @@ ghost use Rattle.swarm_objects.specs.Services.Runs.{
   is_flying,
   is_in_flight,
   is_of_version,
-  is_open,
   is_present,
-  is_under_way,
 };
 ghost use Rattle.swarm_objects.specs.Tasks.Words.{is_of};
 ghost use Rattle.swarm_roles.specs.Usable.{IsUsable};
 
 use crate::places::has_dirty_place;
-use swarm_objects::{
-    FailureAction, Replaced, Rows, RunStatus, Service, Task, TaskState, UpdateRun,
-};
-use swarm_roles::{tasks_of, tasks_of_place};
-
-// An update that replaces places, back or forth.
-fn is_open(status: RunStatus) -> bool
-    ensures { result ≡ is_open status }
-{
-    match status {
-        RunStatus::Updating | RunStatus::RollbackStarted => true,
-        _ => false,
-    }
-}
-
-/// The run is under way.
-pub fn is_under_way(run: &UpdateRun) -> bool
-    ensures { result ≡ is_under_way run.now }
-{
-    is_open(run.status)
-}
+use swarm_objects::{FailureAction, Replaced, Rows, Service, Task, TaskState, UpdateRun};
+use swarm_roles::{is_under_way, tasks_of, tasks_of_place};
 
 /// It is a run to the service's present template.
 pub fn is_of_version(service: &Service, run: &UpdateRun) -> bool
@@ -225,5 +204,5 @@ pub fn is_to_start<R: Rows>(rows: &R, service: &Service) -> bool
     requires { IsUsable (R.tables rows.now) }
     ensures { result ≡ is_to_start (R.tables rows.now) service.now }
 {
-    has_dirty_place(rows, service) && !has_present_run(service)
+    !has_present_run(service) && has_dirty_place(rows, service)
 }

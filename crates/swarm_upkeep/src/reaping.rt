@@ -1,5 +1,5 @@
 // The reaper: tasks that are removed, and old ended ones.
-ghost use Rattle.std.specs.Prelude.{◌≡◌, count_by, find};
+ghost use Rattle.std.specs.Prelude.{◌≡◌, ◌&&◌, count_by, find};
 ghost use Rattle.std.specs.Option.{option_copied};
 ghost use Rattle.swarm_objects.specs.Loops.Reaper.{
   is_oldest_past,
@@ -11,13 +11,12 @@ ghost use Rattle.swarm_objects.specs.Loops.Reaper.{
 };
 ghost use Rattle.swarm_objects.specs.Loops.Words.{duty_where};
 ghost use Rattle.swarm_objects.specs.Rows.{first_of, is_some_and};
-ghost use Rattle.swarm_objects.specs.Services.Runs.{has_open_run};
 ghost use Rattle.swarm_objects.specs.Tasks.Places.{newest, tasks_of_place};
 ghost use Rattle.swarm_objects.specs.Tasks.Words.{is_task};
 ghost use Rattle.swarm_roles.specs.Usable.{IsUsable};
 
-use swarm_objects::{Desired, Duty, Place, Rows, RunStatus, Service, Task, desired_rank};
-use swarm_roles::{newest, tasks, tasks_of_place};
+use swarm_objects::{Desired, Duty, Place, Rows, Service, Task, desired_rank};
+use swarm_roles::{has_open_run, newest, tasks, tasks_of_place};
 
 // It is to be removed, and nothing of it runs.
 fn is_removable(task: &Task) -> bool
@@ -91,19 +90,6 @@ fn is_oldest_past<R: Rows>(rows: &R, service: &Service, task: &Task) -> bool
         && !is_newest(rows, service, task)
 }
 
-// The service has an update under way.
-fn has_open_run(service: &Service) -> bool
-    ensures { result ≡ has_open_run service.now }
-{
-    match &service.run {
-        Some(run) => match run.status {
-            RunStatus::Updating | RunStatus::RollbackStarted => true,
-            _ => false,
-        },
-        None => false,
-    }
-}
-
 // The service has no update under way, and the task is such a one of its place.
 fn is_trimmed_in<R: Rows>(rows: &R, task: &Task, service: &Service) -> bool
     requires { IsUsable (R.tables rows.now) }
@@ -137,18 +123,35 @@ fn first_removable<R: Rows>(rows: &R) -> Option<Duty>
     None
 }
 
+// It ended and was to stop, and is the oldest such one of its place. What the task itself shows is looked at first.
+fn is_trimmed_past<R: Rows>(rows: &R, task: &Task) -> bool
+    requires { IsUsable (R.tables rows.now) }
+    ensures { result ≡ (is_past task.now && is_trimmed (R.tables rows.now) task.now) }
+{
+    is_past(task) && is_trimmed(rows, task)
+}
+
+// The first such task.
+fn first_trimmed_past<R: Rows>(rows: &R) -> Option<Duty>
+    requires { IsUsable (R.tables rows.now) }
+    ensures { let t = R.tables rows.now in
+        result ≡ first_of (duty_where (λ x. is_past x && is_trimmed t x) (λ x. Duty.Trim x.id) t.tasks) }
+{
+    for task in tasks(rows) {
+        if is_trimmed_past(rows, task) {
+            return Some(Duty::Trim(task.id));
+        }
+    }
+    None
+}
+
 // The first old ended task.
 fn first_trimmed<R: Rows>(rows: &R) -> Option<Duty>
     requires { IsUsable (R.tables rows.now) }
     ensures { let t = R.tables rows.now in
         result ≡ first_of (duty_where (is_trimmed t) (λ x. Duty.Trim x.id) t.tasks) }
 {
-    for task in tasks(rows) {
-        if is_trimmed(rows, task) {
-            return Some(Duty::Trim(task.id));
-        }
-    }
-    None
+    first_trimmed_past(rows)
 }
 
 /// The first duty of the reaper.
