@@ -1,0 +1,9 @@
+pub mod ForStores
+pub mod Indexing
+pub mod MarkLemmas
+pub mod Merging
+pub mod Nexts
+pub mod Places
+pub mod RowsAt
+pub mod Tables
+pub mod Trees

@@ -1,0 +1,4 @@
+pub mod Index
+pub mod Inside
+pub mod Keys
+pub mod Rows

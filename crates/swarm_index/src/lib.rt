@@ -1,0 +1,14 @@
+// Rows by rising id, found by id and by keys.
+#![tactic(auto)]
+
+mod indexed;
+pub mod keys;
+mod marks;
+mod rows;
+mod spare;
+mod table;
+#[cfg(test)]
+mod tests;
+
+pub use indexed::Indexed;
+pub use keys::{IndexKey, Row};

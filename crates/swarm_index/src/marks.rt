@@ -1,0 +1,178 @@
+// The marks by which rows are found by their keys: for each key of each row its number, its digest and the row's id. A
+// digest is a number, so that a look-up makes no copy of a name; rows of different keys may have one digest.
+ghost use Rattle.std.specs.Prelude.{◌≡◌, ◌<◌, ◌≤◌, ℕ, OnErr, OnOk, false};
+ghost use Rattle.std.specs.Option.{option_copied};
+ghost use Rattle.swarm_index.specs.Inside.Marks.{
+  AddsMarks,
+  DropsMarks,
+  HasNone,
+  IsNextMark,
+  KeepsMarks,
+  digest_at,
+  fresh_digests,
+  has_mark,
+  id_of_mark,
+  is_mark,
+  is_mark_at,
+  same_mark,
+};
+
+use crate::Row;
+use std::alloc::Global;
+use std::collections::BTreeMap;
+use std::ops::Bound;
+use swarm_objects::{Id, NoMemory};
+
+#[derive(Drop)]
+pub struct Marks {
+    map: BTreeMap<(u32, u64, u64), ()>,
+}
+
+impl Marks {
+    // No marks. It takes no memory.
+    pub fn new(alloc: Global) -> Marks
+        ensures { (w d i : ℕ) → has_mark result.map w d i ≡ false }
+    {
+        Marks {
+            map: BTreeMap::new(alloc),
+        }
+    }
+
+    // One mark more, unless memory is wanting.
+    pub fn add(&mut self, which: u32, digest: u64, id: Id) -> Result<(), NoMemory>
+        ensures ok { OnOk result (AddsMarks self.old.map self.new.map (same_mark which digest id)) }
+        ensures err { OnErr result (KeepsMarks self.old.map self.new.map) }
+    {
+        match self.map.insert((which, digest, id), ()) {
+            Ok(_) => Ok(()),
+            Err(_) => Err(NoMemory),
+        }
+    }
+
+    // One mark less.
+    pub fn remove(&mut self, which: u32, digest: u64, id: Id)
+        ensures { DropsMarks self.old.map self.new.map (same_mark which digest id) }
+    {
+        self.map.remove(&(which, digest, id));
+    }
+
+    // The least id above the number with this mark.
+    pub fn next(&self, which: u32, digest: u64, after: Id) -> Option<Id>
+        ensures { IsNextMark self.now.map which digest after result }
+    {
+        let least = (which, digest, after);
+        match self
+            .map
+            .range((Bound::Excluded(least), Bound::Unbounded))
+            .next()
+        {
+            Some((mark, _)) => id_of_mark(mark, which, digest),
+            None => None,
+        }
+    }
+}
+
+// The id of the mark, if it is of this key and digest.
+fn id_of_mark(mark: &(u32, u64, u64), which: u32, digest: u64) -> Option<Id>
+    ensures { result ≡ id_of_mark mark.now which digest }
+{
+    if mark.0 == which && mark.1 == digest {
+        Some(mark.2)
+    } else {
+        None
+    }
+}
+
+// The digest of the row's key of this number.
+fn digest_at<R: Row>(row: &R, which: u32) -> Option<u64>
+    requires { which < R.KEYS }
+    ensures { result ≡ digest_at R.key_of which row.now }
+{
+    match row.key(which) {
+        Some(key) => Some(key.digest()),
+        None => None,
+    }
+}
+
+// The same, where the other row's isn't equal.
+fn fresh_digest<'a, R: Row>(row: &'a R, other: Option<&'a R>, which: u32) -> Option<u64>
+    requires { which < R.KEYS }
+    ensures { result ≡ fresh_digests R.key_of row.now (option_copied other.entry) which }
+{
+    let digest = digest_at(row, which)?;
+    let Some(other) = other else {
+        return Some(digest);
+    };
+    match digest_at(other, which) {
+        Some(same) if same == digest => None,
+        _ => Some(digest),
+    }
+}
+
+// The row's mark of one key comes, if the other one hasn't it.
+fn add_mark<'a, R: Row>(
+    marks: &mut Marks,
+    row: &'a R,
+    other: Option<&'a R>,
+    which: u32,
+) -> Result<(), NoMemory>
+    requires { which < R.KEYS }
+    ensures ok { OnOk result (
+        AddsMarks marks.old.map marks.new.map (
+        is_mark_at (fresh_digests R.key_of row.now (option_copied other.entry)) which (R.id_of row.now)
+        )
+        ) }
+    ensures err { OnErr result (KeepsMarks marks.old.map marks.new.map) }
+{
+    match fresh_digest(row, other, which) {
+        Some(digest) => marks.add(which, digest, row.id()),
+        None => Ok(()),
+    }
+}
+
+// The row's mark of one key goes, if the other one hasn't it.
+fn remove_mark<'a, R: Row>(marks: &mut Marks, row: &'a R, other: Option<&'a R>, which: u32)
+    requires { which < R.KEYS }
+    ensures { DropsMarks marks.old.map marks.new.map (
+        is_mark_at (fresh_digests R.key_of row.now (option_copied other.entry)) which (R.id_of row.now)
+        ) }
+{
+    if let Some(digest) = fresh_digest(row, other, which) {
+        marks.remove(which, digest, row.id());
+    }
+}
+
+// The row's marks that the other one hasn't come, or all stays as it is for want of memory.
+pub fn add_marks<'a, R: Row>(
+    marks: &mut Marks,
+    row: &'a R,
+    other: Option<&'a R>,
+) -> Result<(), NoMemory>
+    requires { HasNone marks.old.map (is_mark (fresh_digests R.key_of row.now (option_copied other)) R.KEYS (R.id_of row.now)) }
+    ensures ok { OnOk result (
+        AddsMarks marks.old.map marks.new.map (
+        is_mark (fresh_digests R.key_of row.now (option_copied other.entry)) R.KEYS (R.id_of row.now)
+        )
+        ) }
+    ensures err { OnErr result (KeepsMarks marks.old.map marks.new.map) }
+{
+    for which in 0..R::KEYS {
+        let Ok(()) = add_mark(marks, row, other, which) else {
+            remove_marks(marks, row, other, which);
+            return Err(NoMemory);
+        };
+    }
+    Ok(())
+}
+
+// Of the row's first `count` keys the marks that the other one hasn't go.
+pub fn remove_marks<'a, R: Row>(marks: &mut Marks, row: &'a R, other: Option<&'a R>, count: u32)
+    requires { count ≤ R.KEYS }
+    ensures { DropsMarks marks.old.map marks.new.map (
+        is_mark (fresh_digests R.key_of row.now (option_copied other.entry)) count (R.id_of row.now)
+        ) }
+{
+    for which in 0..count {
+        remove_mark(marks, row, other, which);
+    }
+}

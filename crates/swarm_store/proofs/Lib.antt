@@ -1,0 +1,12 @@
+pub mod ByKey
+pub mod Beside
+pub mod Tracking
+pub mod Told
+pub mod Lookups
+pub mod Queries
+pub mod Standing
+pub mod Ops
+pub mod Orphans
+pub mod Least
+pub mod Transacting
+pub mod Usable

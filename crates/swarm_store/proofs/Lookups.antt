@@ -1,0 +1,58 @@
+-- Rows by their keys.
+use Rattle.std.proofs.Common.{◌<◌, arith, ltb, ◌≡◌, ℕ, Bool, true, false, cond, List, [], ◌∷◌, Option, Some, None, refl, ap, ◌∙◌}
+use Rattle.std.specs.Prelude.{filter, find}
+use Rattle.std.proofs.lemmas.Bool.Decides.{nat_tests}
+use Rattle.std.specs.Option.{option_eq, option_map}
+use Rattle.swarm_index.specs.Keys.{Num, Text, has_key, same_key}
+use Rattle.swarm_model.specs.Calls.Refusals.{network_name, node_name, row_named, service_name}
+use Rattle.swarm_index.specs.Rows.{network_key, node_key, service_key, task_key}
+use Rattle.swarm_objects.specs.Rows.{RisesFrom, is_some_and, network_id, node_id, row_above, service_id}
+use Rattle.swarm_objects.specs.declared.networks.Network.{Network}
+use Rattle.swarm_objects.specs.declared.nodes.Node.{Node}
+use Rattle.swarm_objects.specs.declared.services.Service.{Service}
+use Rattle.swarm_objects.specs.Same.{same_number}
+use Rattle.swarm_objects.specs.Tasks.Words.{is_of, is_on}
+use Rattle.swarm_objects.specs.declared.tasks.Task.{Task}
+
+pub filter-same : {X : Type 0} (p q : X → Bool) (xs : List X) → ((x : X) → p x ≡ q x) → filter p xs ≡ filter q xs
+filter-same p q [] same = refl
+filter-same p q (x ∷ xs) same =
+    ap (λ b. cond b (x ∷ filter p xs) (filter p xs)) (same x) ∙ ap (λ ys. cond (q x) (x ∷ ys) ys) (filter-same p q xs same)
+
+pub of_service : (service : ℕ) (tasks : List Task) → filter (has_key task_key 0 (Num service)) tasks ≡ filter (is_of service) tasks
+of_service service tasks = filter-same _ _ tasks (λ (t : Task). refl)
+
+same-node : (node : ℕ) (given : Option ℕ) → is_some_and (λ k. same_key k (Num node)) (option_map Num given) ≡
+    option_eq same_number given (Some node)
+same-node node None = refl
+same-node node (Some n) = refl
+
+pub on_node : (node : ℕ) (tasks : List Task) → filter (has_key task_key 1 (Num node)) tasks ≡ filter (is_on node) tasks
+on_node node tasks = filter-same _ _ tasks (λ (t : Task). same-node node t.node)
+
+-- Rows by name.
+
+above-nothing : {X : Type 0} (key : X → ℕ) (n : ℕ) (p : X → Bool) (rows : List X) → RisesFrom key n rows →
+    row_above key 0 (filter p rows) ≡ find p rows
+above-nothing key n p [] r = refl
+above-nothing key n p (x ∷ rows) r = go (p x) (above-nothing key (key x) p rows r.1)
+  where
+    go : (b : Bool) → row_above key 0 (filter p rows) ≡ find p rows →
+        row_above key 0 (cond b (x ∷ filter p rows) (filter p rows)) ≡ cond b (Some x) (find p rows)
+    go true below =
+        let lt : n < key x = r.0 in
+        let above : ltb 0 (key x) ≡ true = grind (arith, nat_tests, lt) in
+        ap (λ b. cond b (Some x) (row_above key 0 (filter p rows))) above
+    go false below = below
+
+pub named_node : (name : List ℕ) (nodes : List Node) → RisesFrom node_id 0 nodes →
+    row_above node_id 0 (filter (has_key node_key 0 (Text name)) nodes) ≡ row_named node_name name nodes
+named_node name nodes r = above-nothing node_id 0 _ nodes r
+
+pub named_service : (name : List ℕ) (services : List Service) → RisesFrom service_id 0 services →
+    row_above service_id 0 (filter (has_key service_key 0 (Text name)) services) ≡ row_named service_name name services
+named_service name services r = above-nothing service_id 0 _ services r
+
+pub named_network : (name : List ℕ) (networks : List Network) → RisesFrom network_id 0 networks →
+    row_above network_id 0 (filter (has_key network_key 0 (Text name)) networks) ≡ row_named network_name name networks
+named_network name networks r = above-nothing network_id 0 _ networks r

@@ -1,0 +1,19 @@
+use Rattle.std.proofs.Common.{◌∙◌}
+use Rattle.swarm_roles.specs.Changes.{apply_changes}
+use Rattle.swarm_store.proofs.Standing.{next-change}
+use Rattle.swarm_store.proofs.state.State.apply_changes.Goals as goal
+use Rattle.swarm_store.specs.Inside.State.{tables_now}
+
+pub loop-change-preserved : goal.loop-change-preserved
+loop-change-preserved c =
+    let next =
+    next-change (tables_now c.loop-change.self) (tables_now c.apply_change.new.self)
+    (apply_changes (tables_now c.args.self.now) c.args.changes) c.in-Some.change c.loop-change.left.items
+    c.pop_front.new.self.items c.in-Some.ensures.items c.loop-change.invariant.stands c.loop-change.invariant.can
+    c.loop-change.invariant.left c.in_ok-apply_change.ensures.ok in
+    record {
+      stands = next.stands;
+      can = next.can;
+      left = next.left;
+      start = c.apply_change.ensures.start ∙ c.loop-change.invariant.start;
+    }

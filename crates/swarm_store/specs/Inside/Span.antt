@@ -1,0 +1,6 @@
+-- Rows, and what they were when the changes under way began.
+use Rattle.std.specs.Prelude.{List}
+
+pub record Span (X : Type 0) : Type 0 where
+  pub start : List X
+  pub rows : List X

@@ -1,0 +1,21 @@
+// The store: the rows of a cluster with their keys, and transactions of which all is done or nothing.
+#![tactic(auto)]
+
+mod attempts;
+mod changes;
+mod details;
+mod names;
+mod networks;
+mod nodes;
+mod services;
+mod state;
+mod store;
+#[cfg(test)]
+mod tests;
+mod theorems;
+mod tracked;
+mod transactions;
+mod views;
+
+pub use store::Store;
+pub use theorems::followed_stores_are_usable;

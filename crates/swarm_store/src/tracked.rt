@@ -1,0 +1,411 @@
+// Rows under change: what they were when the changes under way began can be had back without memory.
+ghost use Rattle.std.specs.Prelude.{IfOk, if◌then◌else◌, ◌-◌, ◌≡◌, ◌+◌, ◌<◌, ◌≤◌, ◌++◌, ◌∷◌, Bool, drop, flat_map, take, None, Some, [], OnErr, OnOk, filter, length, map, slice_get, ◌==◌};
+ghost use Rattle.std.specs.Bool.{Decides};
+ghost use Rattle.std.specs.Option.{option_copied, option_map, option_to_list};
+ghost use Rattle.std.specs.Vec.{vec_capacity, vec_len};
+ghost use Rattle.swarm_index.specs.Keys.{has_key, value_of};
+ghost use Rattle.swarm_model.specs.Changed.{event, events_of, verb_of};
+ghost use Rattle.swarm_objects.specs.Rows.{RisesFrom, drop_row, has_row, is_some_and, row_above, row_at, rows_before, with_row};
+ghost use Rattle.swarm_store.specs.Inside.Tracking.{
+  AreImages,
+  DecidesRows,
+  IsImage,
+  IsTracked,
+  before_id,
+  image_events,
+  put_back,
+  remembered,
+  restored,
+};
+ghost use Rattle.swarm_store.specs.Inside.Tracking.{Kept};
+
+use std::alloc::Global;
+use std::marker::Model;
+use swarm_index::{IndexKey, Indexed, Row};
+use swarm_objects::{Event, Id, Kind, List, NoMemory, Same, Verb, Version, add};
+
+// What the row with this id was before it changed, if there was one.
+#[derive(Drop)]
+pub(crate) struct Before<R> {
+    id: Id,
+    row: Option<R>,
+}
+
+// Rows, and what each changed one was, by rising id. There is room in the index to put all of them back.
+#[derive(Drop)]
+pub(crate) struct Tracked<R: Row + Drop> {
+    rows: Indexed<R>,
+    before: Vec<Before<R>>,
+    // How many rows there are, and were.
+    count: usize,
+    started: usize,
+}
+
+impl<R: Row + Drop> Model for Tracked<R> {
+    ghost use Rattle.swarm_store.specs.Inside.Span.{Span};
+    ghost use Rattle.swarm_store.specs.Inside.Tracking.{IsCounted, restored};
+
+    ghost Value = { Span R };
+
+    ghost view = { λ t. record { start = restored R.id_of t.before.items t.rows.rows; rows = t.rows.rows } };
+
+    ghost invariant = { λ t. IsCounted R.id_of t.before.items t.rows t.count t.started };
+}
+
+impl<R: Row + Drop> Tracked<R> {
+    pub(crate) fn new(alloc: Global) -> Tracked<R>
+        ensures start { result.start ≡ [] }
+        ensures rows { result.rows ≡ [] }
+    {
+        Tracked {
+            rows: Indexed::new(alloc),
+            before: Vec::new(alloc),
+            count: 0,
+            started: 0,
+        }
+    }
+
+    // How many rows there are.
+    pub(crate) fn len(&self) -> usize
+        ensures { result ≡ length self.now.rows }
+    {
+        self.count
+    }
+
+    pub(crate) fn get(&self, id: Id) -> Option<&R>
+        ensures { option_copied result ≡ row_at R.id_of id self.now.rows }
+    {
+        self.rows.get(id)
+    }
+
+    pub(crate) fn next(&self, after: Id) -> Option<&R>
+        ensures { option_copied result ≡ row_above R.id_of after self.now.rows }
+    {
+        self.rows.next(after)
+    }
+
+    pub(crate) fn next_by_key(&self, which: u32, key: &IndexKey<'_>, after: Id) -> Option<&R>
+        requires { which < R.KEYS }
+        ensures { option_copied result
+            ≡ row_above R.id_of after (filter (has_key R.key_of which (value_of key.now)) self.now.rows) }
+    {
+        self.rows.next_by_key(which, key, after)
+    }
+
+    // Puts the row, in the place of the one with its id if that is there.
+    pub(crate) fn put(&mut self, row: R) -> Result<(), NoMemory>
+        requires { 0 < R.id_of row }
+        ensures ok { OnOk result (self.new.rows ≡ with_row R.id_of row self.old.rows) }
+        ensures err { OnErr result (self.new.rows ≡ self.old.rows) }
+        ensures start { self.new.start ≡ self.old.start }
+    {
+        put_counted(&mut self.rows, &mut self.before, &mut self.count, row)
+    }
+
+    // The row with this id goes.
+    pub(crate) fn remove(&mut self, id: Id) -> Result<(), NoMemory>
+        requires { 0 < id }
+        ensures ok { OnOk result (self.new.rows ≡ drop_row R.id_of id self.old.rows) }
+        ensures err { OnErr result (self.new.rows ≡ self.old.rows) }
+        ensures start { self.new.start ≡ self.old.start }
+    {
+        remove_counted(&mut self.rows, &mut self.before, &mut self.count, id)
+    }
+
+    // The rows are again what they were. It takes no memory.
+    pub(crate) fn take_back(&mut self)
+        ensures rows { self.new.rows ≡ self.old.start }
+        ensures start { self.new.start ≡ self.old.start }
+    {
+        put_all_back(&mut self.rows, &mut self.before);
+        self.count = self.started;
+    }
+
+    // The changes stay.
+    pub(crate) fn settle(&mut self)
+        ensures rows { self.new.rows ≡ self.old.rows }
+        ensures start { self.new.start ≡ self.old.rows }
+    {
+        self.before.clear();
+        self.started = self.count;
+    }
+}
+
+// Makes room for one more change, and for putting back all rows after it.
+fn make_room<R: Row + Drop>(
+    rows: &mut Indexed<R>,
+    before: &mut Vec<Before<R>>,
+) -> Result<(), NoMemory>
+    ensures rows { rows.new.rows ≡ rows.old.rows }
+    ensures before { before.new.items ≡ before.old.items }
+    ensures kept { rows.old.room ≤ rows.new.room }
+    ensures room { OnOk result (length before.old.items + 2 ≤ rows.new.room) }
+    ensures spare { OnOk result (vec_len before.new < vec_capacity before.new) }
+{
+    if before.reserve(1).is_err() {
+        return Err(NoMemory);
+    }
+    let Some(room) = (before.len() as u64).checked_add(2) else {
+        return Err(NoMemory);
+    };
+    rows.reserve(room)
+}
+
+// Puts a new row where there is room for it.
+fn insert_row<R: Row + Drop>(rows: &mut Indexed<R>, row: R)
+    requires room { 0 < rows.old.room }
+    requires new { row_at R.id_of (R.id_of row) rows.old.rows ≡ None }
+    ensures rows { rows.new.rows ≡ with_row R.id_of row rows.old.rows }
+    ensures room { rows.old.room ≤ rows.new.room + 1 }
+{
+    match rows.insert(row) {
+        Ok(()) => {}
+        Err(_) => unreachable!(),
+    }
+}
+
+// How many of the ids are less.
+fn lesser_ids<R>(before: &[Before<R>], id: Id) -> usize
+    ensures { result ≡ rows_before before_id id before.now }
+{
+    let mut count = 0;
+    for image in before {
+        if id <= image.id {
+            return count;
+        }
+        count += 1;
+    }
+    count
+}
+
+fn is_id_at<R>(before: &[Before<R>], at: usize, id: Id) -> bool
+    ensures { result ≡ is_some_and (λ b. before_id b == id) (slice_get before.now at) }
+{
+    match before.get(at) {
+        Some(image) => image.id == id,
+        None => false,
+    }
+}
+
+// Puts the item where there is room for it.
+fn insert_at<T: Drop>(items: &mut Vec<T>, at: usize, item: T)
+    requires at { at ≤ length items.old.items }
+    requires spare { vec_len items.old < vec_capacity items.old }
+    ensures { items.new.items ≡ take at items.old.items ++ item ∷ drop at items.old.items }
+{
+    match items.insert(at, item) {
+        Ok(()) => {}
+        Err(_) => unreachable!(),
+    }
+}
+
+// Remembers what a row was, unless it is known.
+fn remember<R: Drop>(before: &mut Vec<Before<R>>, image: Before<R>)
+    requires spare { vec_len before.old < vec_capacity before.old }
+    requires order { RisesFrom before_id 0 before.old.items }
+    ensures { before.new.items ≡ remembered image before.old.items }
+{
+    let at = lesser_ids(before.as_slice(), image.id);
+    if is_id_at(before.as_slice(), at, image.id) {
+        return;
+    }
+    insert_at(before, at, image);
+}
+
+fn put_tracked<R: Row + Drop>(
+    rows: &mut Indexed<R>,
+    before: &mut Vec<Before<R>>,
+    row: R,
+) -> Result<(), NoMemory>
+    requires id { 0 < R.id_of row }
+    requires tracked { IsTracked R.id_of before.old.items rows.old }
+    ensures ok { OnOk result (rows.new.rows ≡ with_row R.id_of row rows.old.rows) }
+    ensures err { OnErr result (rows.new.rows ≡ rows.old.rows) }
+    ensures kept { Kept R.id_of before.old.items rows.old before.new.items rows.new }
+{
+    make_room(rows, before)?;
+    let id = row.id();
+    let old = rows.remove(id);
+    insert_row(rows, row);
+    remember(before, Before { id, row: old });
+    Ok(())
+}
+
+fn remove_tracked<R: Row + Drop>(
+    rows: &mut Indexed<R>,
+    before: &mut Vec<Before<R>>,
+    id: Id,
+) -> Result<(), NoMemory>
+    requires id { 0 < id }
+    requires tracked { IsTracked R.id_of before.old.items rows.old }
+    ensures ok { OnOk result (rows.new.rows ≡ drop_row R.id_of id rows.old.rows) }
+    ensures err { OnErr result (rows.new.rows ≡ rows.old.rows) }
+    ensures kept { Kept R.id_of before.old.items rows.old before.new.items rows.new }
+{
+    make_room(rows, before)?;
+    let old = rows.remove(id);
+    remember(before, Before { id, row: old });
+    Ok(())
+}
+
+// How many rows there are with one of this id.
+fn count_with<R: Row + Drop>(rows: &Indexed<R>, count: usize, id: Id) -> Result<usize, NoMemory>
+    ensures { IfOk result (λ n. n ≡ (if has_row R.id_of id rows.now.rows then count else count + 1)) }
+{
+    if rows.get(id).is_some() {
+        return Ok(count);
+    }
+    match count.checked_add(1) {
+        Some(more) => Ok(more),
+        None => Err(NoMemory),
+    }
+}
+
+// How many rows there are without the one of this id.
+fn count_without<R: Row + Drop>(rows: &Indexed<R>, count: usize, id: Id) -> usize
+    ensures { result ≡ (if has_row R.id_of id rows.now.rows then count - 1 else count) }
+{
+    if rows.get(id).is_some() {
+        return count.saturating_sub(1);
+    }
+    count
+}
+
+fn put_counted<R: Row + Drop>(
+    rows: &mut Indexed<R>,
+    before: &mut Vec<Before<R>>,
+    count: &mut usize,
+    row: R,
+) -> Result<(), NoMemory>
+    requires id { 0 < R.id_of row }
+    requires tracked { IsTracked R.id_of before.old.items rows.old }
+    requires counted { count.old ≡ length rows.old.rows }
+    ensures ok { OnOk result (rows.new.rows ≡ with_row R.id_of row rows.old.rows) }
+    ensures err { OnErr result (rows.new.rows ≡ rows.old.rows) }
+    ensures kept { Kept R.id_of before.old.items rows.old before.new.items rows.new }
+    ensures counted { count.new ≡ length rows.new.rows }
+{
+    let next = count_with(rows, *count, row.id())?;
+    put_tracked(rows, before, row)?;
+    *count = next;
+    Ok(())
+}
+
+fn remove_counted<R: Row + Drop>(
+    rows: &mut Indexed<R>,
+    before: &mut Vec<Before<R>>,
+    count: &mut usize,
+    id: Id,
+) -> Result<(), NoMemory>
+    requires id { 0 < id }
+    requires tracked { IsTracked R.id_of before.old.items rows.old }
+    requires counted { count.old ≡ length rows.old.rows }
+    ensures ok { OnOk result (rows.new.rows ≡ drop_row R.id_of id rows.old.rows) }
+    ensures err { OnErr result (rows.new.rows ≡ rows.old.rows) }
+    ensures kept { Kept R.id_of before.old.items rows.old before.new.items rows.new }
+    ensures counted { count.new ≡ length rows.new.rows }
+{
+    let next = count_without(rows, *count, id);
+    remove_tracked(rows, before, id)?;
+    *count = next;
+    Ok(())
+}
+
+// The row is again what it was.
+fn put_back<R: Row + Drop>(rows: &mut Indexed<R>, image: Before<R>)
+    requires room { 0 < rows.old.room }
+    requires image { IsImage R.id_of image.id image.row }
+    ensures rows { rows.new.rows ≡ put_back R.id_of image rows.old.rows }
+    ensures room { rows.old.room ≤ rows.new.room + 1 }
+{
+    let Before { id, row } = image;
+    rows.remove(id);
+    match row {
+        Some(row) => insert_row(rows, row),
+        None => {}
+    }
+}
+
+// Puts back all rows that changed.
+fn put_all_back<R: Row + Drop>(rows: &mut Indexed<R>, before: &mut Vec<Before<R>>)
+    requires { IsTracked R.id_of before.old.items rows.old }
+    ensures rows { rows.new.rows ≡ restored R.id_of before.old.items rows.old.rows }
+    ensures before { before.new.items ≡ [] }
+    ensures tracked { IsTracked R.id_of before.new.items rows.new }
+{
+    while let Some(image) = before.pop() {
+        put_back(rows, image);
+    }
+}
+
+// What became of a row.
+fn verb_of<R: Same>(old: &Option<R>, new: Option<&R>) -> Option<Verb>
+    ensures { (same : R → R → Bool)
+        → ((x y : R) → old.now ≡ Some x → option_copied new.entry ≡ Some y → Decides (same x y) (x ≡ y))
+        → option_to_list result ≡ verb_of same old.now (option_copied new.entry) }
+{
+    match (old, new) {
+        (None, None) => None,
+        (None, Some(_)) => Some(Verb::Created),
+        (Some(_), None) => Some(Verb::Deleted),
+        (Some(old), Some(new)) if old.same(new) => None,
+        (Some(_), Some(_)) => Some(Verb::Updated),
+    }
+}
+
+// Puts the event of what became of the row, if anything did.
+fn put_event(
+    events: &mut List<Event>,
+    version: Version,
+    kind: Kind,
+    id: Id,
+    verb: Option<Verb>,
+) -> Result<(), NoMemory>
+    ensures { OnOk result (events.new ≡ events.old ++ map (event version kind id) (option_to_list verb)) }
+{
+    match verb {
+        Some(verb) => add(
+            events,
+            Event {
+                entry: version,
+                verb,
+                kind,
+                id,
+            },
+        ),
+        None => Ok(()),
+    }
+}
+
+impl<R: Row + Same + Drop> Tracked<R> {
+    // Puts what became of the rows since the changes under way began.
+    pub(crate) fn put_events(
+        &self,
+        version: Version,
+        kind: Kind,
+        events: &mut List<Event>,
+    ) -> Result<(), NoMemory>
+        ensures { (same : R → R → Bool) → DecidesRows R.id_of same → OnOk result (
+            events.new ≡ events.old ++ events_of version kind R.id_of same self.now.start self.now.rows) }
+    {
+        put_all_events(&self.rows, self.before.as_slice(), version, kind, events)
+    }
+}
+
+fn put_all_events<R: Row + Same + Drop>(
+    rows: &Indexed<R>,
+    before: &[Before<R>],
+    version: Version,
+    kind: Kind,
+    events: &mut List<Event>,
+) -> Result<(), NoMemory>
+    requires { IsTracked R.id_of before.now rows.now }
+    ensures { (same : R → R → Bool) → DecidesRows R.id_of same → OnOk result (
+        events.new ≡ events.old ++ flat_map (image_events version kind R.id_of same rows.now.rows) before.now) }
+{
+    for image in before {
+        let verb = verb_of(&image.row, rows.get(image.id));
+        put_event(events, version, kind, image.id, verb)?;
+    }
+    Ok(())
+}

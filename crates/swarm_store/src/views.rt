@@ -1,0 +1,265 @@
+// What queries show: lists of objects, and how an object is named.
+ghost use Rattle.std.specs.Prelude.{◌≡◌, filter, map, IfOk, Ok};
+ghost use Rattle.swarm_model.specs.Calls.Refusals.{on_service_by};
+ghost use Rattle.swarm_model.specs.Calls.Views.{
+  is_shown_running,
+  network_row,
+  network_shown,
+  node_shown,
+  note_of,
+  place_of,
+  running_of,
+  service_row,
+  service_shown,
+  shown,
+  shows,
+  status_of,
+  task_shown,
+  tasks_shown,
+  wanted_of,
+};
+ghost use Rattle.swarm_objects.specs.Tasks.Words.{is_of};
+ghost use Rattle.swarm_roles.specs.Usable.{IsUsable};
+ghost use Rattle.swarm_store.specs.Inside.State.{tables_now};
+ghost use Rattle.swarm_plain.specs.Inside.Lookups.{Gets};
+
+use crate::names::not_found;
+use crate::state::State;
+use swarm_objects::views::{
+    NetworkShown, NodeShown, NoteShown, PlaceShown, ServiceShown, Shown, TaskShown,
+};
+use swarm_objects::{
+    Duplicate, Id, Kind, List, Mode, Name, NoMemory, Note, Place, Query, Refusal, Rows, RunStatus,
+    Service, Task, ViewReply, add,
+};
+use swarm_roles::{held_count, networks, nodes, services, tasks, tasks_of};
+
+impl State {
+    // What the query shows, or why it is refused.
+    pub(crate) fn shows(&self, query: &Query) -> Result<ViewReply, Refusal>
+        requires { IsUsable (tables_now self.now) }
+        ensures { Gets (shows (tables_now self.now) query.now) result }
+    {
+        match query {
+            Query::ListNodes => Ok(ViewReply::Nodes(self.nodes_shown()?)),
+            Query::ListServices => Ok(ViewReply::Services(self.services_shown()?)),
+            Query::ListNetworks => Ok(ViewReply::Networks(self.networks_shown()?)),
+            Query::ListTasks(None) => Ok(ViewReply::Tasks(self.tasks_shown()?)),
+            Query::ListTasks(Some(name)) => self.tasks_of_service(name),
+            Query::InspectNode(name) => self.inspect_node(name),
+            Query::InspectService(name) => self.inspect_service(name),
+            Query::InspectNetwork(name) => self.inspect_network(name),
+            Query::InspectTask(id) => self.inspect_task(*id),
+            Query::Clock => Ok(ViewReply::Clock(self.clock)),
+        }
+    }
+
+    fn nodes_shown(&self) -> Result<List<NodeShown>, NoMemory>
+        requires { IsUsable (tables_now self.now) }
+        ensures { IfOk result (λ rows. rows ≡ map shown (tables_now self.now).nodes) }
+    {
+        let mut rows = List::new(self.alloc);
+        for node in nodes(self) {
+            let row = NodeShown {
+                id: node.id,
+                name: node.name.duplicate(self.alloc)?,
+                state: node.state,
+                availability: node.availability,
+                role: node.role,
+                cpu: node.cpu,
+                mem: node.mem,
+            };
+            add(&mut rows, row)?;
+        }
+        Ok(rows)
+    }
+
+    fn services_shown(&self) -> Result<List<ServiceShown>, NoMemory>
+        requires { IsUsable (tables_now self.now) }
+        ensures { IfOk result (λ rows. rows ≡ map (service_row (tables_now self.now)) (tables_now self.now).services) }
+    {
+        let mut rows = List::new(self.alloc);
+        for service in services(self) {
+            add(&mut rows, self.service_row(service)?)?;
+        }
+        Ok(rows)
+    }
+
+    fn service_row(&self, service: &Service) -> Result<ServiceShown, NoMemory>
+        requires { IsUsable (tables_now self.now) }
+        ensures { IfOk result (λ row. row ≡ service_row (tables_now self.now) service.now) }
+    {
+        Ok(ServiceShown {
+            id: service.id,
+            name: service.name.duplicate(self.alloc)?,
+            mode: service.spec.mode,
+            running: self.running_of(service),
+            wanted: self.wanted_of(service)?,
+            update: status_of(service),
+        })
+    }
+
+    // How many of its live tasks were seen running.
+    pub(crate) fn running_of(&self, service: &Service) -> u64
+        requires { IsUsable (tables_now self.now) }
+        ensures { result ≡ running_of (tables_now self.now) service.now }
+    {
+        let mut count = 0;
+        for task in tasks_of(self, service.id) {
+            if is_shown_running(service, task) {
+                count += 1;
+            }
+        }
+        count
+    }
+
+    // How many tasks it is to have.
+    pub(crate) fn wanted_of(&self, service: &Service) -> Result<u64, NoMemory>
+        requires { IsUsable (tables_now self.now) }
+        ensures { IfOk result (λ wanted. wanted ≡ wanted_of (tables_now self.now) service.now service.now.spec.mode) }
+    {
+        match service.spec.mode {
+            Mode::Replicated(replicas) => Ok(replicas),
+            Mode::Global => Ok(held_count(self, service)),
+            Mode::Job { total, .. } => Ok(total),
+        }
+    }
+
+    fn networks_shown(&self) -> Result<List<NetworkShown>, NoMemory>
+        requires { IsUsable (tables_now self.now) }
+        ensures { IfOk result (λ rows. rows ≡ map network_row (tables_now self.now).networks) }
+    {
+        let mut rows = List::new(self.alloc);
+        for network in networks(self) {
+            let row = NetworkShown {
+                id: network.id,
+                name: network.name.duplicate(self.alloc)?,
+                base: network.base,
+                length: network.length,
+            };
+            add(&mut rows, row)?;
+        }
+        Ok(rows)
+    }
+
+    fn tasks_shown(&self) -> Result<List<TaskShown>, NoMemory>
+        requires { IsUsable (tables_now self.now) }
+        ensures { IfOk result (λ rows. rows ≡ map (task_shown (tables_now self.now)) (tables_now self.now).tasks) }
+    {
+        let mut rows = List::new(self.alloc);
+        for task in tasks(self) {
+            add(&mut rows, self.task_shown(task)?)?;
+        }
+        Ok(rows)
+    }
+
+    // The tasks of the service with this name.
+    fn tasks_of_service(&self, name: &Name) -> Result<ViewReply, Refusal>
+        requires { IsUsable (tables_now self.now) }
+        ensures { let t = tables_now self.now in
+            Gets (on_service_by t name.now (λ s. Ok (tasks_shown t (filter (is_of s.id) t.tasks)))) result }
+    {
+        match self.service_named(name) {
+            Some(service) => Ok(ViewReply::Tasks(self.tasks_of(service.id)?)),
+            None => Err(not_found(self.alloc, Kind::Service, name)),
+        }
+    }
+
+    fn tasks_of(&self, service: Id) -> Result<List<TaskShown>, NoMemory>
+        requires { IsUsable (tables_now self.now) }
+        ensures { let t = tables_now self.now in
+            IfOk result (λ rows. rows ≡ map (task_shown t) (filter (is_of service) t.tasks)) }
+    {
+        let mut rows = List::new(self.alloc);
+        for task in tasks_of(self, service) {
+            add(&mut rows, self.task_shown(task)?)?;
+        }
+        Ok(rows)
+    }
+
+    fn task_shown(&self, task: &Task) -> Result<TaskShown, NoMemory>
+        ensures { IfOk result (λ row. row ≡ task_shown (tables_now self.now) task.now) }
+    {
+        let node = match task.node {
+            Some(id) => Some(self.node_shown(id)?),
+            None => None,
+        };
+        Ok(TaskShown {
+            id: task.id,
+            service: self.service_shown(task.service)?,
+            place: self.place_of(task.place)?,
+            node,
+            state: task.state,
+            desired: task.desired,
+            note: self.note_of(task)?,
+        })
+    }
+
+    fn node_shown(&self, id: Id) -> Result<Shown, NoMemory>
+        ensures { IfOk result (λ node. node ≡ node_shown (tables_now self.now) id) }
+    {
+        match self.node(id) {
+            Some(node) => Ok(Shown::Name(node.name.duplicate(self.alloc)?)),
+            None => Ok(Shown::Id(id)),
+        }
+    }
+
+    fn service_shown(&self, id: Id) -> Result<Shown, NoMemory>
+        ensures { IfOk result (λ service. service ≡ service_shown (tables_now self.now) id) }
+    {
+        match self.service(id) {
+            Some(service) => Ok(Shown::Name(service.name.duplicate(self.alloc)?)),
+            None => Ok(Shown::Id(id)),
+        }
+    }
+
+    fn network_shown(&self, id: Id) -> Result<Shown, NoMemory>
+        ensures { IfOk result (λ network. network ≡ network_shown (tables_now self.now) id) }
+    {
+        match self.network(id) {
+            Some(network) => Ok(Shown::Name(network.name.duplicate(self.alloc)?)),
+            None => Ok(Shown::Id(id)),
+        }
+    }
+
+    pub(crate) fn place_of(&self, place: Place) -> Result<PlaceShown, NoMemory>
+        ensures { IfOk result (λ shown. shown ≡ place_of (tables_now self.now) place) }
+    {
+        match place {
+            Place::Slot(number) => Ok(PlaceShown::Slot(number)),
+            Place::On(node) => Ok(PlaceShown::On(self.node_shown(node)?)),
+        }
+    }
+
+    // Why its place is closed, or else why it waits.
+    pub(crate) fn note_of(&self, task: &Task) -> Result<NoteShown, NoMemory>
+        ensures { IfOk result (λ shown. shown ≡ note_of (tables_now self.now) task.now.closed task.now.note) }
+    {
+        if let Some(cause) = task.closed {
+            return Ok(NoteShown::Closed(cause));
+        }
+        match task.note {
+            Note::Empty => Ok(NoteShown::Empty),
+            Note::Filters(counts) => Ok(NoteShown::Filters(counts)),
+            Note::NoPort(udp) => Ok(NoteShown::NoPort(udp)),
+            Note::NoAddress(network) => Ok(NoteShown::NoAddress(self.network_shown(network)?)),
+        }
+    }
+}
+
+// It is a live task of the service that was seen running.
+fn is_shown_running(service: &Service, task: &Task) -> bool
+    ensures { result ≡ is_shown_running service.now task.now }
+{
+    task.is_of(service.id) && task.is_live() && task.is_running()
+}
+
+// How its last update stands, if there was one.
+pub(crate) fn status_of(service: &Service) -> Option<RunStatus>
+    ensures { result ≡ status_of service.now }
+{
+    match &service.run {
+        Some(run) => Some(run.status),
+        None => None,
+    }
+}

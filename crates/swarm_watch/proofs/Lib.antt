@@ -1,0 +1,7 @@
+mod Missing
+mod Moving
+mod Sweeping
+mod Places
+mod Noting
+mod Answering
+mod Joining

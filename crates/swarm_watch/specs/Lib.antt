@@ -1,0 +1,4 @@
+pub mod Calls
+pub mod Inside
+pub mod Watchings
+pub mod Worlds
