@@ -1,0 +1,6 @@
+mod Entries
+mod Changes
+mod Found
+mod Naming
+mod Heard
+mod Seen

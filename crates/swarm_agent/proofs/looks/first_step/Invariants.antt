@@ -1,0 +1,7 @@
+use Rattle.std.proofs.Common.{◌≡◌}
+use Rattle.swarm_agent.specs.Agent.{first_task}
+use Rattle.swarm_objects.specs.Loops.Agents.{has_step}
+use Rattle.swarm_agent.proofs.looks.first_step.Given as goal
+
+abbrev pub invariant-loop-executor : goal.invariant-loop-executor
+invariant-loop-executor l = first_task (has_step l.now) l.executor-iterator ≡ first_task (has_step l.now) l.executors

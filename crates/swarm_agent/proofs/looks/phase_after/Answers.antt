@@ -1,0 +1,16 @@
+use Rattle.std.proofs.Common.{ap, ◌∙◌}
+use Rattle.std.specs.Map.{values_of}
+use Rattle.std.specs.Option.{option_map}
+use Rattle.swarm_agent.proofs.Changes.{near-above}
+use Rattle.swarm_agent.specs.Agent.{phases, task_first}
+use Rattle.swarm_objects.specs.Bounds.{is_near_executor}
+use Rattle.swarm_objects.specs.Rows.{first_of}
+use Rattle.swarm_agent.proofs.looks.phase_after.Goals as goal
+
+pub loop-executor-init : goal.loop-executor-init
+loop-executor-init c =
+    let rows = ap values_of c.into_iter-executor-iterator.ensures.into_iter_gives ∙ c.above-executor-items.ensures.rows in
+    record {
+      near = rw rows (near-above is_near_executor c.args.after c.args.executors.now c.requires);
+      first = ap (λ es. option_map task_first (first_of (phases es))) rows;
+    }

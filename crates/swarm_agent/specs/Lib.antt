@@ -1,0 +1,5 @@
+pub mod Agent
+pub mod Steps
+pub mod Hearing
+pub mod Times
+pub mod Inside

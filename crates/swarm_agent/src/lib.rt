@@ -1,0 +1,13 @@
+//! The agent of a node: its inbox, and its executors by task.
+#![tactic(auto)]
+
+mod agent;
+mod executors;
+mod looks;
+mod messages;
+mod steps;
+#[cfg(test)]
+mod tests;
+pub mod theorems;
+
+pub use agent::{Agent, ApplyFault};

@@ -1,0 +1,167 @@
+// What is due of executors, and what they wait for. Nothing here takes memory.
+ghost use Rattle.std.specs.Prelude.{◌≡◌, true};
+ghost use Rattle.std.specs.List.{list_all};
+ghost use Rattle.swarm_agent.specs.Agent.{first_task, has_news, least_phase, news_after};
+ghost use Rattle.swarm_agent.specs.Agent.{phase_after, phase_cmp, phase_of};
+ghost use Rattle.swarm_objects.specs.Bounds.{is_near_end, is_near_executor, is_near_workload};
+ghost use Rattle.swarm_objects.specs.Loops.Agents.{has_step, is_forgotten, is_news};
+ghost use Rattle.swarm_objects.specs.Rows.{IsRising, executor_task, keep_least};
+
+use crate::executors::Executors;
+use crate::steps::{has_step, phase_time};
+use swarm_objects::{End, Executor, Id, Ms, TaskState, Workload, rank};
+
+// No time that is handed to an agent reaches it.
+const FAR_END: Ms = 1 << 60;
+
+/// The first executor with a step that is due.
+pub fn first_step(executors: &Executors, now: Ms) -> Option<Id>
+    ensures order { IsRising executor_task executors.now }
+    ensures value { result ≡ first_task (has_step now) executors.now }
+{
+    for executor in executors.iter() {
+        if has_step(now, executor) {
+            return Some(executor.task);
+        }
+    }
+    None
+}
+
+/// It is gone and has ended.
+pub fn is_forgotten(executor: &Executor) -> bool
+    ensures { result ≡ is_forgotten executor.now }
+{
+    executor.gone && rank(TaskState::Running) < rank(executor.state)
+}
+
+/// The first executor that is gone and has ended.
+pub fn first_forgotten(executors: &Executors) -> Option<Id>
+    ensures order { IsRising executor_task executors.now }
+    ensures value { result ≡ first_task is_forgotten executors.now }
+{
+    for executor in executors.iter() {
+        if is_forgotten(executor) {
+            return Some(executor.task);
+        }
+    }
+    None
+}
+
+// The state is above the one that was reported.
+fn is_news(state: TaskState, reported: Option<TaskState>) -> bool
+    ensures { result ≡ is_news state reported }
+{
+    match reported {
+        None => true,
+        Some(told) => rank(told) < rank(state),
+    }
+}
+
+// It isn't gone, and its state is above the one that it reported.
+fn has_news(executor: &Executor) -> bool
+    ensures { result ≡ has_news executor.now }
+{
+    !executor.gone && is_news(executor.state, executor.reported)
+}
+
+/// The first executor after this task with a state to report.
+pub fn first_news(executors: &Executors, after: Id) -> Option<(Id, TaskState)>
+    ensures order { IsRising executor_task executors.now }
+    ensures value { result ≡ news_after after executors.now }
+{
+    for (_, executor) in executors.above(after) {
+        if has_news(executor) {
+            return Some((executor.task, executor.state));
+        }
+    }
+    None
+}
+
+// The executor's phase, with its time and its task.
+fn phase_of(executor: &Executor) -> Option<(Ms, Id)>
+    requires { is_near_executor executor.now ≡ true }
+    ensures { result ≡ phase_of executor.now }
+{
+    match phase_time(executor) {
+        Some(time) => Some((time, executor.task)),
+        None => None,
+    }
+}
+
+// The sooner of two phases; at one time that of the lesser task.
+fn sooner(best: Option<(Ms, Id)>, phase: (Ms, Id)) -> Option<(Ms, Id)>
+    ensures { result ≡ keep_least phase_cmp best phase }
+{
+    match best {
+        Some(first) if phase.0.cmp(&first.0).then(phase.1.cmp(&first.1)).is_lt() => Some(phase),
+        Some(first) => Some(first),
+        None => Some(phase),
+    }
+}
+
+fn is_near_end(end: End) -> bool
+    ensures { result ≡ is_near_end end }
+{
+    match end {
+        End::Exit(time, _) => time < FAR_END,
+        End::Never | End::Reject => true,
+    }
+}
+
+fn is_near_workload(workload: Workload) -> bool
+    ensures { result ≡ is_near_workload workload }
+{
+    workload.prepare < FAR_END
+        && workload.start < FAR_END
+        && workload.stop < FAR_END
+        && is_near_end(workload.end)
+}
+
+fn is_near(executor: &Executor) -> bool
+    ensures { result ≡ is_near_executor executor.now }
+{
+    let stopping = match executor.stopping {
+        Some(time) => time < FAR_END,
+        None => true,
+    };
+    is_near_workload(executor.workload) && executor.since < FAR_END && stopping
+}
+
+/// Every time of theirs is far from the end of its type.
+pub fn are_near(executors: &Executors) -> bool
+    ensures { result ≡ list_all is_near_executor executors.now }
+{
+    for executor in executors.iter() {
+        if !is_near(executor) {
+            return false;
+        }
+    }
+    true
+}
+
+/// The phase that ends first.
+pub fn first_phase(executors: &Executors) -> Option<(Ms, Id)>
+    requires { list_all is_near_executor executors.now ≡ true }
+    ensures { result ≡ least_phase executors.now }
+{
+    let mut least = None;
+    for executor in executors.iter() {
+        if let Some(phase) = phase_of(executor) {
+            least = sooner(least, phase);
+        }
+    }
+    least
+}
+
+/// The first executor after this task in a timed phase, with the phase's time.
+pub fn phase_after(executors: &Executors, after: Id) -> Option<(Id, Ms)>
+    requires { list_all is_near_executor executors.now ≡ true }
+    ensures { result ≡ phase_after after executors.now }
+{
+    for (_, executor) in executors.above(after) {
+        if let Some((time, task)) = phase_of(executor) {
+            return Some((task, time));
+        }
+    }
+    None
+}

@@ -1,0 +1,6 @@
+mod Confirmed
+mod Differing
+mod DueSets
+mod Examples
+mod Messages
+mod Together

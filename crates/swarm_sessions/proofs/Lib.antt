@@ -1,0 +1,5 @@
+mod Examples
+mod Falling
+mod Orphans
+mod Placing
+mod Steps
