@@ -30,6 +30,16 @@ fn nodes_are_updated(rt: HostRuntime) -> Result<(), Fail> {
 }
 
 #[test]
+fn global_task_stays_on_a_paused_node(rt: HostRuntime) -> Result<(), Fail> {
+    let script =
+        b"node join n1\nsettle\nservice create agent global\nwait 10\nnode update n1 availability=pause\nsettle\nlist tasks\n";
+    let out =
+        b"ok 1\nsettled\nok 3\nok 1\nsettled\ntasks 1\ntask 4 agent.n1 n1 RUNNING RUNNING -\n";
+    assert!(rt; puts(&rt, script, &SOUND, 0, out)?);
+    Ok(())
+}
+
+#[test]
 fn one_task_too_many(rt: HostRuntime) -> Result<(), Fail> {
     let script =
         b"node join n1 cpu=2000\nnode join n2 cpu=2000\nservice create web replicas=5 cpu=1000\nwait 10\nsettle\nlist tasks\n";
