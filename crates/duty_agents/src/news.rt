@@ -75,7 +75,8 @@ fn any_gone(plain: &Plain, node: Id, sent: &[Assigned]) -> bool
 // What is left of what was sent behind the task, where the task is the next one of it.
 fn behind<'a>(task: &Task, left: &'a [Assigned]) -> Option<&'a [Assigned]>
     ensures { let a = assigned task.now in
-        MatchOption result (is_next a left.now ≡ false) (λ rest. (is_next a left.now ≡ true) × (rest.now ≡ rest_of left.now)) }
+        MatchOption result (is_next a left.now ≡ false)
+        (λ rest. (is_next a left.now ≡ true) × (rest.now ≡ rest_of left.now)) }
 {
     let Some((one, rest)) = left.split_first() else {
         return None;

@@ -148,7 +148,8 @@ pub fn add_marks<'a, R: Row>(
     row: &'a R,
     other: Option<&'a R>,
 ) -> Result<(), NoMemory>
-    requires { HasNone marks.old.map (is_mark (fresh_digests R.key_of row.now (option_copied other)) R.KEYS (R.id_of row.now)) }
+    requires { HasNone marks.old.map
+        (is_mark (fresh_digests R.key_of row.now (option_copied other)) R.KEYS (R.id_of row.now)) }
     ensures ok { OnOk result (
         AddsMarks marks.old.map marks.new.map (
         is_mark (fresh_digests R.key_of row.now (option_copied other.entry)) R.KEYS (R.id_of row.now)

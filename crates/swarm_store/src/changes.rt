@@ -25,7 +25,8 @@ impl State {
     fn put_service(&mut self, service: Service) -> Result<(), NoMemory>
         requires stands { Stands (tables_now self.old) }
         requires there { has_row service_id service.id self.old.services.rows ≡ true }
-        ensures ok { OnOk result (tables_now self.new ≡ apply_change (tables_now self.old) (Change.PutService service)) }
+        ensures ok { OnOk result (
+            tables_now self.new ≡ apply_change (tables_now self.old) (Change.PutService service)) }
         ensures start { tables_start self.new ≡ tables_start self.old }
     {
         self.services.put(service)

@@ -100,7 +100,8 @@ fn orphan_of(
 
 // A node that isn't DOWN is removed by force alone.
 fn check_removal(force: bool, node: &Node) -> Result<(), Refusal>
-    ensures { result_err result ≡ refuse (not force && not (is_down node.now.state)) (Refusal.NodeNotDown node.now.state) }
+    ensures { result_err result ≡
+        refuse (not force && not (is_down node.now.state)) (Refusal.NodeNotDown node.now.state) }
 {
     if !force && !node.is_down() {
         return Err(Refusal::NodeNotDown(node.state));
@@ -201,7 +202,8 @@ impl State {
     fn orphan(&mut self, version: Version, node: Id) -> Result<(), NoMemory>
         requires { Stands (tables_now self.old) }
         ensures done { OnOk result (tables_now self.new ≡
-            change_where (is_left_behind node) (in_state version self.old.clock TaskState.Orphaned) (tables_now self.old)) }
+            change_where (is_left_behind node) (in_state version self.old.clock TaskState.Orphaned)
+            (tables_now self.old)) }
         ensures start { tables_start self.new ≡ tables_start self.old }
     {
         let mut after = 0;

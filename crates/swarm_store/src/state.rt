@@ -82,7 +82,8 @@ impl State {
 
     // What became of the rows since the changes under way began.
     pub(crate) fn events(&self, version: Version) -> Result<List<Event>, NoMemory>
-        ensures { IfOk result (λ events. events ≡ changes_between version (tables_start self.now) (tables_now self.now)) }
+        ensures { IfOk result (λ events.
+            events ≡ changes_between version (tables_start self.now) (tables_now self.now)) }
     {
         let mut events = List::new(self.alloc);
         self.nodes.put_events(version, Kind::Node, &mut events)?;

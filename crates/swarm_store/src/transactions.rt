@@ -53,7 +53,8 @@ impl State {
     // stay done.
     fn apply_ops(&mut self, version: Version, ops: &[Op]) -> Result<List<Id>, Refusal>
         requires { IsOpen (length ops.now) (tables_now self.old) }
-        ensures done { Reached (made_all (apply_ops version ops.now (world_now self.old) [])) result (tables_now self.new) }
+        ensures done { Reached
+            (made_all (apply_ops version ops.now (world_now self.old) [])) result (tables_now self.new) }
         ensures stands { OnOk result (Stands (tables_now self.new)) }
         ensures start { tables_start self.new ≡ tables_start self.old }
     {
@@ -77,7 +78,8 @@ impl State {
         requires settled { IsSettled self.old }
         requires room { IsOpen (length ops.now) (tables_now self.old) }
         ensures settled { IsSettled self.new }
-        ensures done { Reached (made_all (apply_ops version ops.now (world_now self.old) [])) result (tables_now self.new) }
+        ensures done { Reached
+            (made_all (apply_ops version ops.now (world_now self.old) [])) result (tables_now self.new) }
         ensures ok { OnOk result (events.new ≡ changes_between version (tables_now self.old) (tables_now self.new)) }
         ensures err { OnErr result ((tables_now self.new ≡ tables_now self.old) × (events.new ≡ events.old)) }
     {

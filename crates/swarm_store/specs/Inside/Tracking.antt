@@ -56,7 +56,8 @@ abbrev pub Kept : {X : Type 0} → (X → ℕ) → List (Before X) → RowsWithR
 Kept key old rows new now = IsTracked key new now × (restored key new now.rows ≡ restored key old rows.rows)
 
 -- and they are counted, as they are and as they were
-pub record IsCounted {X : Type 0} (key : X → ℕ) (before : List (Before X)) (rows : RowsWithRoom X) (count started : ℕ) : Type 0 where
+pub record IsCounted {X : Type 0} (key : X → ℕ) (before : List (Before X)) (rows : RowsWithRoom X)
+    (count started : ℕ) : Type 0 where
   pub tracked : IsTracked key before rows
   pub now : count ≡ length rows.rows
   pub start : started ≡ length (restored key before rows.rows)
