@@ -1,7 +1,8 @@
 -- Applying the message in an inbox.
 use Rattle.std.proofs.Common.{◌≡◌, ℕ, List, None, Option, Some, refl, sym, ap, ◌∙◌, subst}
-use Rattle.duty_agents.proofs.AgentChanges.{change_none, change_one, change_same}
+use Rattle.duty_agents.proofs.AgentChanges.{change_one, change_same}
 use Rattle.duty_agents.specs.OneAgent.{finished}
+use Rattle.swarm_objects.proofs.RowChanges.{change_row-None}
 use Rattle.swarm_objects.specs.Agents.Messages.{applied}
 use Rattle.swarm_objects.specs.Loops.Agents.{after_apply, change_agent, take_in}
 use Rattle.swarm_objects.specs.Rows.{RisesFrom, agent_node, change_row, row_at}
@@ -19,7 +20,7 @@ with_agents w rows n e = ap (λ (zs : List NodeAgent). record w { agents = zs })
 
 -- the agent isn't there
 pub apply_nowhere : (w : World) (n : ℕ) → None ≡ row_at agent_node n w.agents → w ≡ after_apply w n
-apply_nowhere w n none = with_agents w w.agents n (sym (change_none agent_node n (taking w) w.agents (sym none)))
+apply_nowhere w n none = with_agents w w.agents n (sym (change_row-None agent_node n (taking w) w.agents (sym none)))
 
 -- its inbox is empty
 pub apply_empty : (w : World) (n : ℕ) (a : NodeAgent) → RisesFrom agent_node 0 w.agents →

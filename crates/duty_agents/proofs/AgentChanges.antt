@@ -1,10 +1,12 @@
 -- Changes of one row.
 use Rattle.std.proofs.Common.{◌≡◌, ℕ, ◌+◌, ◌<◌, ◌≤◌, Bool, true, false, cond, eqb, List, [], ◌∷◌, length, get_or, set, drop, add-one, zero, suc, Option, None, Some, refl, sym, ap, ◌∙◌, subst, arith}
-use Rattle.std.specs.Prelude.{◌==◌, ◌&&◌, not}
-use Rattle.std.specs.List.{list_all, position, position_or_len}
+use Rattle.std.specs.Prelude.{◌==◌, not}
+use Rattle.std.specs.List.{list_all, position}
 use Rattle.std.proofs.lemmas.Bool.Decides.{nat_tests}
 use Rattle.std.proofs.lemmas.Grind.{common_steps}
 use Rattle.swarm_objects.proofs.RowLemmas.{change_row_above}
+use Rattle.swarm_objects.proofs.Tests.{second_so}
+use Rattle.swarm_objects.proofs.RowChanges.{before, none_or_all}
 use Rattle.swarm_objects.specs.Rows.{RisesFrom, change_row, row_at}
 
 -- two changes that do the same with the one row
@@ -27,17 +29,6 @@ change_one key n id f g (y ∷ rows) x r at same =
         rw (here, left, right) refl
     go false t below k = ap (λ zs. y ∷ zs) (below k)
 
--- where the row isn't there
-pub change_none : {X : Type 0} (key : X → ℕ) (id : ℕ) (f : X → X) (rows : List X) → row_at key id rows ≡ None →
-    change_row key id f rows ≡ rows
-change_none key id f [] at = refl
-change_none key id f (y ∷ rows) at = go (eqb (key y) id) (change_none key id f rows) at
-  where
-    go : (b : Bool) → (row_at key id rows ≡ None → change_row key id f rows ≡ rows) →
-        cond b (Some y) (row_at key id rows) ≡ None → cond b (f y) y ∷ change_row key id f rows ≡ y ∷ rows
-    go true below k = absurd cc
-    go false below k = ap (λ zs. y ∷ zs) (below k)
-
 -- a change that leaves each row as it is
 pub change_same : {X : Type 0} (key : X → ℕ) (id : ℕ) (rows : List X) → change_row key id (λ x. x) rows ≡ rows
 change_same key id [] = refl
@@ -48,9 +39,6 @@ change_same key id (y ∷ rows) = go (eqb (key y) id) (change_same key id rows)
     go false below = ap (λ zs. y ∷ zs) below
 
 -- The row at an index.
-
-abbrev before : {X : Type 0} → (X → ℕ) → ℕ → List X → ℕ
-before key k rows = position_or_len (λ row. key row == k) rows
 
 index_or_len : {X : Type 0} (key : X → ℕ) (n id : ℕ) (f : X → X) (rows : List X) (x : X) → RisesFrom key n rows →
     let at = before key id rows in
@@ -83,23 +71,12 @@ change_at key n id f rows x at r e =
     let lt : before key id rows < length rows = grind (arith, common_steps) in
     subst (λ k. set rows k (f (get_or rows k x)) ≡ change_row key id f rows) is (index_or_len key n id f rows x r lt)
 
-all_or_none : {X : Type 0} (key : X → ℕ) (id : ℕ) (f : X → X) (rows : List X) →
-    length rows ≤ before key id rows → rows ≡ change_row key id f rows
-all_or_none key id f [] le = refl
-all_or_none key id f (x ∷ rows) le = go (eqb (key x) id) (all_or_none key id f rows) le
-  where
-    go : (b : Bool) → (length rows ≤ before key id rows → rows ≡ change_row key id f rows) →
-        length (x ∷ rows) ≤ cond (not b) (1 + before key id rows) 0 →
-        x ∷ rows ≡ cond b (f x) x ∷ change_row key id f rows
-    go true below le = absurd (omega arith)
-    go false below le = ap (λ zs. x ∷ zs) (below (omega arith))
-
 -- no row has the key
 pub change_nowhere : {X : Type 0} (key : X → ℕ) (id : ℕ) (f : X → X) (rows : List X) →
     None ≡ position (λ row. key row == id) rows → rows ≡ change_row key id f rows
 change_nowhere key id f rows e =
     let none : position (λ row. key row == id) rows ≡ None = sym e in
-    all_or_none key id f rows (grind (arith, common_steps))
+    none_or_all key id f rows (grind (arith, common_steps))
 
 -- the same, of a search that gave none
 pub change_unless : {X : Type 0} (key : X → ℕ) (id : ℕ) (f : X → X) (rows : List X) (found : Option ℕ) →
@@ -109,13 +86,9 @@ change_unless key id f rows (Some at) e none = absurd (none at refl)
 
 -- The rows that a loop has still to go over.
 
-and_right : (a b : Bool) → (a && b) ≡ true → b ≡ true
-and_right true b e = e
-and_right false b e = absurd cc
-
 pub all_next : {X : Type 0} (p : X → Bool) (rows : List X) (i : ℕ) → i < length rows → list_all p (drop i rows) ≡ true →
     list_all p (drop (i + 1) rows) ≡ true
 all_next p [] i lt e = absurd (omega arith)
-all_next p (y ∷ rows) zero lt e = and_right (p y) (list_all p rows) e
+all_next p (y ∷ rows) zero lt e = second_so (p y) (list_all p rows) e
 all_next p (y ∷ rows) (suc i) lt e =
     rw add-one (subst (λ n. list_all p (drop n rows) ≡ true) (add-one i) (all_next p rows i (omega arith) e))

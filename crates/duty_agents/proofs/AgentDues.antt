@@ -1,17 +1,18 @@
 -- A duty of the agents is due exactly where an agent has it.
-use Rattle.std.proofs.Common.{◌≡◌, ℕ, Bool, true, false, eqb, inl, inr, List, [], ◌∷◌, Option, None, Some, refl, sym, ap, ◌∙◌, arith}
-use Rattle.std.specs.Prelude.{◌||◌, ◌&&◌, not, is_none, is_some}
+use Rattle.std.proofs.Common.{◌≡◌, ℕ, Bool, true, false, eqb, Option, None, Some, refl, ap}
+use Rattle.std.specs.Prelude.{◌&&◌, not, is_none, is_some}
 use Rattle.std.specs.List.{list_any}
-use Rattle.std.proofs.lemmas.Bool.Decides.{nat_tests}
+use Rattle.std.proofs.lemmas.Bool.{eq-eqb, eqb-true}
 use Rattle.duty_agents.specs.OneAgent.{beats, forgets, has_executor, is_active, pulls, registers, reports, steps, takes_in}
 use Rattle.swarm_model.proofs.Base.FromLists.{IsDuty-due}
 use Rattle.swarm_model.proofs.Base.IsDuty.{HasMessage, IsDuty, IsLive, OfAgent, OfExecutor}
 use Rattle.swarm_model.proofs.Base.ToLists.{due-IsDuty}
+use Rattle.swarm_objects.proofs.Tests.{any-has, both, both_are, has-any, not-true, same_test}
 use Rattle.swarm_objects.specs.Agents.Messages.{message_for}
 use Rattle.swarm_objects.specs.Duties.{is_due}
 use Rattle.swarm_objects.specs.Loops.Agents.{has_step, is_beat_due, is_forgotten, is_mode_on, wants_report}
 use Rattle.swarm_objects.specs.Nodes.Sessions.{is_session_live, session_of}
-use Rattle.swarm_objects.specs.Rows.{Has, is_some_and}
+use Rattle.swarm_objects.specs.Rows.{is_some_and}
 use Rattle.swarm_objects.specs.World.{World}
 use Rattle.swarm_objects.specs.declared.agents.Executor.{Executor}
 use Rattle.swarm_objects.specs.declared.agents.NodeAgent.{NodeAgent}
@@ -21,65 +22,25 @@ use Rattle.swarm_objects.specs.declared.messages.Message.{Message}
 
 -- Any of a list.
 
-both_ways : (a b : Bool) → (a ≡ true → b ≡ true) → (b ≡ true → a ≡ true) → a ≡ b
-both_ways true true f g = refl
-both_ways true false f g = sym (f refl)
-both_ways false true f g = g refl
-both_ways false false f g = refl
-
-both : (a b : Bool) → (a && b) ≡ true → (a ≡ true) × (b ≡ true)
-both true b e = (refl, e)
-both false b e = absurd cc
-
-of_both : (a b : Bool) → a ≡ true → b ≡ true → (a && b) ≡ true
-of_both a b e f = rw e f
-
-or_right : (a b : Bool) → b ≡ true → (a || b) ≡ true
-or_right true b e = refl
-or_right false b e = e
-
-or_left : (a b : Bool) → a ≡ true → (a || b) ≡ true
-or_left a b e = rw e refl
-
-any_has : {X : Type 0} (p : X → Bool) (rows : List X) (x : X) → Has rows x → p x ≡ true → list_any p rows ≡ true
-any_has p [] x h e = absurd h
-any_has p (y ∷ rows) x (inl same) e = or_left (p y) (list_any p rows) (ap p same ∙ e)
-any_has p (y ∷ rows) x (inr h) e = or_right (p y) (list_any p rows) (any_has p rows x h e)
-
-has_any : {X : Type 0} (p : X → Bool) (rows : List X) → list_any p rows ≡ true → (x : X) × Has rows x × (p x ≡ true)
-has_any p [] e = absurd cc
-has_any {X = X} p (y ∷ rows) e = go (p y) refl (has_any p rows) e
-  where
-    go : (b : Bool) → p y ≡ b → (list_any p rows ≡ true → (x : X) × Has rows x × (p x ≡ true)) →
-        (b || list_any p rows) ≡ true → (x : X) × Has (y ∷ rows) x × (p x ≡ true)
-    go true is below k = (y, inl refl, is)
-    go false is below k = let r = below k in (r.0, inr r.1, r.2)
-
-same_number : (a b : ℕ) → eqb a b ≡ true → a ≡ b
-same_number a b e = grind (arith, nat_tests)
-
-number_same : (a b : ℕ) → a ≡ b → eqb a b ≡ true
-number_same a b e = grind (arith, nat_tests)
-
 -- Executors.
 
 executor_from : (test : Executor → Bool) (a : NodeAgent) (task : ℕ) → has_executor test task a.executors ≡ true →
     OfExecutor a test task
 executor_from test a task e =
-    let r = has_any (λ (x : Executor). eqb x.task task && test x) a.executors e in
-    let k = both (eqb r.0.task task) (test r.0) r.2 in
-    record { row = r.0; there = r.1; id_is = same_number r.0.task task k.0; fact = k.1 }
+    let r = any-has (λ (x : Executor). eqb x.task task && test x) a.executors e in
+    let k = both_are (eqb r.0.task task) (test r.0) r.2 in
+    record { row = r.0; there = r.1; id_is = eqb-true r.0.task task k.0; fact = k.1 }
 
 executor_to : (test : Executor → Bool) (a : NodeAgent) (task : ℕ) → OfExecutor a test task →
     has_executor test task a.executors ≡ true
 executor_to test a task of =
-    any_has (λ (x : Executor). eqb x.task task && test x) a.executors of.row of.there
-    (of_both (eqb of.row.task task) (test of.row) (number_same of.row.task task of.id_is) of.fact)
+    has-any (λ (x : Executor). eqb x.task task && test x) a.executors of.row of.there
+    (both (eqb of.row.task task) (test of.row) (eq-eqb of.row.task task of.id_is) of.fact)
 
 -- Agents.
 
 active : (n : ℕ) (a : NodeAgent) → a.node ≡ n → is_mode_on a.mode ≡ true → is_active n a ≡ true
-active n a at on = of_both (eqb a.node n) (is_mode_on a.mode) (number_same a.node n at) on
+active n a at on = both (eqb a.node n) (is_mode_on a.mode) (eq-eqb a.node n at) on
 
 -- an agent that passes a test is one of which the fact holds
 agent_due : (w : World) (d : Duty) (n : ℕ) (Fact : NodeAgent → Type 0) (test : NodeAgent → Bool) →
@@ -87,28 +48,24 @@ agent_due : (w : World) (d : Duty) (n : ℕ) (Fact : NodeAgent → Type 0) (test
     ((a : NodeAgent) → test a ≡ true → (is_active n a ≡ true) × Fact a) →
     ((a : NodeAgent) → is_active n a ≡ true → Fact a → test a ≡ true) → list_any test w.agents ≡ is_due w d
 agent_due w d n Fact test is of from to =
-    both_ways (list_any test w.agents) (is_due w d)
+    same_test (list_any test w.agents) (is_due w d)
     (λ e.
-    let r = has_any test w.agents e in
+    let r = any-has test w.agents e in
     let k = from r.0 r.2 in
-    let on = both (eqb r.0.node n) (is_mode_on r.0.mode) k.0 in
-    due-IsDuty w d (of (record { row = r.0; there = r.1; id_is = same_number r.0.node n on.0; fact = (on.1, k.1) })))
+    let on = both_are (eqb r.0.node n) (is_mode_on r.0.mode) k.0 in
+    due-IsDuty w d (of (record { row = r.0; there = r.1; id_is = eqb-true r.0.node n on.0; fact = (on.1, k.1) })))
     (λ e.
     let r = is (IsDuty-due w d e) in
-    any_has test w.agents r.row r.there (to r.row (active n r.row r.id_is r.fact.0) r.fact.1))
-
-not_true : (b : Bool) → not b ≡ true → b ≡ false
-not_true true e = absurd cc
-not_true false e = refl
+    has-any test w.agents r.row r.there (to r.row (active n r.row r.id_is r.fact.0) r.fact.1))
 
 pub register_due : (w : World) (n : ℕ) → list_any (registers w.tables n) w.agents ≡ is_due w (duty.Register n)
 register_due w n =
     agent_due w (duty.Register n) n (λ a. is_session_live w.tables a.node ≡ false) (registers w.tables n) (λ of. of)
     (λ of. of)
     (λ (a : NodeAgent) e.
-    let k = both (is_active n a) (not (is_session_live w.tables a.node)) e in
-    (k.0, not_true (is_session_live w.tables a.node) k.1))
-    (λ (a : NodeAgent) on f. of_both (is_active n a) (not (is_session_live w.tables a.node)) on (ap not f))
+    let k = both_are (is_active n a) (not (is_session_live w.tables a.node)) e in
+    (k.0, not-true (is_session_live w.tables a.node) k.1))
+    (λ (a : NodeAgent) on f. both (is_active n a) (not (is_session_live w.tables a.node)) on (ap not f))
 
 pub beat_due : (w : World) (n : ℕ) → list_any (beats w.tables n) w.agents ≡ is_due w (duty.Beat n)
 beat_due w n =
@@ -117,13 +74,13 @@ beat_due w n =
     (beats w.tables n) (λ of. of) (λ of. of)
     (λ (a : NodeAgent) e.
     let live = is_session_live w.tables a.node in
-    let k = both (is_active n a && live) (is_some_and (is_beat_due w.tables) (session_of w.tables a.node)) e in
-    let l = both (is_active n a) live k.0 in
+    let k = both_are (is_active n a && live) (is_some_and (is_beat_due w.tables) (session_of w.tables a.node)) e in
+    let l = both_are (is_active n a) live k.0 in
     (l.0, (l.1, k.1)))
     (λ (a : NodeAgent) on f.
     let live = is_session_live w.tables a.node in
-    of_both (is_active n a && live) (is_some_and (is_beat_due w.tables) (session_of w.tables a.node))
-    (of_both (is_active n a) live on f.0) f.1)
+    both (is_active n a && live) (is_some_and (is_beat_due w.tables) (session_of w.tables a.node))
+    (both (is_active n a) live on f.0) f.1)
 
 some_is : {X : Type 0} (o : Option X) → is_some o ≡ true → (x : X) × (o ≡ Some x)
 some_is None e = absurd cc
@@ -136,23 +93,23 @@ none_is (Some x) e = absurd cc
 pub apply_due : (w : World) (n : ℕ) → list_any (takes_in n) w.agents ≡ is_due w (duty.Apply n)
 apply_due w n =
     agent_due w (duty.Apply n) n (λ a. (m : Message) × (a.inbox ≡ Some m)) (takes_in n) (λ of. of) (λ of. of)
-    (λ (a : NodeAgent) e. let k = both (is_active n a) (is_some a.inbox) e in (k.0, some_is a.inbox k.1))
-    (λ (a : NodeAgent) on f. of_both (is_active n a) (is_some a.inbox) on (ap is_some f.1))
+    (λ (a : NodeAgent) e. let k = both_are (is_active n a) (is_some a.inbox) e in (k.0, some_is a.inbox k.1))
+    (λ (a : NodeAgent) on f. both (is_active n a) (is_some a.inbox) on (ap is_some f.1))
 
 pub pull_due : (w : World) (n : ℕ) → list_any (pulls w n) w.agents ≡ is_due w (duty.Pull n)
 pull_due w n =
     agent_due w (duty.Pull n) n (λ a. IsLive w a × HasMessage w a) (pulls w n) (λ of. of) (λ of. of)
     (λ (a : NodeAgent) e.
     let live = is_session_live w.tables a.node in
-    let k = both (is_active n a && is_none a.inbox && live) (is_some (message_for w a.node)) e in
-    let l = both (is_active n a && is_none a.inbox) live k.0 in
-    let m = both (is_active n a) (is_none a.inbox) l.0 in
+    let k = both_are (is_active n a && is_none a.inbox && live) (is_some (message_for w a.node)) e in
+    let l = both_are (is_active n a && is_none a.inbox) live k.0 in
+    let m = both_are (is_active n a) (is_none a.inbox) l.0 in
     (m.0, (l.1, (none_is a.inbox m.1, k.1))))
     (λ (a : NodeAgent) on f.
     let live = is_session_live w.tables a.node in
-    of_both (is_active n a && is_none a.inbox && live) (is_some (message_for w a.node))
-    (of_both (is_active n a && is_none a.inbox) live
-    (of_both (is_active n a) (is_none a.inbox) on (ap is_none f.1.0)) f.0) f.1.1)
+    both (is_active n a && is_none a.inbox && live) (is_some (message_for w a.node))
+    (both (is_active n a && is_none a.inbox) live
+    (both (is_active n a) (is_none a.inbox) on (ap is_none f.1.0)) f.0) f.1.1)
 
 pub exec_due : (w : World) (n x : ℕ) → list_any (steps w.tables.clock n x) w.agents ≡ is_due w (duty.Exec n x)
 exec_due w n x =
@@ -160,8 +117,8 @@ exec_due w n x =
     agent_due w (duty.Exec n x) n (λ a. OfExecutor a (has_step w.tables.clock) x) (steps w.tables.clock n x) (λ of. of)
     (λ of. of)
     (λ (a : NodeAgent) e.
-    let k = both (is_active n a) (has_executor test x a.executors) e in (k.0, executor_from test a x k.1))
-    (λ (a : NodeAgent) on f. of_both (is_active n a) (has_executor test x a.executors) on (executor_to test a x f))
+    let k = both_are (is_active n a) (has_executor test x a.executors) e in (k.0, executor_from test a x k.1))
+    (λ (a : NodeAgent) on f. both (is_active n a) (has_executor test x a.executors) on (executor_to test a x f))
 
 pub report_due : (w : World) (n x : ℕ) → list_any (reports w.tables n x) w.agents ≡ is_due w (duty.Report n x)
 report_due w n x =
@@ -170,19 +127,19 @@ report_due w n x =
     (λ of. of) (λ of. of)
     (λ (a : NodeAgent) e.
     let live = is_session_live w.tables a.node in
-    let k = both (is_active n a && live) (has_executor test x a.executors) e in
-    let l = both (is_active n a) live k.0 in
+    let k = both_are (is_active n a && live) (has_executor test x a.executors) e in
+    let l = both_are (is_active n a) live k.0 in
     (l.0, (l.1, executor_from test a x k.1)))
     (λ (a : NodeAgent) on f.
     let live = is_session_live w.tables a.node in
-    of_both (is_active n a && live) (has_executor test x a.executors) (of_both (is_active n a) live on f.0)
+    both (is_active n a && live) (has_executor test x a.executors) (both (is_active n a) live on f.0)
     (executor_to test a x f.1))
 
 pub forget_due : (w : World) (n x : ℕ) → list_any (forgets n x) w.agents ≡ is_due w (duty.Forget n x)
 forget_due w n x =
     agent_due w (duty.Forget n x) n (λ a. OfExecutor a is_forgotten x) (forgets n x) (λ of. of) (λ of. of)
     (λ (a : NodeAgent) e.
-    let k = both (is_active n a) (has_executor is_forgotten x a.executors) e in
+    let k = both_are (is_active n a) (has_executor is_forgotten x a.executors) e in
     (k.0, executor_from is_forgotten a x k.1))
     (λ (a : NodeAgent) on f.
-    of_both (is_active n a) (has_executor is_forgotten x a.executors) on (executor_to is_forgotten a x f))
+    both (is_active n a) (has_executor is_forgotten x a.executors) on (executor_to is_forgotten a x f))

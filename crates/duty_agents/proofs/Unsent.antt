@@ -4,13 +4,15 @@ use Rattle.std.specs.Cmp.Lexicographic.{pointwise}
 use Rattle.std.specs.Prelude.{◌&&◌, ◌||◌, ◌==◌, filter, fold, is_some, map, not}
 use Rattle.std.specs.List.{list_any}
 use Rattle.std.proofs.lemmas.Bool.Decides.{nat_tests}
-use Rattle.duty_rows.proofs.AnyOf.{any_append, any_each, any_same}
-use Rattle.duty_rows.proofs.LivePlaces.{both_ways}
+use Rattle.std.proofs.lemmas.List.Folds.{list_any-append}
+use Rattle.swarm_model.proofs.Moves.Rows.{has_row-Has}
+use Rattle.swarm_model.proofs.Laws.OneEach.{none-any}
+use Rattle.duty_rows.proofs.DirtyPlaces.{both_ways}
 use Rattle.duty_rows.proofs.Looks.{same_row}
 use Rattle.duty_rows.proofs.Numbers.{any_with}
 use Rattle.duty_agents.specs.Inside.News.{LeavesStep, StepsOn, differs, is_due_on, is_next, is_unsent_on, rest_of}
-use Rattle.swarm_model.proofs.Laws.Any.{any-has, has-any}
 use Rattle.swarm_objects.proofs.RowLemmas.{Has-filter, Has-filter_cases, Has-map, Has-map_cases, Has-from_row_at}
+use Rattle.swarm_objects.proofs.Tests.{any-has, any_each, any_map, any_same, both_are, has-any, not-true, or_false, or_left, or_right}
 use Rattle.swarm_objects.specs.Agents.Messages.{assigned, assigned_task, change_of, changes_of, due_set, is_assigned_on, is_sent, message_for, message_with, next_message, same_assigned, sent_of, tasks_of_either, update_of}
 use Rattle.swarm_objects.specs.Rows.{Has, has_row, is_some_and, row_at, task_id, with_number}
 use Rattle.swarm_objects.specs.Values.Ranks.{desired_rank}
@@ -44,15 +46,6 @@ any_rising p ks (n ∷ numbers) =
     turn false true c = refl
     turn false false c = refl
 
-or_nothing : (b : Bool) → (b || false) ≡ b
-or_nothing true = refl
-or_nothing false = refl
-
-any_map : {X Y : Type 0} (p : Y → Bool) (f : X → Y) (rows : List X) → list_any p (map f rows)
-    ≡ list_any (λ x. p (f x)) rows
-any_map p f [] = refl
-any_map p f (x ∷ rows) = ap (λ b. p (f x) || b) (any_map p f rows)
-
 -- a change is there of this task
 abbrev is_changed : List Assigned → List Assigned → ℕ → Bool
 is_changed sent due k = has_one (change_of sent due k)
@@ -63,9 +56,9 @@ any_change : (sent due : List Assigned) → has_one (changes_of sent due)
 any_change sent due =
     any_each (λ _. true) (change_of sent due) (tasks_of_either sent due)
     ∙ any_rising (is_changed sent due) [] (map assigned_task (sent ++ due))
-    ∙ or_nothing (list_any (is_changed sent due) (map assigned_task (sent ++ due)))
+    ∙ or_false (list_any (is_changed sent due) (map assigned_task (sent ++ due)))
     ∙ any_map (is_changed sent due) assigned_task (sent ++ due)
-    ∙ any_append (λ (a : Assigned). is_changed sent due a.task) sent due
+    ∙ list_any-append (λ (a : Assigned). is_changed sent due a.task) sent due
 
 abbrev is_new : List Assigned → Assigned → Bool
 is_new sent a = not (is_sent sent a)
@@ -98,23 +91,8 @@ changed_is sent due k = go (has_row assigned_task k due) (update_has (filter (is
     go true e = e
     go false e = refl
 
-row_there : {X : Type 0} (key : X → ℕ) (rows : List X) (x : X) (k : ℕ) → Has rows x → key x ≡ k → has_row key k rows
-    ≡ true
-row_there key [] x k h e = absurd h
-row_there key (y ∷ rows) x k (inl same) e =
-    go (key y == k) (ap (λ z. key z == k) same ∙ ap (λ n. n == k) e ∙ task_same k)
-  where
-    go : (c : Bool) → c ≡ true → is_some (cond c (Some y) (row_at key k rows)) ≡ true
-    go true is = refl
-    go false is = absurd cc
-row_there key (y ∷ rows) x k (inr h) e = go (key y == k) (row_there key rows x k h e)
-  where
-    go : (c : Bool) → has_row key k rows ≡ true → is_some (cond c (Some y) (row_at key k rows)) ≡ true
-    go true is = refl
-    go false is = is
-
 has_row_of : (due : List Assigned) (a : Assigned) → Has due a → has_row assigned_task a.task due ≡ true
-has_row_of due a h = row_there assigned_task due a a.task h refl
+has_row_of due a h = has_row-Has assigned_task due a a.task h refl
 
 -- the difference, by either list
 abbrev apart : List Assigned → List Assigned → Bool
@@ -124,14 +102,6 @@ or_cases : {A : Type 0} (a b : Bool) → (a ≡ true → A) → (b ≡ true → 
 or_cases true b left right e = left refl
 or_cases false b left right e = right e
 
-or_left : (a b : Bool) → a ≡ true → (a || b) ≡ true
-or_left true b e = refl
-or_left false b e = absurd cc
-
-or_right : (a b : Bool) → b ≡ true → (a || b) ≡ true
-or_right true b e = refl
-or_right false b e = e
-
 new_row : (sent due : List Assigned) (k : ℕ) → list_any (λ (a : Assigned). a.task == k) (filter (is_new sent) due)
     ≡ true →
     list_any (is_new sent) due ≡ true
@@ -139,10 +109,6 @@ new_row sent due k e =
     let a = any-has (λ (a : Assigned). a.task == k) (filter (is_new sent) due) e in
     let row = Has-filter_cases (is_new sent) due a.0 a.1 in
     has-any (is_new sent) due a.0 row.0 row.1
-
-not_true : (b : Bool) → not b ≡ true → b ≡ false
-not_true true e = absurd cc
-not_true false e = refl
 
 pub apart_is : (sent due : List Assigned) → apart sent due ≡ has_one (changes_of sent due)
 apart_is sent due = both_ways _ _ to from ∙ sym (any_change sent due)
@@ -189,7 +155,7 @@ apart_is sent due = both_ways _ _ to from ∙ sym (any_change sent due)
 
     absent : (a : Assigned) → Has due a → not (has_row assigned_task a.task due) ≡ true → apart sent due ≡ true
     absent a h gone =
-        absurd (let e = not_true (has_row assigned_task a.task due) gone in let f = has_row_of due a h in cc)
+        absurd (let e = not-true (has_row assigned_task a.task due) gone in let f = has_row_of due a h in cc)
 
     from_due : list_any changed due ≡ true → apart sent due ≡ true
     from_due e =
@@ -242,7 +208,7 @@ due_row t node k order = both_ways _ _ to from
           where
             at : (o : Option Task) → row_at task_id k t.tasks ≡ o → is_some_and (is_assigned_on node) o ≡ true
             at None none =
-                absurd (apart_none (row_at task_id k t.tasks) none (row_there task_id t.tasks x k has is))
+                absurd (apart_none (row_at task_id k t.tasks) none (has_row-Has task_id t.tasks x k has is))
             at (Some y) got =
                 let other = Has-from_row_at task_id k t.tasks y got in
                 ap (is_assigned_on node) (same_row task_id t.tasks y x order.tasks other.0 has (other.1 ∙ sym is))
@@ -282,36 +248,28 @@ message_first w node none = ap (λ o. is_some (next_message o (due_set w.tables 
 
 -- Where what was sent is what is due, in its order, nothing differs.
 
-none_has : {X : Type 0} (p : X → Bool) (xs : List X) → ((x : X) → Has xs x → p x ≡ false) → list_any p xs ≡ false
-none_has p [] each = refl
-none_has p (x ∷ xs) each =
-    ap (λ b. b || list_any p xs) (each x (inl refl)) ∙ none_has p xs (λ y h. each y (inr h))
-
-both_true : (a b : Bool) → (a && b) ≡ true → (a ≡ true) × (b ≡ true)
-both_true true b e = (refl, e)
-both_true false b e = absurd (let f : false ≡ true = e in cc)
-
 step_sent : (due sent : List Assigned) → pointwise same_assigned due sent ≡ true → (a : Assigned) → Has due a →
     is_sent sent a ≡ true
 step_sent [] sent e a h = absurd h
 step_sent (d ∷ due) [] e a h = absurd (let f : false ≡ true = e in cc)
 step_sent (d ∷ due) (s ∷ sent) e a (inl same) =
     or_left (same_assigned a s) (is_sent sent a)
-    (ap (λ z. same_assigned z s) (sym same) ∙ (both_true (same_assigned d s) (pointwise same_assigned due sent) e).0)
+    (ap (λ z. same_assigned z s) (sym same) ∙ (both_are (same_assigned d s) (pointwise same_assigned due sent) e).0)
 step_sent (d ∷ due) (s ∷ sent) e a (inr h) =
     or_right (same_assigned a s) (is_sent sent a)
-    (step_sent due sent (both_true (same_assigned d s) (pointwise same_assigned due sent) e).1 a h)
+    (step_sent due sent (both_are (same_assigned d s) (pointwise same_assigned due sent) e).1 a h)
 
 step_due : (due sent : List Assigned) → pointwise same_assigned due sent ≡ true → (b : Assigned) → Has sent b →
     has_row assigned_task b.task due ≡ true
 step_due due [] e b h = absurd h
 step_due [] (s ∷ sent) e b h = absurd (let f : false ≡ true = e in cc)
 step_due (d ∷ due) (s ∷ sent) e b (inl same) =
-    let first = (both_true (same_assigned d s) (pointwise same_assigned due sent) e).0 in
-    let tasks = (both_true (d.task == s.task) _ (both_true (d.task == s.task && desired_rank d.desired == desired_rank s.desired) _ first).0).0 in
-    row_there assigned_task (d ∷ due) d b.task (inl refl) (same_task d.task s.task tasks ∙ ap assigned_task same)
+    let first = (both_are (same_assigned d s) (pointwise same_assigned due sent) e).0 in
+    let second = (both_are (d.task == s.task && desired_rank d.desired == desired_rank s.desired) _ first).0 in
+    let tasks = (both_are (d.task == s.task) _ second).0 in
+    has_row-Has assigned_task (d ∷ due) d b.task (inl refl) (same_task d.task s.task tasks ∙ ap assigned_task same)
 step_due (d ∷ due) (s ∷ sent) e b (inr h) =
-    go (d.task == b.task) (step_due due sent (both_true (same_assigned d s) (pointwise same_assigned due sent) e).1 b h)
+    go (d.task == b.task) (step_due due sent (both_are (same_assigned d s) (pointwise same_assigned due sent) e).1 b h)
   where
     go : (c : Bool) → has_row assigned_task b.task due ≡ true →
         is_some (cond c (Some d) (row_at assigned_task b.task due)) ≡ true
@@ -324,9 +282,9 @@ pub step_same : (t : Tables) (node : ℕ) (sent : List Assigned) → HasOrder t 
 step_same t node sent order e =
     differs_is t node sent order
     ∙ ap (λ b. b || list_any (is_new sent) (due_set t node))
-    (none_has (λ (a : Assigned). not (has_row assigned_task a.task (due_set t node))) sent
+    (none-any (λ (a : Assigned). not (has_row assigned_task a.task (due_set t node))) sent
     (λ a h. ap not (step_due (due_set t node) sent e a h)))
-    ∙ none_has (is_new sent) (due_set t node) (λ a h. ap not (step_sent (due_set t node) sent e a h))
+    ∙ none-any (is_new sent) (due_set t node) (λ a h. ap not (step_sent (due_set t node) sent e a h))
 
 -- Going through it.
 

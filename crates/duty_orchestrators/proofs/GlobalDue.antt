@@ -3,9 +3,11 @@ use Rattle.std.proofs.Common.{◌≡◌, ℕ, Bool, true, false, eqb, List, refl
 use Rattle.std.specs.Prelude.{◌||◌, ◌&&◌, flat_map, not}
 use Rattle.std.specs.List.{list_any}
 use Rattle.std.proofs.lemmas.Bool.Decides.{nat_tests}
-use Rattle.duty_rows.proofs.AnyOf.{and_false, and_true, any_append, any_each, any_more, any_none, any_same, any_where, one_number, or_false, turned}
+use Rattle.std.proofs.lemmas.List.Folds.{list_any-append}
+use Rattle.duty_rows.proofs.AnyOf.{and_false, and_true, any_more, any_none, any_where, one_number, turned}
 use Rattle.duty_rows.proofs.Numbers.{held_number}
 use Rattle.duty_rows.specs.Inside.OfPlace.{is_global, missing_on}
+use Rattle.swarm_objects.proofs.Tests.{any_each, any_same, first_so, or_false}
 use Rattle.swarm_objects.specs.Duties.{is_due}
 use Rattle.swarm_objects.specs.Kinds.{kind_place, same_duty}
 use Rattle.swarm_objects.specs.Loops.Global.{come_duties, global, is_missing, is_to_leave, leave_duties, may_stay}
@@ -56,7 +58,7 @@ no_comes t d other =
 
 parts : (t : Tables) (d : Duty) →
     list_any (same_duty d) (global t) ≡ (list_any (same_duty d) (leaves t) || list_any (same_duty d) (comes t))
-parts t d = any_append (same_duty d) (leaves t) (comes t)
+parts t d = list_any-append (same_duty d) (leaves t) (comes t)
 
 -- a service leaves this node
 pub leave_due : (w : World) (id node : ℕ) →
@@ -113,16 +115,12 @@ one_of p ks k there = go (p k) refl there
     go true e there = any_more (eqb k) (λ j. (eqb k j && true) && p j) ks (λ j. passes j e) (there refl)
     go false e there = any_none (λ j. (eqb k j && true) && p j) ks (λ j. equal_pair p k j e)
 
-both_left : (a b : Bool) → (a && b) ≡ true → a ≡ true
-both_left true b e = refl
-both_left false b e = e
-
 leave_here : (t : Tables) (s : Service) (node : ℕ) →
     list_any (λ k. (eqb node k && true) && is_to_leave t s k) (place_numbers t s) ≡ is_to_leave t s node
 leave_here t s node =
     one_of (is_to_leave t s) (place_numbers t s) node
     (λ e. held_number t s node
-    (both_left (is_held_place t s node) (not (is_row_and node_id (may_stay s) t.nodes node)) e))
+    (first_so (is_held_place t s node) (not (is_row_and node_id (may_stay s) t.nodes node)) e))
 
 asked : {X : Type 0} (a : Bool) (p q : X → Bool) (rows : List X) (c : Bool) → list_any (λ x. p x && q x) rows ≡ c →
     list_any (λ x. (a && p x) && q x) rows ≡ (a && c)

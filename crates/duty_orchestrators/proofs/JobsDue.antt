@@ -1,8 +1,10 @@
 -- A duty on a job is due exactly where a row has it.
 use Rattle.std.proofs.Common.{◌≡◌, ℕ, Bool, true, false, eqb, List, length, ltb, refl, sym, ap, ◌∙◌}
+use Rattle.std.proofs.lemmas.List.Folds.{list_any-append}
 use Rattle.std.specs.Prelude.{◌||◌, ◌&&◌, flat_map, not}
 use Rattle.std.specs.List.{list_any}
-use Rattle.duty_rows.proofs.AnyOf.{any_append, any_each, any_none, any_same, any_where, one_number, or_false, turned}
+use Rattle.duty_rows.proofs.AnyOf.{any_none, any_where, one_number, turned}
+use Rattle.swarm_objects.proofs.Tests.{any_each, any_same, or_false}
 use Rattle.swarm_objects.specs.Duties.{is_due}
 use Rattle.swarm_objects.specs.Kinds.{kind_place, same_duty}
 use Rattle.swarm_objects.specs.Loops.Jobs.{has_old, is_old, jobs, next_duty}
@@ -51,7 +53,7 @@ no_nexts t d other =
 
 parts : (t : Tables) (d : Duty) →
     list_any (same_duty d) (jobs t) ≡ (list_any (same_duty d) (olds t) || list_any (same_duty d) (nexts t))
-parts t d = any_append (same_duty d) (olds t) (nexts t)
+parts t d = list_any-append (same_duty d) (olds t) (nexts t)
 
 pub old_due : (w : World) (id : ℕ) →
     list_any (λ x. eqb x.id id && is_old w.tables x) w.tables.tasks ≡ is_due w (duty.Old id)

@@ -1,6 +1,6 @@
 pub mod GlobalDue
 pub mod JobsDue
+pub mod Leaving
 pub mod OneDue
-pub mod Pasts
 pub mod ReplicatedDue
 pub mod Restarting

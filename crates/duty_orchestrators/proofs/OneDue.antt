@@ -1,8 +1,10 @@
 -- A duty that names a row is due exactly where that row passes the test.
 use Rattle.std.proofs.Common.{◌≡◌, ℕ, Bool, true, false, eqb, List, ◌++◌, refl, sym, ap, ◌∙◌}
+use Rattle.std.proofs.lemmas.List.Folds.{list_any-append}
 use Rattle.std.specs.Prelude.{◌||◌, ◌&&◌}
 use Rattle.std.specs.List.{list_any}
-use Rattle.duty_rows.proofs.AnyOf.{any_append, any_none, any_same, any_where, one_number, or_false}
+use Rattle.duty_rows.proofs.AnyOf.{any_none, any_where, one_number}
+use Rattle.swarm_objects.proofs.Tests.{any_same, or_false}
 use Rattle.swarm_objects.specs.Duties.{is_due}
 use Rattle.swarm_objects.specs.Kinds.{same_duty}
 use Rattle.swarm_objects.specs.Loops.Dispatcher.{is_expired, is_orphaned}
@@ -40,11 +42,11 @@ unnamed {X} duty_of test rows d other =
 pub in_first : (p : Duty → Bool) (xs ys : List Duty) (found : Bool) → list_any p xs ≡ found → list_any p ys ≡ false →
     found ≡ list_any p (xs ++ ys)
 in_first p xs ys found first second =
-    sym (any_append p xs ys ∙ ap (λ b. list_any p xs || b) second ∙ or_false (list_any p xs) ∙ first)
+    sym (list_any-append p xs ys ∙ ap (λ b. list_any p xs || b) second ∙ or_false (list_any p xs) ∙ first)
 
 pub in_second : (p : Duty → Bool) (xs ys : List Duty) (found : Bool) → list_any p xs ≡ false → list_any p ys ≡ found →
     found ≡ list_any p (xs ++ ys)
-in_second p xs ys found first second = sym (any_append p xs ys ∙ ap (λ b. b || list_any p ys) first ∙ second)
+in_second p xs ys found first second = sym (list_any-append p xs ys ∙ ap (λ b. b || list_any p ys) first ∙ second)
 
 -- The dispatcher.
 

@@ -1,9 +1,11 @@
 -- A duty on a replicated service is due exactly where a row has it.
 use Rattle.std.proofs.Common.{◌≡◌, ℕ, Bool, true, false, cond, eqb, List, [], ◌++◌, length, ltb, Option, Some, None, refl, sym, ap, ◌∙◌}
+use Rattle.std.proofs.lemmas.List.Folds.{list_any-append}
 use Rattle.std.specs.Prelude.{◌||◌, ◌&&◌, flat_map, option_to_list}
 use Rattle.std.specs.List.{list_any}
 use Rattle.std.specs.Option.{option_map}
-use Rattle.duty_rows.proofs.AnyOf.{any_append, any_each, any_none, any_same, any_where, one_number, or_false, turned}
+use Rattle.duty_rows.proofs.AnyOf.{any_none, any_where, one_number, turned}
+use Rattle.swarm_objects.proofs.Tests.{any_each, any_same, or_false}
 use Rattle.swarm_objects.specs.Duties.{is_due}
 use Rattle.swarm_objects.specs.Kinds.{kind_place, same_duty}
 use Rattle.swarm_objects.specs.Loops.Replicated.{create_duty, down_duty, first_to_go, is_gone, replicated}
@@ -71,8 +73,8 @@ parts : (t : Tables) (d : Duty) →
     list_any (same_duty d) (replicated t)
     ≡ ((list_any (same_duty d) (gone t) || list_any (same_duty d) (downs t)) || list_any (same_duty d) (creates t))
 parts t d =
-    any_append (same_duty d) (gone t ++ downs t) (creates t)
-    ∙ ap (λ b. b || list_any (same_duty d) (creates t)) (any_append (same_duty d) (gone t) (downs t))
+    list_any-append (same_duty d) (gone t ++ downs t) (creates t)
+    ∙ ap (λ b. b || list_any (same_duty d) (creates t)) (list_any-append (same_duty d) (gone t) (downs t))
 
 pub gone_due : (w : World) (id : ℕ) →
     list_any (λ x. eqb x.id id && is_gone w.tables x) w.tables.tasks ≡ is_due w (duty.Gone id)

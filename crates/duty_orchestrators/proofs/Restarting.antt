@@ -1,14 +1,14 @@
 -- What a restart does, case by case.
-use Rattle.std.proofs.Common.{◌≡◌, ℕ, ◌+◌, ◌<◌, ◌^◌, Bool, true, false, cond, drop, take, length, suc, inl, inr, List, [], ◌∷◌, ◌++◌, Option, Some, None, Result, Ok, Err, refl, sym, ap, ◌∙◌, arith}
+use Rattle.std.proofs.Common.{◌≡◌, ℕ, ◌+◌, ◌<◌, ◌^◌, Bool, true, false, cond, drop, take, length, suc, List, [], ◌∷◌, ◌++◌, Option, Some, None, Result, Ok, Err, refl, sym, ap, ◌∙◌, arith}
 use Rattle.std.specs.Prelude.{◌&&◌}
-use Rattle.std.specs.List.{list_all}
 use Rattle.std.specs.Result.{OnOk}
 use Rattle.std.proofs.lemmas.Bool.Decides.{nat_tests}
 use Rattle.swarm_objects.proofs.RowLemmas.{Has-from_row_at, instead_is}
+use Rattle.swarm_objects.proofs.Tests.{first_so, of-all, second_so}
 use Rattle.swarm_objects.specs.Bounds.{IsSmall, is_near, is_near_run, is_near_service, is_near_spec, is_near_template, is_near_workload}
 use Rattle.swarm_objects.specs.Changes.{change_task, on_service, with_tables}
 use Rattle.swarm_objects.specs.Loops.Restart.{after_restart, by_policy, closed_by, new_attempt, next_task, restarted, shut, with_attempt}
-use Rattle.swarm_objects.specs.Rows.{Has, change_row, on_row, row_at, service_id, task_id}
+use Rattle.swarm_objects.specs.Rows.{change_row, on_row, row_at, service_id, task_id}
 use Rattle.swarm_objects.specs.Tasks.New.{with_task}
 use Rattle.swarm_objects.specs.Tasks.Places.{has_other, newest, tasks_of_place}
 use Rattle.swarm_objects.specs.Tasks.Policy.{no_restart}
@@ -131,29 +131,16 @@ changed_before id g old new given x count more same change =
 
 -- Times.
 
-right : (a b : Bool) → (a && b) ≡ true → b ≡ true
-right true b e = e
-right false b e = absurd cc
-
-left : (a b : Bool) → (a && b) ≡ true → a ≡ true
-left true b e = refl
-left false b e = absurd cc
-
-of-all : {X : Type 0} (test : X → Bool) (xs : List X) (x : X) → list_all test xs ≡ true → Has xs x → test x ≡ true
-of-all test [] x all h = absurd h
-of-all test (y ∷ ys) x all (inl same) = ap test (sym same) ∙ left (test y) (list_all test ys) all
-of-all test (y ∷ ys) x all (inr h) = of-all test ys x (right (test y) (list_all test ys) all) h
-
 near-delay : (s : Service) → is_near_service s ≡ true → is_near s.spec.template.restart.delay ≡ true
 near-delay s near =
     let template = s.spec.template in
-    right (is_near_workload template.workload) (is_near template.restart.delay)
-    (left (is_near_workload template.workload && is_near template.restart.delay) (is_near template.restart.window)
-    (left (is_near_template template) (is_near s.spec.update.delay)
-    (left (is_near_template template && is_near s.spec.update.delay) (is_near s.spec.update.monitor)
-    (left (is_near_spec s.spec) (on_row true is_near_spec s.previous)
-    (left (is_near_spec s.spec && on_row true is_near_spec s.previous) (on_row true is_near_run s.run)
-    (left (is_near_spec s.spec && on_row true is_near_spec s.previous && on_row true is_near_run s.run)
+    second_so (is_near_workload template.workload) (is_near template.restart.delay)
+    (first_so (is_near_workload template.workload && is_near template.restart.delay) (is_near template.restart.window)
+    (first_so (is_near_template template) (is_near s.spec.update.delay)
+    (first_so (is_near_template template && is_near s.spec.update.delay) (is_near s.spec.update.monitor)
+    (first_so (is_near_spec s.spec) (on_row true is_near_spec s.previous)
+    (first_so (is_near_spec s.spec && on_row true is_near_spec s.previous) (on_row true is_near_run s.run)
+    (first_so (is_near_spec s.spec && on_row true is_near_spec s.previous && on_row true is_near_run s.run)
     (is_near s.iteration) near))))))
 
 -- the time at which the next task starts fits

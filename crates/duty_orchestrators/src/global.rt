@@ -1,6 +1,7 @@
 // The duties on global services.
-ghost use Rattle.std.specs.Prelude.{◌≡◌, ◌==◌, ◌&&◌, ◌++◌, IfOk, OnErr, OnOk, flat_map};
+ghost use Rattle.std.specs.Prelude.{◌≡◌, ◌==◌, ◌&&◌, ◌++◌, IfOk, None, OnErr, OnOk, flat_map};
 ghost use Rattle.std.specs.List.{list_any};
+ghost use Rattle.duty_rows.specs.Inside.LeastNumber.{keep_number, least_number};
 ghost use Rattle.duty_rows.specs.Inside.OfPlace.{is_global, missing_on};
 ghost use Rattle.swarm_objects.specs.Bounds.{IsSmall};
 ghost use Rattle.swarm_objects.specs.Duties.{effect_by, is_due};
@@ -15,13 +16,15 @@ ghost use Rattle.swarm_objects.specs.Loops.Global.{
 };
 ghost use Rattle.swarm_objects.specs.Nodes.Words.{meets_all};
 ghost use Rattle.swarm_objects.specs.Rows.{is_row_and, node_id, first_of};
+ghost use Rattle.swarm_objects.specs.Tasks.Places.{counts_for};
 ghost use Rattle.swarm_plain.specs.Plain.{world_of};
 
+use duty_rows::least::comes_before;
 use duty_rows::places::{is_held_place, place_numbers};
 use duty_rows::tasks::{create_task, remove_place};
 use swarm_filters::matches;
 use swarm_objects::{
-    Constraint, Desired, Duty, Id, List, Mode, NoMemory, Node, Rows, Service, Version, add,
+    Constraint, Desired, Duty, Id, List, Mode, NoMemory, Node, Rows, Service, Task, Version, add,
 };
 use swarm_plain::Plain;
 
@@ -64,7 +67,11 @@ fn may_stay_on<R: Rows>(rows: &R, service: &Service, node: Id) -> bool
 fn is_to_leave(plain: &Plain, service: &Service, node: Id) -> bool
     ensures { result ≡ is_to_leave (world_of plain.now).tables service.now node }
 {
-    is_held_place(plain, service, node) && !may_stay_on(plain, service, node)
+    if may_stay_on(plain, service, node) {
+        false
+    } else {
+        is_held_place(plain, service, node)
+    }
 }
 
 // The node is to have a task of the service, and its place isn't held.
@@ -139,21 +146,43 @@ pub fn global_duties(plain: &Plain) -> Result<List<Duty>, NoMemory>
     Ok(duties)
 }
 
+// The task's node, where the service leaves it and it comes before the best one so far.
+fn keep_leave(plain: &Plain, service: &Service, best: Option<Id>, task: &Task) -> Option<Id>
+    ensures { let t = (world_of plain.now).tables in let s = service.now in
+        result ≡ keep_number (counts_for s) (is_to_leave t s) best task.now }
+{
+    let node = task.place.place_number();
+    if task.counts_for(service) && comes_before(node, best) && is_to_leave(plain, service, node) {
+        Some(node)
+    } else {
+        best
+    }
+}
+
+// The least node that the service leaves.
+fn least_leave(plain: &Plain, service: &Service) -> Option<Id>
+    ensures { let t = (world_of plain.now).tables in let s = service.now in
+        result ≡ least_number (counts_for s) (is_to_leave t s) None t.tasks }
+{
+    let mut least = None;
+    for task in plain.tasks.as_slice() {
+        least = keep_leave(plain, service, least, task);
+    }
+    least
+}
+
 // The first node that the service leaves.
-fn first_leave_of(plain: &Plain, service: &Service) -> Result<Option<Duty>, NoMemory>
+fn first_leave_of(plain: &Plain, service: &Service) -> Option<Duty>
     ensures { let t = (world_of plain.now).tables in
-        IfOk result (λ first. first ≡ first_of (leave_duties t service.now service.now.spec.mode)) }
+        result ≡ first_of (leave_duties t service.now service.now.spec.mode) }
 {
     let Mode::Global = service.spec.mode else {
-        return Ok(None);
+        return None;
     };
-    let numbers = place_numbers(plain, service)?;
-    for node in numbers.as_slice() {
-        if is_to_leave(plain, service, *node) {
-            return Ok(Some(Duty::Leave(service.id, *node)));
-        }
+    match least_leave(plain, service) {
+        Some(node) => Some(Duty::Leave(service.id, node)),
+        None => None,
     }
-    Ok(None)
 }
 
 // The first node that the service comes to.
@@ -173,17 +202,17 @@ fn first_come_of(plain: &Plain, service: &Service) -> Option<Duty>
 }
 
 // The first node that a service leaves.
-fn first_leave(plain: &Plain) -> Result<Option<Duty>, NoMemory>
+fn first_leave(plain: &Plain) -> Option<Duty>
     ensures { let t = (world_of plain.now).tables in
-        IfOk result (λ first. first ≡ first_of (flat_map (λ s. leave_duties t s s.spec.mode) t.services)) }
+        result ≡ first_of (flat_map (λ s. leave_duties t s s.spec.mode) t.services) }
 {
     for service in plain.services.as_slice() {
-        let duty = first_leave_of(plain, service)?;
+        let duty = first_leave_of(plain, service);
         if duty.is_some() {
-            return Ok(duty);
+            return duty;
         }
     }
-    Ok(None)
+    None
 }
 
 // The first node that a service comes to.
@@ -202,12 +231,12 @@ fn first_come(plain: &Plain) -> Option<Duty>
 
 /// The first of these duties.
 #[tactic(auto, using(duty_rows::proofs::First::append_first))]
-pub fn global_first(plain: &Plain) -> Result<Option<Duty>, NoMemory>
-    ensures { IfOk result (λ first. first ≡ first_of (global (world_of plain.now).tables)) }
+pub fn global_first(plain: &Plain) -> Option<Duty>
+    ensures { result ≡ first_of (global (world_of plain.now).tables) }
 {
-    match first_leave(plain)? {
-        Some(duty) => Ok(Some(duty)),
-        None => Ok(first_come(plain)),
+    match first_leave(plain) {
+        Some(duty) => Some(duty),
+        None => first_come(plain),
     }
 }
 

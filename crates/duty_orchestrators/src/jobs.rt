@@ -1,6 +1,6 @@
 // The duties on jobs.
-ghost use Rattle.std.specs.Prelude.{◌≡◌, ◌==◌, ◌&&◌, ◌++◌, length, nat_lt, not, flat_map};
-ghost use Rattle.std.specs.Prelude.{IfOk, OnErr, OnOk, flat_map, option_to_list};
+ghost use Rattle.std.specs.Prelude.{◌≡◌, ◌==◌, ◌&&◌, ◌++◌, flat_map, option_to_list};
+ghost use Rattle.std.specs.Prelude.{IfOk, OnErr, OnOk};
 ghost use Rattle.std.specs.List.{list_any};
 ghost use Rattle.swarm_objects.specs.Bounds.{IsSmall};
 ghost use Rattle.swarm_objects.specs.Duties.{effect_by, is_due};
@@ -8,10 +8,9 @@ ghost use Rattle.swarm_objects.specs.Kinds.{same_duty};
 ghost use Rattle.swarm_objects.specs.Loops.Jobs.{has_old, is_old, is_old_of, jobs, next_duty};
 ghost use Rattle.swarm_objects.specs.Loops.Words.{duty_where};
 ghost use Rattle.swarm_objects.specs.Rows.{first_of};
-ghost use Rattle.swarm_objects.specs.Tasks.Places.{live_places};
 ghost use Rattle.swarm_plain.specs.Plain.{world_of};
 
-use duty_rows::places::{first_gap, held_places, live_places};
+use duty_rows::places::tally;
 use duty_rows::tasks::{create_task, want};
 use swarm_objects::{Desired, Duty, Id, List, Mode, NoMemory, Rows, Service, Task, Version, add};
 use swarm_plain::Plain;
@@ -44,34 +43,19 @@ fn has_old(plain: &Plain, service: &Service) -> bool
         .any(|task| task.is_of(service.id) && is_old_of(task, service))
 }
 
-// Fewer run than may, and fewer slots are held than there are tasks.
-fn has_next(
-    plain: &Plain,
-    service: &Service,
-    held: u64,
-    concurrent: u64,
-    total: u64,
-) -> Result<bool, NoMemory>
-    ensures { let t = (world_of plain.now).tables in let s = service.now in IfOk result (λ next. next
-        ≡ (nat_lt (length (live_places t s)) concurrent && nat_lt held total && not (has_old t s))) }
-{
-    let live = live_places(plain, service)?;
-    Ok((live.len() as u64) < concurrent && held < total && !has_old(plain, service))
-}
-
-// The slot in which the job gets a new task.
-fn next_duty(plain: &Plain, service: &Service) -> Result<Option<Duty>, NoMemory>
+// The slot in which the job gets a new task, while fewer run than may and fewer slots are held than there are tasks.
+fn next_duty(plain: &Plain, service: &Service) -> Option<Duty>
     ensures { let t = (world_of plain.now).tables in
-        IfOk result (λ duty. option_to_list duty ≡ next_duty t service.now service.now.spec.mode) }
+        option_to_list result ≡ next_duty t service.now service.now.spec.mode }
 {
     let Mode::Job { concurrent, total } = service.spec.mode else {
-        return Ok(None);
+        return None;
     };
-    let held = held_places(plain, service)?;
-    if has_next(plain, service, held.len() as u64, concurrent, total)? {
-        Ok(Some(Duty::JobCreate(service.id, first_gap(0, held.as_slice()))))
+    let tally = tally(plain, service, 0);
+    if tally.live < concurrent && tally.held < total && !has_old(plain, service) {
+        Some(Duty::JobCreate(service.id, tally.gap))
     } else {
-        Ok(None)
+        None
     }
 }
 
@@ -94,7 +78,7 @@ fn put_next(plain: &Plain, duties: &mut List<Duty>) -> Result<(), NoMemory>
         OnOk result (duties.new ≡ duties.old ++ flat_map (λ s. next_duty t s s.spec.mode) t.services) }
 {
     for service in plain.services.as_slice() {
-        if let Some(duty) = next_duty(plain, service)? {
+        if let Some(duty) = next_duty(plain, service) {
             add(duties, duty)?;
         }
     }
@@ -125,26 +109,26 @@ fn first_old(plain: &Plain) -> Option<Duty>
 }
 
 // The first new task.
-fn first_next(plain: &Plain) -> Result<Option<Duty>, NoMemory>
+fn first_next(plain: &Plain) -> Option<Duty>
     ensures { let t = (world_of plain.now).tables in
-        IfOk result (λ first. first ≡ first_of (flat_map (λ s. next_duty t s s.spec.mode) t.services)) }
+        result ≡ first_of (flat_map (λ s. next_duty t s s.spec.mode) t.services) }
 {
     for service in plain.services.as_slice() {
-        let duty = next_duty(plain, service)?;
+        let duty = next_duty(plain, service);
         if duty.is_some() {
-            return Ok(duty);
+            return duty;
         }
     }
-    Ok(None)
+    None
 }
 
 /// The first of these duties.
 #[tactic(auto, using(duty_rows::proofs::First::append_first))]
-pub fn job_first(plain: &Plain) -> Result<Option<Duty>, NoMemory>
-    ensures { IfOk result (λ first. first ≡ first_of (jobs (world_of plain.now).tables)) }
+pub fn job_first(plain: &Plain) -> Option<Duty>
+    ensures { result ≡ first_of (jobs (world_of plain.now).tables) }
 {
     match first_old(plain) {
-        Some(duty) => Ok(Some(duty)),
+        Some(duty) => Some(duty),
         None => first_next(plain),
     }
 }
@@ -178,27 +162,26 @@ fn is_create(due: Option<Duty>, service: Id, slot: u64) -> bool
 }
 
 // The job is this one, and gets a new task in this slot.
-fn gets_slot(plain: &Plain, service: &Service, id: Id, slot: u64) -> Result<bool, NoMemory>
+fn gets_slot(plain: &Plain, service: &Service, id: Id, slot: u64) -> bool
     ensures { let t = (world_of plain.now).tables in let duties = next_duty t service.now service.now.spec.mode in
-        IfOk result (λ due. due ≡ list_any (same_duty (Duty.JobCreate id slot)) duties) }
+        result ≡ list_any (same_duty (Duty.JobCreate id slot)) duties }
 {
     if service.id != id {
-        return Ok(false);
+        return false;
     }
-    let due = next_duty(plain, service)?;
-    Ok(is_create(due, id, slot))
+    is_create(next_duty(plain, service), id, slot)
 }
 
 /// The job with this id is to get a new task in this slot.
-pub fn is_job_create_due(plain: &Plain, id: Id, slot: u64) -> Result<bool, NoMemory>
-    ensures { IfOk result (λ due. due ≡ is_due (world_of plain.now) (Duty.JobCreate id slot)) }
+pub fn is_job_create_due(plain: &Plain, id: Id, slot: u64) -> bool
+    ensures { result ≡ is_due (world_of plain.now) (Duty.JobCreate id slot) }
 {
     for service in plain.services.as_slice() {
-        if gets_slot(plain, service, id, slot)? {
-            return Ok(true);
+        if gets_slot(plain, service, id, slot) {
+            return true;
         }
     }
-    Ok(false)
+    false
 }
 
 /// The task of an earlier iteration goes.

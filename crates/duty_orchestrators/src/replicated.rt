@@ -16,12 +16,12 @@ ghost use Rattle.swarm_objects.specs.Loops.Replicated.{
   replicated,
 };
 ghost use Rattle.swarm_objects.specs.Loops.Words.{duty_where};
-ghost use Rattle.swarm_objects.specs.Rows.{keep_least, least_by, first_of};
+ghost use Rattle.swarm_objects.specs.Rows.{keep_least, first_of};
 ghost use Rattle.swarm_objects.specs.Tasks.Places.{is_in_place};
 ghost use Rattle.swarm_objects.specs.Tasks.Words.{is_live, is_of, is_on, is_running};
 ghost use Rattle.swarm_plain.specs.Plain.{world_of};
 
-use duty_rows::places::{first_gap, held_places, is_at};
+use duty_rows::places::{is_at, slots, tally};
 use duty_rows::tasks::{create_task, remove_place, want};
 use std::cmp::Ordering;
 use swarm_objects::{
@@ -122,44 +122,45 @@ fn sooner(plain: &Plain, service: &Service, first: Option<u64>, number: u64) -> 
 }
 
 // The first of the held places to go.
-fn first_to_go(plain: &Plain, service: &Service, held: &[u64]) -> Option<u64>
-    ensures { result ≡ least_by (down_cmp (world_of plain.now).tables service.now) None held.now }
+fn first_to_go(plain: &Plain, service: &Service) -> Option<u64>
+    ensures { result ≡ first_to_go (world_of plain.now).tables service.now }
 {
     let mut first = None;
-    for number in held {
-        first = sooner(plain, service, first, *number);
+    for slot in slots(plain, service) {
+        if slot.is_held {
+            first = sooner(plain, service, first, slot.number);
+        }
     }
     first
 }
 
 // The place that the service gives up, where more are held than there are to be replicas.
-fn down_duty(plain: &Plain, service: &Service) -> Result<Option<Duty>, NoMemory>
+fn down_duty(plain: &Plain, service: &Service) -> Option<Duty>
     ensures { let t = (world_of plain.now).tables in
-        IfOk result (λ duty. option_to_list duty ≡ down_duty t service.now service.now.spec.mode) }
+        option_to_list result ≡ down_duty t service.now service.now.spec.mode }
 {
     let Mode::Replicated(replicas) = service.spec.mode else {
-        return Ok(None);
+        return None;
     };
-    let held = held_places(plain, service)?;
-    if (held.len() as u64) <= replicas {
-        return Ok(None);
+    if tally(plain, service, 1).held <= replicas {
+        return None;
     }
-    Ok(first_to_go(plain, service, held.as_slice()).map(|slot| Duty::Down(service.id, slot)))
+    first_to_go(plain, service).map(|slot| Duty::Down(service.id, slot))
 }
 
 // The slot in which the service gets a new task, where fewer are held than there are to be replicas.
-fn create_duty(plain: &Plain, service: &Service) -> Result<Option<Duty>, NoMemory>
+fn create_duty(plain: &Plain, service: &Service) -> Option<Duty>
     ensures { let t = (world_of plain.now).tables in
-        IfOk result (λ duty. option_to_list duty ≡ create_duty t service.now service.now.spec.mode) }
+        option_to_list result ≡ create_duty t service.now service.now.spec.mode }
 {
     let Mode::Replicated(replicas) = service.spec.mode else {
-        return Ok(None);
+        return None;
     };
-    let held = held_places(plain, service)?;
-    if replicas <= held.len() as u64 {
-        return Ok(None);
+    let tally = tally(plain, service, 1);
+    if replicas <= tally.held {
+        return None;
     }
-    Ok(Some(Duty::ReplicatedCreate(service.id, first_gap(1, held.as_slice()))))
+    Some(Duty::ReplicatedCreate(service.id, tally.gap))
 }
 
 // The tasks that go with their services.
@@ -181,7 +182,7 @@ fn put_downs(plain: &Plain, duties: &mut List<Duty>) -> Result<(), NoMemory>
         OnOk result (duties.new ≡ duties.old ++ flat_map (λ s. down_duty t s s.spec.mode) t.services) }
 {
     for service in plain.services.as_slice() {
-        if let Some(duty) = down_duty(plain, service)? {
+        if let Some(duty) = down_duty(plain, service) {
             add(duties, duty)?;
         }
     }
@@ -194,7 +195,7 @@ fn put_creates(plain: &Plain, duties: &mut List<Duty>) -> Result<(), NoMemory>
         OnOk result (duties.new ≡ duties.old ++ flat_map (λ s. create_duty t s s.spec.mode) t.services) }
 {
     for service in plain.services.as_slice() {
-        if let Some(duty) = create_duty(plain, service)? {
+        if let Some(duty) = create_duty(plain, service) {
             add(duties, duty)?;
         }
     }
@@ -226,53 +227,53 @@ fn first_gone(plain: &Plain) -> Option<Duty>
 }
 
 // The first place that is given up.
-fn first_down(plain: &Plain) -> Result<Option<Duty>, NoMemory>
+fn first_down(plain: &Plain) -> Option<Duty>
     ensures { let t = (world_of plain.now).tables in
-        IfOk result (λ first. first ≡ first_of (flat_map (λ s. down_duty t s s.spec.mode) t.services)) }
+        result ≡ first_of (flat_map (λ s. down_duty t s s.spec.mode) t.services) }
 {
     for service in plain.services.as_slice() {
-        let duty = down_duty(plain, service)?;
+        let duty = down_duty(plain, service);
         if duty.is_some() {
-            return Ok(duty);
+            return duty;
         }
     }
-    Ok(None)
+    None
 }
 
 // The first new task.
-fn first_create(plain: &Plain) -> Result<Option<Duty>, NoMemory>
+fn first_create(plain: &Plain) -> Option<Duty>
     ensures { let t = (world_of plain.now).tables in
-        IfOk result (λ first. first ≡ first_of (flat_map (λ s. create_duty t s s.spec.mode) t.services)) }
+        result ≡ first_of (flat_map (λ s. create_duty t s s.spec.mode) t.services) }
 {
     for service in plain.services.as_slice() {
-        let duty = create_duty(plain, service)?;
+        let duty = create_duty(plain, service);
         if duty.is_some() {
-            return Ok(duty);
+            return duty;
         }
     }
-    Ok(None)
+    None
 }
 
 // The first about the places of replicated services.
 #[tactic(auto, using(duty_rows::proofs::First::append_first))]
-fn first_place(plain: &Plain) -> Result<Option<Duty>, NoMemory>
+fn first_place(plain: &Plain) -> Option<Duty>
     ensures { let t = (world_of plain.now).tables in
-        IfOk result (λ first. first ≡ first_of (flat_map (λ s. down_duty t s s.spec.mode) t.services
-        ++ flat_map (λ s. create_duty t s s.spec.mode) t.services)) }
+        result ≡ first_of (flat_map (λ s. down_duty t s s.spec.mode) t.services
+        ++ flat_map (λ s. create_duty t s s.spec.mode) t.services) }
 {
-    match first_down(plain)? {
-        Some(duty) => Ok(Some(duty)),
+    match first_down(plain) {
+        Some(duty) => Some(duty),
         None => first_create(plain),
     }
 }
 
 /// The first of these duties.
 #[tactic(auto, using(duty_rows::proofs::First::append_first))]
-pub fn replicated_first(plain: &Plain) -> Result<Option<Duty>, NoMemory>
-    ensures { IfOk result (λ first. first ≡ first_of (replicated (world_of plain.now).tables)) }
+pub fn replicated_first(plain: &Plain) -> Option<Duty>
+    ensures { result ≡ first_of (replicated (world_of plain.now).tables) }
 {
     match first_gone(plain) {
-        Some(duty) => Ok(Some(duty)),
+        Some(duty) => Some(duty),
         None => first_place(plain),
     }
 }
@@ -306,27 +307,26 @@ fn is_down(due: Option<Duty>, service: Id, slot: u64) -> bool
 }
 
 // The service is this one, and gives up this slot.
-fn gives_up(plain: &Plain, service: &Service, id: Id, slot: u64) -> Result<bool, NoMemory>
+fn gives_up(plain: &Plain, service: &Service, id: Id, slot: u64) -> bool
     ensures { let t = (world_of plain.now).tables in let duties = down_duty t service.now service.now.spec.mode in
-        IfOk result (λ due. due ≡ list_any (same_duty (Duty.Down id slot)) duties) }
+        result ≡ list_any (same_duty (Duty.Down id slot)) duties }
 {
     if service.id != id {
-        return Ok(false);
+        return false;
     }
-    let due = down_duty(plain, service)?;
-    Ok(is_down(due, id, slot))
+    is_down(down_duty(plain, service), id, slot)
 }
 
 /// The service with this id is to give up this slot.
-pub fn is_down_due(plain: &Plain, id: Id, slot: u64) -> Result<bool, NoMemory>
-    ensures { IfOk result (λ due. due ≡ is_due (world_of plain.now) (Duty.Down id slot)) }
+pub fn is_down_due(plain: &Plain, id: Id, slot: u64) -> bool
+    ensures { result ≡ is_due (world_of plain.now) (Duty.Down id slot) }
 {
     for service in plain.services.as_slice() {
-        if gives_up(plain, service, id, slot)? {
-            return Ok(true);
+        if gives_up(plain, service, id, slot) {
+            return true;
         }
     }
-    Ok(false)
+    false
 }
 
 // The duty is a new task in this slot of the service.
@@ -340,27 +340,26 @@ fn is_create(due: Option<Duty>, service: Id, slot: u64) -> bool
 }
 
 // The service is this one, and gets a new task in this slot.
-fn gets_slot(plain: &Plain, service: &Service, id: Id, slot: u64) -> Result<bool, NoMemory>
+fn gets_slot(plain: &Plain, service: &Service, id: Id, slot: u64) -> bool
     ensures { let t = (world_of plain.now).tables in let duties = create_duty t service.now service.now.spec.mode in
-        IfOk result (λ due. due ≡ list_any (same_duty (Duty.ReplicatedCreate id slot)) duties) }
+        result ≡ list_any (same_duty (Duty.ReplicatedCreate id slot)) duties }
 {
     if service.id != id {
-        return Ok(false);
+        return false;
     }
-    let due = create_duty(plain, service)?;
-    Ok(is_create(due, id, slot))
+    is_create(create_duty(plain, service), id, slot)
 }
 
 /// The service with this id is to get a new task in this slot.
-pub fn is_replicated_create_due(plain: &Plain, id: Id, slot: u64) -> Result<bool, NoMemory>
-    ensures { IfOk result (λ due. due ≡ is_due (world_of plain.now) (Duty.ReplicatedCreate id slot)) }
+pub fn is_replicated_create_due(plain: &Plain, id: Id, slot: u64) -> bool
+    ensures { result ≡ is_due (world_of plain.now) (Duty.ReplicatedCreate id slot) }
 {
     for service in plain.services.as_slice() {
-        if gets_slot(plain, service, id, slot)? {
-            return Ok(true);
+        if gets_slot(plain, service, id, slot) {
+            return true;
         }
     }
-    Ok(false)
+    false
 }
 
 /// The task goes with its service.

@@ -1,8 +1,9 @@
 -- There is the same to do about two tasks that wait for the same.
 use Rattle.std.proofs.Common.{◌≡◌, ℕ, Bool, true, false, cond, List, [], ◌∷◌, ◌++◌, Option, Some, None, refl, sym, ap, subst, ◌∙◌, arith}
-use Rattle.std.specs.Prelude.{◌&&◌, nat_le, nat_lt, option_to_list}
+use Rattle.std.specs.Prelude.{nat_le, nat_lt, option_to_list}
 use Rattle.std.proofs.lemmas.Bool.Decides.{nat_tests}
 use Rattle.duty_placement.specs.Inside.Alike.{IsIdle, IsLike, WaitsLike, is_slot, later_idle}
+use Rattle.swarm_objects.proofs.Tests.{and_fails, second_so}
 use Rattle.swarm_objects.specs.Loops.Allocator.{same_note}
 use Rattle.swarm_objects.specs.Loops.Scheduler.{is_to_drop, is_to_place, place_duty, placing, schedule}
 use Rattle.swarm_objects.specs.Loops.Words.{when}
@@ -77,21 +78,13 @@ counts_like t x y like =
     ∙ ap (λ m. refusal_counts t (core y.service m (place.Slot 0))) like.2
     ∙ sym (counts_slot t y like.4)
 
-both : (a b : Bool) → (a && b) ≡ true → b ≡ true
-both true b e = e
-both false b e = absurd (let f : false ≡ true = e in cc)
-
 not_over : (a b : ℕ) → nat_lt a b ≡ true → nat_le b a ≡ false
 not_over a b e = grind (arith, nat_tests)
 
-never : (a b : Bool) → b ≡ false → (a && b) ≡ false
-never true b e = e
-never false b e = refl
-
 not_dropped : (x : Task) → is_to_place x ≡ true → is_to_drop x ≡ false
 not_dropped x e =
-    never (is_below_assigned x) (is_unwanted x)
-    (not_over (desired_rank x.desired) (desired_rank desired.Shutdown) (both (is_pending x.state) (is_wanted x) e))
+    and_fails (is_below_assigned x) (is_unwanted x)
+    (not_over (desired_rank x.desired) (desired_rank desired.Shutdown) (second_so (is_pending x.state) (is_wanted x) e))
 
 -- a task that waits is placed, or it is said why not
 waits : (t : Tables) (x : Task) → is_to_place x ≡ true → schedule t x ≡ placing t x (best_node t x)

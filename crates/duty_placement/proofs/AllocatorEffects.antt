@@ -2,15 +2,16 @@
 use Rattle.std.proofs.Common.{◌≡◌, ◌∙◌, ◌+◌, ◌<◌, ◌≤◌, Bool, List, None, Option, Some, Result, Ok, Err, [], ap, arith, cond, eqb, false, get_or, length, refl, set, subst, suc, sym, true, zero, ℕ, ◌∷◌}
 use Rattle.std.proofs.lemmas.Bool.Decides.{nat_tests}
 use Rattle.std.proofs.lemmas.Grind.{common_steps}
-use Rattle.std.specs.List.{list_all, position, position_or_len}
+use Rattle.std.specs.List.{list_all, position}
 use Rattle.std.specs.Prelude.{◌==◌, not, ◌&&◌, OnErr, OnOk}
 use Rattle.swarm_objects.proofs.RowLemmas.{change_row_above, instead_is}
+use Rattle.swarm_objects.proofs.RowChanges.{before, none_or_all, rising_from, same_change}
 use Rattle.duty_placement.specs.Allocating.{given_addresses}
 use Rattle.swarm_objects.specs.Changes.{change_task, noted, with_tables}
 use Rattle.swarm_objects.specs.Duties.{effect_by}
 use Rattle.swarm_objects.specs.Lends.{instead}
 use Rattle.swarm_objects.specs.Loops.Allocator.{exhausted_for, give_port, new_addresses, port_number, with_addresses, with_exhausted, with_port}
-use Rattle.swarm_objects.specs.Rows.{IsRising, RisesFrom, change_row, network_id, on_row, row_at, service_id, task_id}
+use Rattle.swarm_objects.specs.Rows.{IsRising, change_row, network_id, on_row, row_at, service_id, task_id}
 use Rattle.swarm_objects.specs.Services.Ports.{free_port}
 use Rattle.swarm_objects.specs.Sound.{is_subnet}
 use Rattle.swarm_objects.specs.World.{World}
@@ -24,20 +25,13 @@ use Rattle.swarm_objects.specs.declared.tasks.Task.{Task}
 
 -- One row of rising ones.
 
-abbrev before : {X : Type 0} → (X → ℕ) → ℕ → List X → ℕ
-before key id rows = position_or_len (λ row. key row == id) rows
-
-rising_rest : {X : Type 0} (key : X → ℕ) (n : ℕ) (rows : List X) → RisesFrom key n rows → IsRising key rows
-rising_rest key n [] r = tt
-rising_rest key n (x ∷ rows) r = r.1
-
 -- a write in the place of the first row with the key changes each row with the key: there is no other
 written : {X : Type 0} (key : X → ℕ) (id : ℕ) (f : X → X) (rows : List X) (x : X) → IsRising key rows →
     before key id rows < length rows → x ≡ get_or rows (before key id rows) x →
     set rows (before key id rows) (f x) ≡ change_row key id f rows
 written key id f [] x r lt is = absurd (omega arith)
 written key id f (y ∷ ys) x r lt is =
-    go (eqb (key y) id) refl (written key id f ys x (rising_rest key (key y) ys r)) lt is
+    go (eqb (key y) id) refl (written key id f ys x (rising_from key (key y) ys r)) lt is
   where
     go : (b : Bool) → eqb (key y) id ≡ b →
         (before key id ys < length ys → x ≡ get_or ys (before key id ys) x →
@@ -62,16 +56,6 @@ changed_one {X} key id f rows at x r e is =
     subst (λ (n : ℕ). x ≡ get_or rows n x → set rows n (f x) ≡ change_row key id f rows) here
     (written key id f rows x r lt) is
 
-none_or_all : {X : Type 0} (key : X → ℕ) (id : ℕ) (f : X → X) (rows : List X) →
-    length rows ≤ before key id rows → rows ≡ change_row key id f rows
-none_or_all key id f [] le = refl
-none_or_all key id f (y ∷ ys) le = go (eqb (key y) id) (none_or_all key id f ys) le
-  where
-    go : (b : Bool) → (length ys ≤ before key id ys → ys ≡ change_row key id f ys) →
-        length (y ∷ ys) ≤ cond (not b) (1 + before key id ys) 0 → y ∷ ys ≡ cond b (f y) y ∷ change_row key id f ys
-    go true below l = absurd (omega arith)
-    go false below l = ap (λ zs. y ∷ zs) (below (omega arith))
-
 pub changed_none : {X : Type 0} (key : X → ℕ) (id : ℕ) (f : X → X) (rows : List X) →
     position (λ row. key row == id) rows ≡ None → rows ≡ change_row key id f rows
 changed_none key id f rows e = none_or_all key id f rows (grind (arith, common_steps))
@@ -86,26 +70,6 @@ changed_nowhere key id f (y ∷ ys) e = go (eqb (key y) id) (changed_nowhere key
         cond b (Some y) (row_at key id ys) ≡ None → y ∷ ys ≡ cond b (f y) y ∷ change_row key id f ys
     go true below k = cc
     go false below k = ap (λ zs. y ∷ zs) (below k)
-
--- two changes that agree on the one row with the key
-pub changed_alike : {X : Type 0} (key : X → ℕ) (id : ℕ) (f g : X → X) (rows : List X) (x : X) → IsRising key rows →
-    row_at key id rows ≡ Some x → f x ≡ g x → change_row key id f rows ≡ change_row key id g rows
-changed_alike key id f g [] x r e same = refl
-changed_alike key id f g (y ∷ ys) x r e same =
-    go (eqb (key y) id) refl (λ k. changed_alike key id f g ys x (rising_rest key (key y) ys r) k same) e
-  where
-    go : (b : Bool) → eqb (key y) id ≡ b →
-        (row_at key id ys ≡ Some x → change_row key id f ys ≡ change_row key id g ys) →
-        cond b (Some y) (row_at key id ys) ≡ Some x →
-        cond b (f y) y ∷ change_row key id f ys ≡ cond b (g y) y ∷ change_row key id g ys
-    go true q below k =
-        let le : id ≤ key y = grind (arith, nat_tests) in
-        let is : y ≡ x = cc in
-        let one : f y ≡ g y = ap f is ∙ same ∙ ap g (sym is) in
-        ap (λ z. z ∷ change_row key id f ys) one
-        ∙ ap (λ zs. g y ∷ zs)
-        (change_row_above key (key y) id f ys r le ∙ sym (change_row_above key (key y) id g ys r le))
-    go false q below k = ap (λ zs. y ∷ zs) (below k)
 
 set_same : {X : Type 0} (rows : List X) (at : ℕ) (x : X) → x ≡ get_or rows at x → set rows at x ≡ rows
 set_same [] at x e = refl
@@ -197,7 +161,7 @@ task_addressed : (version : ℕ) (w : World) (id : ℕ) (x : Task) (addresses : 
     with_tables w (record w.tables { tasks = tasks }) ≡ effect_by version w (duty.Address id)
 task_addressed version w id x addresses tasks r e new is =
     ap (λ (rows : List Task). with_tables w (record w.tables { tasks = rows }))
-    (is ∙ changed_alike task_id id (given_addresses version w.tables.clock addresses) (with_addresses version w.tables)
+    (is ∙ same_change task_id id (given_addresses version w.tables.clock addresses) (with_addresses version w.tables)
     w.tables.tasks x r (sym e)
     (ap (λ (l : List Address). given_addresses version w.tables.clock l x) new))
 

@@ -1,31 +1,14 @@
 -- Nodes that pass two tests, one after the other.
-use Rattle.std.proofs.Common.{◌≡◌, ℕ, Bool, true, false, cond, List, [], ◌∷◌, length, None, refl, sym, ap, ◌∙◌}
-use Rattle.std.specs.Prelude.{◌&&◌, count_by, filter}
-use Rattle.std.proofs.lemmas.List.Sums.{length-filter}
+use Rattle.std.proofs.Common.{◌≡◌, ℕ, List, [], ◌∷◌, None, refl, ap, ◌∙◌}
+use Rattle.std.specs.Prelude.{count_by, filter}
 use Rattle.duty_placement.specs.Inside.Filtering.{is_counted, is_open}
+use Rattle.swarm_objects.proofs.Filters.{count_both, filter_both}
 use Rattle.swarm_objects.specs.Nodes.BestNode.{best_node, node_cmp}
 use Rattle.swarm_objects.specs.Nodes.Filters.{admits, is_refused_by, is_tested_on, refusal_counts, tested_nodes}
 use Rattle.swarm_objects.specs.Rows.{least_by}
 use Rattle.swarm_objects.specs.World.{Tables}
 use Rattle.swarm_objects.specs.declared.nodes.Node.{Node}
 use Rattle.swarm_objects.specs.declared.tasks.Task.{Task}
-
-filter_both : {X : Type 0} (p q : X → Bool) (xs : List X) → filter (λ x. p x && q x) xs ≡ filter q (filter p xs)
-filter_both p q [] = refl
-filter_both p q (x ∷ xs) = go (p x) (q x) refl (filter_both p q xs)
-  where
-    go : (a b : Bool) → q x ≡ b → filter (λ y. p y && q y) xs ≡ filter q (filter p xs) →
-        cond (a && b) (x ∷ filter (λ y. p y && q y) xs) (filter (λ y. p y && q y) xs)
-        ≡ filter q (cond a (x ∷ filter p xs) (filter p xs))
-    go true true is below =
-        ap (λ ys. x ∷ ys) below ∙ sym (ap (λ b. cond b (x ∷ filter q (filter p xs)) (filter q (filter p xs))) is)
-    go true false is below = below ∙ sym (ap (λ b. cond b (x ∷ filter q (filter p xs)) (filter q (filter p xs))) is)
-    go false true is below = below
-    go false false is below = below
-
-count_both : {X : Type 0} (p q : X → Bool) (xs : List X) → count_by (λ x. p x && q x) xs ≡ count_by q (filter p xs)
-count_both p q xs =
-    sym (length-filter (λ x. p x && q x) xs) ∙ ap length (filter_both p q xs) ∙ length-filter q (filter p xs)
 
 counted : (t : Tables) (x : Task) (k : ℕ) →
     count_by (is_counted t x k) t.nodes ≡ count_by (is_refused_by t x k) (tested_nodes t x)

@@ -2,10 +2,7 @@ pub mod Alike
 pub mod AllocatorDue
 pub mod AllocatorEffects
 pub mod Filtering
-pub mod FreeNumbers
-pub mod LabelValues
 pub mod Loading
 pub mod Scans
 pub mod Scheduling
 pub mod Sums
-pub mod Supported

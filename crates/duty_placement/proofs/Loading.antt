@@ -7,6 +7,7 @@ use Rattle.duty_placement.specs.Inside.Filtering.{is_open}
 use Rattle.duty_placement.specs.Inside.Loads.{IsLoad, has_room_by, suits}
 use Rattle.duty_placement.specs.declared.loads.NodeLoad.{NodeLoad}
 use Rattle.swarm_objects.proofs.RowLemmas.{sum_by-filter}
+use Rattle.swarm_objects.proofs.Tests.{and_fails, both}
 use Rattle.swarm_objects.specs.Nodes.BestNode.{load}
 use Rattle.swarm_objects.specs.Nodes.Filters.{filter_numbers, has_free_host_ports, here, is_supported, is_tested_on, passes, takes_tasks}
 use Rattle.swarm_objects.specs.Nodes.Holdings.{reserved_cpu, reserved_mem}
@@ -95,17 +96,9 @@ unsuited t x n no' =
     let is : IsLoad t n.id x.service held = record { cpu = refl; mem = refl; here = refl; live = refl } in
     open_is t x n held is ∙ and_falls (suits t x n) (has_room_by x n held) no'
 
-and_holds : (a b : Bool) → a ≡ true → b ≡ true → (a && b) ≡ true
-and_holds true b e f = f
-and_holds false b e f = absurd cc
-
-and_fails : (a b : Bool) → b ≡ false → (a && b) ≡ false
-and_fails true b e = e
-and_fails false b e = refl
-
 pub opens : (t : Tables) (x : Task) (n : Node) (held : NodeLoad) → IsLoad t n.id x.service held → suits t x n ≡ true →
     has_room_by x n held ≡ true → is_open t x n ≡ true
-opens t x n held is yes' also = open_is t x n held is ∙ and_holds (suits t x n) (has_room_by x n held) yes' also
+opens t x n held is yes' also = open_is t x n held is ∙ both (suits t x n) (has_room_by x n held) yes' also
 
 pub too_full : (t : Tables) (x : Task) (n : Node) (held : NodeLoad) → IsLoad t n.id x.service held →
     has_room_by x n held ≡ false → is_open t x n ≡ false

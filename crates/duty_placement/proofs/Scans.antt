@@ -1,7 +1,8 @@
 -- Steps of the loops of this crate.
-use Rattle.std.proofs.Common.{◌≡◌, ℕ, ◌+◌, ◌<◌, Bool, true, false, cond, List, [], ◌∷◌, ◌++◌, length, get_or, take, add-one, zero, suc, Option, Some, None, refl, sym, ap, ◌∙◌, arith}
+use Rattle.std.proofs.Common.{◌≡◌, ℕ, ◌+◌, ◌<◌, Bool, true, false, cond, List, [], ◌∷◌, ◌++◌, length, get_or, take, add-one, zero, suc, Some, None, refl, sym, ap, ◌∙◌, arith}
 use Rattle.std.specs.Prelude.{filter, ◌||◌}
 use Rattle.std.specs.List.{list_any, last_or}
+use Rattle.swarm_objects.proofs.Newest.{last_last}
 
 -- the items up to a loop's index, and the one there
 pub take_next : {X : Type 0} (xs : List X) (i : ℕ) (x : X) → i < length xs → x ≡ get_or xs i x → take (i + 1) xs ≡ take i xs ++ x ∷ []
@@ -35,10 +36,6 @@ any_last test (y ∷ ys) x e = go (test y) (any_last test ys x) e
     go : (b : Bool) → (list_any test ys ≡ false → list_any test (ys ++ x ∷ []) ≡ test x) → (b || list_any test ys) ≡ false → (b || list_any test (ys ++ x ∷ [])) ≡ test x
     go true below no' = absurd cc
     go false below no' = below no'
-
-pub last_last : {X : Type 0} (o : Option X) (xs : List X) (x : X) → last_or o (xs ++ x ∷ []) ≡ Some x
-last_last o [] x = refl
-last_last o (y ∷ ys) x = last_last (Some y) ys x
 
 -- an item that passes both tests is one of those that pass the first
 pub any_passed : {X : Type 0} (p test : X → Bool) (xs : List X) (i : ℕ) (x : X) → i < length xs → x ≡ get_or xs i x → p x ≡ true → test x ≡ true → list_any test (filter p xs) ≡ true

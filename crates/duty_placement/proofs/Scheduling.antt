@@ -1,13 +1,14 @@
 -- What the scheduler has to do about a task names the task, so one duty is due exactly where its task has it.
-use Rattle.std.proofs.Common.{◌≡◌, ℕ, ◌≤◌, Bool, true, false, cond, eqb, List, []}
-use Rattle.std.proofs.Common.{◌∷◌, Option, Some, None, refl, sym, ap, ◌∙◌, subst, arith}
+use Rattle.std.proofs.Common.{◌≡◌, ℕ, Bool, true, false, cond, eqb, List, []}
+use Rattle.std.proofs.Common.{◌∷◌, Option, Some, None, refl, sym, ap, ◌∙◌}
+use Rattle.std.proofs.lemmas.List.Folds.{list_any-append}
 use Rattle.std.specs.Prelude.{◌&&◌, ◌||◌}
-use Rattle.std.proofs.lemmas.Bool.Decides.{nat_tests}
 use Rattle.std.specs.List.{list_any}
 use Rattle.std.specs.Str.{bytes_eq}
-use Rattle.duty_rows.proofs.AnyOf.{and_false, any_append, any_each, any_same, turned}
+use Rattle.duty_rows.proofs.AnyOf.{and_false, turned}
 use Rattle.duty_placement.specs.Inside.Scheduling.{is_scheduled}
-use Rattle.swarm_objects.proofs.RowLemmas.{change_row_above}
+use Rattle.swarm_objects.proofs.RowChanges.{change_row-None, same_change}
+use Rattle.swarm_objects.proofs.Tests.{any_each, any_same}
 use Rattle.swarm_objects.specs.Changes.{change_task, noted, with_tables}
 use Rattle.swarm_objects.specs.Duties.{effect_by}
 use Rattle.swarm_objects.specs.Kinds.{duty_numbers, kind_place, same_duty}
@@ -16,7 +17,7 @@ use Rattle.swarm_objects.specs.Loops.Scheduler.{explained, is_to_drop, is_to_pla
 use Rattle.swarm_objects.specs.Loops.Words.{when}
 use Rattle.swarm_objects.specs.Nodes.BestNode.{best_node}
 use Rattle.swarm_objects.specs.Nodes.Filters.{refusal_counts}
-use Rattle.swarm_objects.specs.Rows.{IsRising, RisesFrom, change_row, row_at, task_id}
+use Rattle.swarm_objects.specs.Rows.{IsRising, row_at, task_id}
 use Rattle.swarm_objects.specs.World.{Tables, World}
 use Rattle.swarm_objects.specs.declared.duties.Duty.{Duty}
 use Rattle.swarm_objects.specs.declared.duties.Duty.TheVariants as duty
@@ -81,7 +82,7 @@ schedule_named : (t : Tables) (x : Task) (d : Duty) (id : ℕ) (ns : List ℕ) �
 schedule_named t x d id ns first =
     let drop' = when (is_to_drop x) (duty.Drop x.id) in
     let place = place_duty t x (is_to_place x) in
-    let split = any_append (same_duty d) drop' place in
+    let split = list_any-append (same_duty d) drop' place in
     split
     ∙ either_named (list_any (same_duty d) drop') (list_any (same_duty d) place) (eqb x.id id)
     (when_named (same_duty d) (is_to_drop x) (eqb x.id id) (duty.Drop x.id)
@@ -97,43 +98,6 @@ scheduled t d id ns first =
     ∙ any_same (λ (x : Task). list_any (same_duty d) (schedule t x)) (is_scheduled t id d) t.tasks
     (λ (x : Task). schedule_named t x d id ns first))
 
--- The row that is there is the one that is changed.
-
-rising_from : {X : Type 0} (key : X → ℕ) (n : ℕ) (rows : List X) → RisesFrom key n rows → IsRising key rows
-rising_from key n [] rises = tt
-rising_from key n (x ∷ rows) rises = rises.1
-
-pub change_there : {X : Type 0} (key : X → ℕ) (id : ℕ) (f g : X → X) (rows : List X) (x : X) → IsRising key rows →
-    row_at key id rows ≡ Some x → f x ≡ g x → change_row key id f rows ≡ change_row key id g rows
-change_there key id f g [] x rises is same = refl
-change_there key id f g (y ∷ rows) x rises is same =
-    go (eqb (key y) id) refl is (change_there key id f g rows x (rising_from key (key y) rows rises))
-  where
-    go : (b : Bool) → eqb (key y) id ≡ b → cond b (Some y) (row_at key id rows) ≡ Some x →
-        (row_at key id rows ≡ Some x → f x ≡ g x → change_row key id f rows ≡ change_row key id g rows) →
-        cond b (f y) y ∷ change_row key id f rows ≡ cond b (g y) y ∷ change_row key id g rows
-    go true here found below =
-        let first : f y ≡ g y = subst (λ z. f z ≡ g z) (sym (some_is found)) same in
-        let low : id ≤ key y = grind (arith, nat_tests) in
-        ap (λ z. z ∷ change_row key id f rows) first
-        ∙ ap (λ zs. g y ∷ zs)
-        (change_row_above key (key y) id f rows rises low ∙ sym (change_row_above key (key y) id g rows rises low))
-      where
-        some_is : Some y ≡ Some x → y ≡ x
-        some_is e = cc
-    go false other found below = ap (λ zs. y ∷ zs) (below found same)
-
-pub change_missing : {X : Type 0} (key : X → ℕ) (id : ℕ) (f : X → X) (rows : List X) → row_at key id rows ≡ None →
-    change_row key id f rows ≡ rows
-change_missing key id f [] none = refl
-change_missing key id f (y ∷ rows) none = go (eqb (key y) id) none (change_missing key id f rows)
-  where
-    go : (b : Bool) → cond b (Some y) (row_at key id rows) ≡ None →
-        (row_at key id rows ≡ None → change_row key id f rows ≡ rows) →
-        cond b (f y) y ∷ change_row key id f rows ≡ y ∷ rows
-    go true none' below = cc
-    go false none' below = ap (λ zs. y ∷ zs) (below none')
-
 -- The note of the task that is there.
 
 pub explains : (w : World) (version id : ℕ) (x : Task) (counts : List ℕ) → IsRising task_id w.tables.tasks →
@@ -141,11 +105,11 @@ pub explains : (w : World) (version id : ℕ) (x : Task) (counts : List ℕ) →
     with_tables w (change_task id (noted version (note.Filters counts)) w.tables) ≡ effect_by version w (duty.Explain id)
 explains w version id x counts rises there are =
     ap (λ (rows : List Task). with_tables w (record w.tables { tasks = rows }))
-    (change_there task_id id (noted version (note.Filters counts)) (explained version w.tables) w.tables.tasks x
+    (same_change task_id id (noted version (note.Filters counts)) (explained version w.tables) w.tables.tasks x
     rises there (ap (λ (ns : List ℕ). noted version (note.Filters ns) x) are))
 
 pub explains_none : (w : World) (version id : ℕ) → row_at task_id id w.tables.tasks ≡ None →
     w ≡ effect_by version w (duty.Explain id)
 explains_none w version id missing =
     sym (ap (λ (rows : List Task). with_tables w (record w.tables { tasks = rows }))
-    (change_missing task_id id (explained version w.tables) w.tables.tasks missing))
+    (change_row-None task_id id (explained version w.tables) w.tables.tasks missing))

@@ -1,23 +1,15 @@
--- Whether one row holds an address or wants a number.
+-- Whether one row wants a number or addresses.
 use Rattle.std.specs.Prelude.{Bool, List, ℕ, ◌&&◌, ◌==◌}
 use Rattle.std.specs.List.{list_any}
 use Rattle.swarm_objects.specs.Changes.{addressed}
 use Rattle.swarm_objects.specs.Loops.Allocator.{gets_address, has_free_port, wants_note}
 use Rattle.swarm_objects.specs.Same.{same_bool}
 use Rattle.swarm_objects.specs.Services.Ports.{is_unnumbered}
-use Rattle.swarm_objects.specs.Tasks.Words.{is_not_over}
 use Rattle.swarm_objects.specs.World.{Tables}
 use Rattle.swarm_objects.specs.declared.services.Service.{Service}
 use Rattle.swarm_objects.specs.declared.tasks.Address.{Address}
 use Rattle.swarm_objects.specs.declared.tasks.Task.{Task}
 use Rattle.swarm_objects.specs.declared.templates.Port.{Port}
-
-abbrev pub is_address : ℕ → ℕ → Address → Bool
-is_address network number a = a.network == network && a.number == number
-
--- the task is up to RUNNING, and has this address
-abbrev pub holds_address : ℕ → ℕ → Task → Bool
-holds_address network number x = is_not_over x && list_any (is_address network number) x.addresses
 
 -- the port can get a number
 abbrev pub gets_number : Tables → Service → Port → Bool

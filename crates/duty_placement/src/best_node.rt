@@ -29,7 +29,7 @@ fn label_of<'a>(labels: &'a Labels, name: &str) -> Option<&'a (Name, Name)>
 }
 
 // Its value; that of a missing one is empty.
-#[tactic(auto, using(crate::proofs::LabelValues::label_value_is))]
+#[tactic(auto, using(swarm_objects::proofs::LabelValues::label_value_is))]
 fn label_value<'a>(labels: &'a Labels, name: &str) -> &'a str
     ensures { result.now ≡ label_value labels.now name.now }
 {

@@ -7,7 +7,7 @@ ghost use Rattle.swarm_objects.specs.Services.Ports.{free_port, holds_port};
 ghost use Rattle.swarm_objects.specs.Sound.{is_subnet};
 ghost use Rattle.swarm_objects.specs.Tasks.Addresses.{addresses_held, free_address, free_in};
 ghost use Rattle.swarm_plain.specs.Plain.{tables_of};
-ghost use Rattle.duty_placement.specs.Allocating.{holds_address, is_address};
+ghost use Rattle.swarm_objects.specs.Tasks.Holders.{holds_address, is_address};
 
 use swarm_objects::{Address, Id, Network, Rows, Task};
 use swarm_plain::Plain;

@@ -1,16 +1,8 @@
 -- Any of a list that is made of parts.
-use Rattle.std.proofs.Common.{◌≡◌, ℕ, Bool, true, false, cond, eqb, List, [], ◌∷◌, ◌++◌, refl, sym, ap, ◌∙◌, arith}
-use Rattle.std.specs.Prelude.{◌||◌, ◌&&◌, map, filter, flat_map}
+use Rattle.std.proofs.Common.{◌≡◌, ℕ, Bool, true, false, cond, eqb, List, [], ◌∷◌, refl, sym, ap, ◌∙◌, arith}
+use Rattle.std.specs.Prelude.{◌||◌, ◌&&◌, map, filter}
 use Rattle.std.specs.List.{list_any}
 use Rattle.std.proofs.lemmas.Bool.Decides.{nat_tests}
-
-pub or_false : (b : Bool) → (b || false) ≡ b
-or_false true = refl
-or_false false = refl
-
-pub or_assoc : (a b c : Bool) → ((a || b) || c) ≡ (a || (b || c))
-or_assoc true b c = refl
-or_assoc false b c = refl
 
 pub or_swap : (a b c : Bool) → ((a || b) || c) ≡ (b || (a || c))
 or_swap true true c = refl
@@ -26,10 +18,6 @@ pub and_false : (b : Bool) → (b && false) ≡ false
 and_false true = refl
 and_false false = refl
 
-pub any_same : {X : Type 0} (p q : X → Bool) (rows : List X) → ((x : X) → p x ≡ q x) → list_any p rows ≡ list_any q rows
-any_same p q [] same = refl
-any_same p q (x ∷ rows) same = ap (λ b. b || list_any p rows) (same x) ∙ ap (λ b. q x || b) (any_same p q rows same)
-
 pub any_none : {X : Type 0} (p : X → Bool) (rows : List X) → ((x : X) → p x ≡ false) → list_any p rows ≡ false
 any_none p [] no' = refl
 any_none p (x ∷ rows) no' = ap (λ b. b || list_any p rows) (no' x) ∙ any_none p rows no'
@@ -38,16 +26,6 @@ or_step : (a b c d : Bool) → (a ≡ true → b ≡ true) → (c ≡ true → d
 or_step a true c d one rest e = refl
 or_step true false c d one rest e = absurd (let q : false ≡ true = one refl in cc)
 or_step false false c d one rest e = rest e
-
-pub any_append : {X : Type 0} (p : X → Bool) (xs ys : List X) → list_any p (xs ++ ys) ≡ (list_any p xs || list_any p ys)
-any_append p [] ys = refl
-any_append p (x ∷ xs) ys =
-    ap (λ b. p x || b) (any_append p xs ys) ∙ sym (or_assoc (p x) (list_any p xs) (list_any p ys))
-
-pub any_each : {X Y : Type 0} (p : Y → Bool) (f : X → List Y) (rows : List X) →
-    list_any p (flat_map f rows) ≡ list_any (λ x. list_any p (f x)) rows
-any_each p f [] = refl
-any_each p f (x ∷ rows) = any_append p (f x) (flat_map f rows) ∙ ap (λ b. list_any p (f x) || b) (any_each p f rows)
 
 pub any_where : {X Y : Type 0} (p : Y → Bool) (f : X → Y) (test : X → Bool) (rows : List X) →
     list_any p (map f (filter test rows)) ≡ list_any (λ x. p (f x) && test x) rows

@@ -1,6 +1,7 @@
 pub mod AnyOf
+pub mod DirtyPlaces
 pub mod First
 pub mod Halves
-pub mod LivePlaces
+pub mod LeastNumber
 pub mod Looks
 pub mod Numbers

@@ -1,12 +1,13 @@
 -- Whether any of the numbers of a service's places passes a test.
-use Rattle.std.proofs.Common.{◌≡◌, ◌⊎◌, inl, inr, ℕ, Bool, true, false, cond, eqb, ltb, List, [], ◌∷◌, refl, sym, ap, ◌∙◌, arith}
+use Rattle.std.proofs.Common.{◌≡◌, ℕ, Bool, true, false, cond, eqb, ltb, List, [], ◌∷◌, refl, sym, ap, ◌∙◌, arith}
 use Rattle.std.specs.Prelude.{◌||◌, ◌&&◌, ◌==◌, filter, fold, not}
 use Rattle.std.specs.List.{list_any}
 use Rattle.std.proofs.lemmas.Bool.Decides.{nat_tests}
-use Rattle.duty_rows.proofs.AnyOf.{any_more, none_left, or_false, or_swap}
-use Rattle.swarm_objects.specs.Rows.{Has, is_some_and, with_number}
+use Rattle.duty_rows.proofs.AnyOf.{any_more, none_left, or_swap}
+use Rattle.swarm_objects.proofs.Tests.{both, first_so, or_false, second_so}
+use Rattle.swarm_objects.specs.Rows.{is_some_and, with_number}
 use Rattle.swarm_objects.specs.Same.{same_place}
-use Rattle.swarm_objects.specs.Tasks.Places.{closes, counts_for, has_dirty_place, has_other, is_dirty_place, is_held, is_held_place, is_in_place, newest, numbers_of, place_at, place_number, place_numbers, place_tasks, tasks_of_place}
+use Rattle.swarm_objects.specs.Tasks.Places.{closes, counts_for, has_other, is_held, is_held_place, is_in_place, newest, numbers_of, place_at, place_number, place_numbers, place_tasks, tasks_of_place}
 use Rattle.swarm_objects.specs.Tasks.Words.{is_live}
 use Rattle.swarm_objects.specs.World.{Tables}
 use Rattle.swarm_objects.specs.declared.services.Mode.{Mode}
@@ -57,10 +58,6 @@ any_number p s tasks =
     any_both (counts_for s) (λ (x : Task). p (place_number x.place)) tasks
     ∙ sym (any_fold p (filter (counts_for s) tasks) [])
 
-pub any_dirty : (t : Tables) (s : Service) →
-    list_any (λ x. counts_for s x && is_dirty_place t s (place_number x.place)) t.tasks ≡ has_dirty_place t s
-any_dirty t s = any_number (is_dirty_place t s) s t.tasks
-
 -- whether a row of the place passes, where the rows and the place were had first
 pub any_at : (t : Tables) (s : Service) (k : ℕ) (rows : List Task) (p : Place) (test : Task → Bool) (found : Bool) →
     rows ≡ t.tasks → p ≡ place_at s.spec.mode k → found ≡ list_any (λ x. is_in_place s p x && test x) rows →
@@ -104,18 +101,6 @@ some_task s p tasks e = go (list_any (is_in_place s p) tasks) (none_left (is_in_
     go true below = refl
     go false below = absurd (empty (filter (is_in_place s p) tasks) (below refl) e)
 
-pub both_left : (a b : Bool) → (a && b) ≡ true → a ≡ true
-both_left true b e = refl
-both_left false b e = e
-
-pub both_right : (a b : Bool) → (a && b) ≡ true → b ≡ true
-both_right true b e = e
-both_right false b e = absurd cc
-
-both : (a b : Bool) → a ≡ true → b ≡ true → (a && b) ≡ true
-both true b e f = f
-both false b e f = absurd cc
-
 equal_number : (k j : ℕ) → j ≡ k → eqb k j ≡ true
 equal_number k j e = grind (arith, nat_tests)
 
@@ -125,24 +110,11 @@ held_number t s k held =
     sym (any_number (eqb k) s t.tasks)
     ∙ any_more (is_in_place s (place_at s.spec.mode k)) (λ x. counts_for s x && eqb k (place_number x.place)) t.tasks
     (λ x e. both (counts_for s x) (eqb k (place_number x.place))
-    (both_left (counts_for s x) (same_place x.place (place_at s.spec.mode k)) e)
+    (first_so (counts_for s x) (same_place x.place (place_at s.spec.mode k)) e)
     (equal_number k (place_number x.place)
     (one_place x.place (place_at s.spec.mode k)
-    (both_right (counts_for s x) (same_place x.place (place_at s.spec.mode k)) e)
+    (second_so (counts_for s x) (same_place x.place (place_at s.spec.mode k)) e)
     ∙ number_at s.spec.mode k)))
     (some_task s (place_at s.spec.mode k) t.tasks held)
 
 -- Rising numbers.
-
-pub with_number-cases : (k i : ℕ) (ks : List ℕ) → Has (with_number k ks) i → (k ≡ i) ⊎ Has ks i
-with_number-cases k i [] h = elim h [ inl e ↦ inl e | inr none ↦ absurd none ]
-with_number-cases k i (j ∷ js) h = go (ltb k j) (eqb k j) (with_number-cases k i js) h
-  where
-    go : (a b : Bool) → (Has (with_number k js) i → (k ≡ i) ⊎ Has js i) →
-        Has (cond a (k ∷ j ∷ js) (cond b (k ∷ js) (j ∷ with_number k js))) i → (k ≡ i) ⊎ Has (j ∷ js) i
-    go true b below (inl e) = inl e
-    go true b below (inr t) = inr t
-    go false true below (inl e) = inl e
-    go false true below (inr t) = inr (inr t)
-    go false false below (inl e) = inr (inl e)
-    go false false below (inr t) = elim (below t) [ inl e ↦ inl e | inr u ↦ inr (inr u) ]

@@ -1,3 +1,4 @@
 -- Words of private contracts.
 pub mod Homes
+pub mod LeastNumber
 pub mod OfPlace

@@ -2,6 +2,7 @@
 #![tactic(auto)]
 
 pub mod halving;
+pub mod least;
 pub mod nodes;
 pub mod places;
 pub mod tasks;

@@ -1,16 +1,34 @@
-// The places of a service in the plain world. The held ones are `Plain::held_places`.
-ghost use Rattle.std.specs.Prelude.{◌≡◌, ◌==◌, ◌&&◌, ◌+◌, ◌<◌, ◌^◌, IfOk, length, not, ◌||◌, OnOk};
+// The places of a service in the plain world.
+ghost use Rattle.std.specs.Prelude.{◌≡◌, ◌==◌, ◌&&◌, IfOk, not, ◌||◌};
 ghost use Rattle.std.specs.List.{list_any};
 ghost use Rattle.std.specs.Option.{option_copied};
-ghost use Rattle.duty_rows.specs.Inside.OfPlace.{is_live_at, is_suspect};
-ghost use Rattle.swarm_objects.specs.Rows.{first_gap, is_some_and, IsRising, itself, with_number};
+ghost use Rattle.duty_rows.specs.Inside.OfPlace.{is_suspect};
+ghost use Rattle.swarm_objects.specs.Rows.{is_some_and};
 ghost use Rattle.swarm_objects.specs.Services.Words.{is_live_clean, is_live_dirty};
-ghost use Rattle.swarm_objects.specs.Tasks.Places.{closes_dirty, counts_for, dirty_places, has_clean, has_dirty_place, has_live, has_other, is_dirty_place, is_held_place, is_in_place, live_places, newest, place_at, place_number, place_numbers, place_tasks, closes, held_places};
+ghost use Rattle.swarm_objects.specs.Tasks.Places.{
+  closes_dirty,
+  dirty_places,
+  has_clean,
+  has_dirty_place,
+  has_live,
+  has_other,
+  is_dirty_place,
+  is_held_place,
+  is_in_place,
+  newest,
+  place_at,
+  place_number,
+  place_numbers,
+  place_tasks,
+};
 ghost use Rattle.swarm_objects.specs.Tasks.Words.{is_live};
 ghost use Rattle.swarm_plain.specs.Plain.{world_of};
+ghost use Rattle.swarm_slots.specs.Slots.{slots};
+ghost use Rattle.swarm_slots.specs.Tallies.{Tells};
 
-use swarm_objects::{List, NoMemory, Place, Service, Task, add, put_in_order};
+use swarm_objects::{List, NoMemory, Place, Service, Task, add};
 use swarm_plain::{Plain, places};
+use swarm_slots::{ServiceSlots, Tally, tally_of};
 
 /// The task stands in the service's place with this number.
 pub fn is_at(service: &Service, number: u64, task: &Task) -> bool
@@ -122,57 +140,19 @@ fn closes_dirty(plain: &Plain, service: &Service, number: u64) -> bool
     }
 }
 
-// The task stands in its place of the service, live.
-fn is_live_at(service: &Service, task: &Task) -> bool
-    ensures { result ≡ is_live_at service.now task.now }
+/// The places that the service has tasks in, by rising number, each with whether it is held.
+pub fn slots<'a>(plain: &'a Plain, service: &'a Service) -> ServiceSlots<'a>
+    ensures { result ≡ slots service.now (world_of plain.now).tables.tasks }
 {
-    is_at(service, task.place.place_number(), task) && task.is_live()
+    swarm_slots::slots(service, plain.tasks.as_slice())
 }
 
-// Puts the number among rising ones. Where it is above them all, no other is looked at.
-fn add_number(numbers: &mut List<u64>, number: u64) -> Result<(), NoMemory>
-    requires { IsRising itself numbers.old }
-    ensures { OnOk result (numbers.new ≡ with_number number numbers.old) }
+/// How many of the service's places have a live task, how many are held, and the least number from this one on that
+/// isn't held.
+pub fn tally(plain: &Plain, service: &Service, from: u32) -> Tally
+    ensures { Tells result from (world_of plain.now).tables service.now }
 {
-    if let Some(last) = numbers.as_slice().last() {
-        if *last < number {
-            return add(numbers, number);
-        }
-    }
-    put_in_order(numbers, number)
-}
-
-/// The numbers of the places with a live task, rising.
-pub fn live_places(plain: &Plain, service: &Service) -> Result<List<u64>, NoMemory>
-    ensures { IfOk result (λ numbers. numbers ≡ live_places (world_of plain.now).tables service.now) }
-{
-    let mut numbers = List::new(plain.alloc);
-    for task in plain.tasks.as_slice() {
-        if is_live_at(service, task) {
-            add_number(&mut numbers, task.place.place_number())?;
-        }
-    }
-    Ok(numbers)
-}
-
-// A task of the service closes its place.
-fn any_closing(service: &Service, tasks: &[Task]) -> bool
-    ensures { result ≡ list_any (λ x. counts_for service.now x && closes x) tasks.now }
-{
-    tasks
-        .iter()
-        .any(|task| task.counts_for(service) && task.closes())
-}
-
-/// The numbers of the places that are held, rising. Where no task closes its place, they are those with a live task.
-pub fn held_places(plain: &Plain, service: &Service) -> Result<List<u64>, NoMemory>
-    ensures { IfOk result (λ held. held ≡ held_places (world_of plain.now).tables service.now) }
-{
-    if any_closing(service, plain.tasks.as_slice()) {
-        plain.held_places(service)
-    } else {
-        live_places(plain, service)
-    }
+    tally_of(service, plain.tasks.as_slice(), from)
 }
 
 /// The numbers of the dirty places, rising.
@@ -189,8 +169,8 @@ pub fn dirty_places(plain: &Plain, service: &Service) -> Result<List<u64>, NoMem
     Ok(dirty)
 }
 
-// The task may make its place dirty.
-fn is_suspect(service: &Service, task: &Task) -> bool
+/// The task may make its place dirty.
+pub fn is_suspect(service: &Service, task: &Task) -> bool
     ensures { result ≡ is_suspect service.now task.now }
 {
     task.counts_for(service) && (task.is_live_dirty(service) || task.closes_dirty(service))
@@ -210,21 +190,4 @@ pub fn has_dirty_place(plain: &Plain, service: &Service) -> bool
     ensures { result ≡ has_dirty_place (world_of plain.now).tables service.now }
 {
     any_suspect(plain, service)
-}
-
-/// The first number from this one on that is none of these rising ones.
-pub fn first_gap(from: u64, numbers: &[u64]) -> u64
-    requires { from + length numbers.now < 2 ^ 64 }
-    ensures { result ≡ first_gap from numbers.now }
-{
-    let mut gap = from;
-    for number in numbers {
-        if *number > gap {
-            return gap;
-        }
-        if *number == gap {
-            gap += 1;
-        }
-    }
-    gap
 }

@@ -1,5 +1,5 @@
 -- What the duties on updates do to the world.
-use Rattle.std.proofs.Common.{◌≡◌, ℕ, ◌+◌, ◌<◌, ◌≤◌, Bool, true, false, cond, eqb, List, [], ◌∷◌, ◌++◌, length, get_or, set, zero, suc, Option, Some, None, refl, sym, ap, ◌∙◌, arith, take, drop, length-append}
+use Rattle.std.proofs.Common.{◌≡◌, ℕ, ◌+◌, ◌<◌, Bool, true, false, cond, eqb, List, [], ◌∷◌, ◌++◌, length, get_or, set, zero, suc, Option, Some, None, refl, sym, ap, ◌∙◌, arith, take, drop, length-append}
 use Rattle.std.proofs.lemmas.List.{drop_at, take-append-le, take_all}
 use Rattle.std.specs.Prelude.{◌==◌, not}
 use Rattle.std.specs.List.{position, position_or_len}
@@ -8,11 +8,12 @@ use Rattle.std.proofs.lemmas.Bool.Decides.{nat_tests}
 use Rattle.std.proofs.lemmas.Grind.{common_steps}
 use Rattle.duty_updates.specs.Inside.Updating.{desired_by_order, spec_back, stopped_by_order}
 use Rattle.swarm_objects.proofs.RowLemmas.{Has-from_row_at, change_row_above, instead_is}
+use Rattle.swarm_objects.proofs.RowChanges.{change_row-None, rising_from, same_change}
 use Rattle.swarm_objects.specs.Lends.{instead}
 use Rattle.swarm_objects.specs.Changes.{change_service, on_service, with_tables}
 use Rattle.swarm_objects.specs.Duties.{effect_by}
 use Rattle.swarm_objects.specs.Loops.Update.{back_at, by_order, change_run, fail_run, finish_run, finished_status, in_status, item_of, may_roll_back, new_run, paused, paused_status, replace_place, replaced_in, rolled_back, start_run, start_status, with_item, with_run}
-use Rattle.swarm_objects.specs.Rows.{IsRising, RisesFrom, change_row, on_row, put_row, row_at, service_id}
+use Rattle.swarm_objects.specs.Rows.{IsRising, change_row, on_row, put_row, row_at, service_id}
 use Rattle.swarm_objects.specs.Same.{same_place}
 use Rattle.swarm_objects.specs.Tasks.New.{new_task}
 use Rattle.swarm_objects.specs.Tasks.Places.{place_at}
@@ -29,17 +30,13 @@ use Rattle.swarm_objects.specs.declared.tasks.Task.{Task}
 
 -- One row.
 
-rising_behind : {X : Type 0} (key : X → ℕ) (n : ℕ) (rows : List X) → RisesFrom key n rows → IsRising key rows
-rising_behind key n [] rises = tt
-rising_behind key n (x ∷ rows) rises = rises.1
-
 -- a write of the first row with a key changes all that have it, since the keys rise
 one_row : {X : Type 0} (key : X → ℕ) (id : ℕ) (f : X → X) (rows : List X) (at : ℕ) (x : X) → IsRising key rows →
     position_or_len (λ row. key row == id) rows ≡ at → at < length rows → x ≡ get_or rows at x →
     set rows at (f x) ≡ change_row key id f rows
 one_row key id f [] at x rises is lt here = absurd (omega arith)
 one_row key id f (y ∷ rows) at x rises is lt here =
-    go (eqb (key y) id) refl (λ k. one_row key id f rows k x (rising_behind key (key y) rows rises)) is
+    go (eqb (key y) id) refl (λ k. one_row key id f rows k x (rising_from key (key y) rows rises)) is
   where
     first : (k : ℕ) → k ≡ 0 → x ≡ get_or (y ∷ rows) k x → eqb (key y) id ≡ true →
         set (y ∷ rows) k (f x) ≡ f y ∷ change_row key id f rows
@@ -74,16 +71,6 @@ set_found key id f rows found at x y rises is some here new =
     let lt : position_or_len (λ row. key row == id) rows < length rows = grind (arith, common_steps) in
     ap (set rows at) (new ∙ ap f (sym here)) ∙ one_row key id f rows at x rises one (omega (arith, one, lt)) here
 
-pub change_none : {X : Type 0} (key : X → ℕ) (id : ℕ) (f : X → X) (rows : List X) → row_at key id rows ≡ None →
-    change_row key id f rows ≡ rows
-change_none key id f [] e = refl
-change_none key id f (x ∷ rows) e = go (eqb (key x) id) (change_none key id f rows) e
-  where
-    go : (b : Bool) → (row_at key id rows ≡ None → change_row key id f rows ≡ rows) →
-        cond b (Some x) (row_at key id rows) ≡ None → cond b (f x) x ∷ change_row key id f rows ≡ x ∷ rows
-    go true below h = absurd cc
-    go false below h = ap (λ rest. x ∷ rest) (below h)
-
 no_row : {X : Type 0} (key : X → ℕ) (id : ℕ) (rows : List X) → position (λ row. key row == id) rows ≡ None →
     row_at key id rows ≡ None
 no_row key id [] e = refl
@@ -96,26 +83,7 @@ no_row key id (x ∷ rows) e = go (eqb (key x) id) refl (no_row key id rows)
 
 pub not_found : {X : Type 0} (key : X → ℕ) (id : ℕ) (f : X → X) (rows : List X) (found : Option ℕ) →
     found ≡ position (λ row. key row == id) rows → found ≡ None → rows ≡ change_row key id f rows
-not_found key id f rows found is none = sym (change_none key id f rows (no_row key id rows (sym is ∙ none)))
-
--- what two changes do to the one row with a key
-same_change : {X : Type 0} (key : X → ℕ) (id : ℕ) (f g : X → X) (rows : List X) (x : X) → IsRising key rows →
-    row_at key id rows ≡ Some x → f x ≡ g x → change_row key id f rows ≡ change_row key id g rows
-same_change key id f g [] x rises e same = refl
-same_change key id f g (y ∷ rows) x rises e same =
-    go (eqb (key y) id) refl (same_change key id f g rows x (rising_behind key (key y) rows rises)) e
-  where
-    go : (b : Bool) → eqb (key y) id ≡ b →
-        (row_at key id rows ≡ Some x → f x ≡ g x → change_row key id f rows ≡ change_row key id g rows) →
-        cond b (Some y) (row_at key id rows) ≡ Some x →
-        cond b (f y) y ∷ change_row key id f rows ≡ cond b (g y) y ∷ change_row key id g rows
-    go true t below h =
-        let here : y ≡ x = cc in
-        let le : id ≤ key y = grind (arith, nat_tests) in
-        ap (λ z. z ∷ change_row key id f rows) (ap f here ∙ same ∙ ap g (sym here))
-        ∙ ap (λ rest. g y ∷ rest)
-        (change_row_above key (key y) id f rows rises le ∙ sym (change_row_above key (key y) id g rows rises le))
-    go false t below h = ap (λ rest. y ∷ rest) (below h same)
+not_found key id f rows found is none = sym (change_row-None key id f rows (no_row key id rows (sym is ∙ none)))
 
 -- Items.
 
@@ -266,7 +234,7 @@ finished w version id rows is = go (row_at service_id id w.tables.services) refl
         (changed w.tables id v f rows e is)
     go None e =
         ap (λ xs. with_tables w (record w.tables { services = xs })) (is
-        ∙ change_none service_id id f w.tables.services e)
+        ∙ change_row-None service_id id f w.tables.services e)
         ∙ nowhere w id (finish_run version w.tables) e
 
 -- Failures.

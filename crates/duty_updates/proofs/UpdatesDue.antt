@@ -9,6 +9,7 @@ use Rattle.duty_updates.specs.Inside.Updating.{open_run, wants_fail, wants_finis
 use Rattle.swarm_model.proofs.Base.FromLists.{IsDuty-due}
 use Rattle.swarm_model.proofs.Base.IsDuty.{OfRow}
 use Rattle.swarm_model.proofs.Base.ToLists.{due-IsDuty}
+use Rattle.swarm_objects.proofs.Tests.{both, first_so, or_right, same_test, second_so}
 use Rattle.swarm_objects.specs.Duties.{is_due}
 use Rattle.swarm_objects.specs.Loops.Update.{is_to_finish, is_to_replace, is_to_start, is_to_swap, lets_replace}
 use Rattle.swarm_objects.specs.Rows.{Has, is_some_and, service_id}
@@ -24,23 +25,6 @@ use Rattle.swarm_objects.specs.declared.services.UpdateRun.{UpdateRun}
 use Rattle.swarm_objects.specs.declared.tasks.Task.{Task}
 
 -- Tests.
-
-same_test : (a b : Bool) → (a ≡ true → b ≡ true) → (b ≡ true → a ≡ true) → a ≡ b
-same_test true b there back = sym (there refl)
-same_test false true there back = back refl
-same_test false false there back = refl
-
-both_left : (a b : Bool) → (a && b) ≡ true → a ≡ true
-both_left true b e = refl
-both_left false b e = e
-
-both_right : (a b : Bool) → (a && b) ≡ true → b ≡ true
-both_right true b e = e
-both_right false b e = absurd cc
-
-both : (a b : Bool) → a ≡ true → b ≡ true → (a && b) ≡ true
-both true b e f = f
-both false b e f = absurd cc
 
 not_true : (a : Bool) → not a ≡ true → a ≡ false
 not_true true e = absurd cc
@@ -66,8 +50,8 @@ any_row (s ∷ rows) id test e = go (eqb s.id id && test s) refl (any_row rows i
     go true is rest h = record {
       row = s;
       there = inl refl;
-      id_is = equal_number s.id id (both_left (eqb s.id id) (test s) is);
-      fact = both_right (eqb s.id id) (test s) is;
+      id_is = equal_number s.id id (first_so (eqb s.id id) (test s) is);
+      fact = second_so (eqb s.id id) (test s) is;
     }
     go false is rest h = let of = rest h in record {
       row = of.row;
@@ -141,15 +125,11 @@ live_held : (t : Tables) (s : Service) (k : ℕ) → list_any (is_live_dirty s) 
     is_held_place t s k ≡ true
 live_held t s k e =
     ap (λ b. b || is_some_and closes (newest (place_tasks t s k)))
-    (any_more (is_live_dirty s) is_live (place_tasks t s k) (λ x h. both_left (is_live x) (is_dirty s x) h) e)
+    (any_more (is_live_dirty s) is_live (place_tasks t s k) (λ x h. first_so (is_live x) (is_dirty s x) h) e)
 
 closing : (s : Service) (o : Option Task) → is_some_and (closes_dirty s) o ≡ true → is_some_and closes o ≡ true
 closing s None e = absurd cc
-closing s (Some x) e = both_left (closes x) (is_dirty s x) e
-
-or_right : (a b : Bool) → b ≡ true → (a || b) ≡ true
-or_right true b e = refl
-or_right false b e = e
+closing s (Some x) e = first_so (closes x) (is_dirty s x) e
 
 dirty_held : (t : Tables) (s : Service) (k : ℕ) → is_dirty_place t s k ≡ true → is_held_place t s k ≡ true
 dirty_held t s k e = go (list_any (is_live_dirty s) (place_tasks t s k)) refl e
@@ -162,17 +142,17 @@ dirty_held t s k e = go (list_any (is_live_dirty s) (place_tasks t s k)) refl e
     go true is h = live_held t s k is
     go false is h =
         or_right (list_any is_live (place_tasks t s k)) (is_some_and closes (newest (place_tasks t s k)))
-        (closing s (newest (place_tasks t s k)) (both_right (not (has_live t s k)) last h))
+        (closing s (newest (place_tasks t s k)) (second_so (not (has_live t s k)) last h))
 
 numbered : (t : Tables) (s : Service) (k : ℕ) → is_held_place t s k ≡ true → Has (place_numbers t s) k
 numbered t s k e = any_number (place_numbers t s) k (held_number t s k e)
 
 swap_numbered : (t : Tables) (s : Service) (k : ℕ) → is_to_swap t s k ≡ true → Has (place_numbers t s) k
-swap_numbered t s k e = numbered t s k (live_held t s k (both_right _ (list_any (is_live_dirty s) (place_tasks t s
+swap_numbered t s k e = numbered t s k (live_held t s k (second_so _ (list_any (is_live_dirty s) (place_tasks t s
     k)) e))
 
 replace_numbered : (t : Tables) (s : Service) (k : ℕ) → is_to_replace t s k ≡ true → Has (place_numbers t s) k
-replace_numbered t s k e = numbered t s k (dirty_held t s k (both_left (is_dirty_place t s k) (not (has_clean t s
+replace_numbered t s k e = numbered t s k (dirty_held t s k (first_so (is_dirty_place t s k) (not (has_clean t s
     k)) e))
 
 -- The duties.
@@ -195,14 +175,14 @@ start_due w id = same_test (list_any (of_id id test) t.services) (is_due w d) th
 
     there : list_any (of_id id test) t.services ≡ true → is_due w d ≡ true
     there e = let of = any_row t.services id test e in
-        let no_job = both_left (not (is_job of.row.spec.mode)) (is_to_start t of.row) of.fact in
+        let no_job = first_so (not (is_job of.row.spec.mode)) (is_to_start t of.row) of.fact in
         due-IsDuty w d (record {
           row = of.row;
           there = of.there;
           id_is = of.id_is;
           fact = (
             not_true (is_job of.row.spec.mode) no_job,
-            both_right (not (is_job of.row.spec.mode))
+            second_so (not (is_job of.row.spec.mode))
                 (is_to_start t of.row) of.fact,
           );
         })
@@ -288,7 +268,7 @@ swap_due w id k = same_test (list_any (of_id id test) t.services) (is_due w d) t
     there e = let of = any_row t.services id test e in
         let found = to_open of.row (each of.row) of.fact in
         let run = found.1.0 in
-        let passes : is_to_swap t of.row k ≡ true = both_right (is_of_version of.row run) (is_to_swap t of.row k)
+        let passes : is_to_swap t of.row k ≡ true = second_so (is_of_version of.row run) (is_to_swap t of.row k)
         found.1.3 in
         due-IsDuty w d (record {
           row = of.row;
@@ -301,7 +281,7 @@ swap_due w id k = same_test (list_any (of_id id test) t.services) (is_due w d) t
               found.1.1,
               found.1.2,
               (
-                both_left (is_of_version of.row run) (is_to_swap t of.row
+                first_so (is_of_version of.row run) (is_to_swap t of.row
                     k) found.1.3,
                 (swap_numbered t of.row k passes, passes),
               ),
@@ -339,7 +319,7 @@ replace_due w id k = same_test (list_any (of_id id test) t.services) (is_due w d
     there e = let of = any_row t.services id test e in
         let found = to_open of.row (each of.row) of.fact in
         let run = found.1.0 in
-        let passes : is_to_replace t of.row k ≡ true = both_right (may of.row run) (is_to_replace t of.row k)
+        let passes : is_to_replace t of.row k ≡ true = second_so (may of.row run) (is_to_replace t of.row k)
         found.1.3 in
         due-IsDuty w d (record {
           row = of.row;
@@ -352,7 +332,7 @@ replace_due w id k = same_test (list_any (of_id id test) t.services) (is_due w d
               found.1.1,
               found.1.2,
               (
-                both_left (may of.row run) (is_to_replace t of.row k)
+                first_so (may of.row run) (is_to_replace t of.row k)
                     found.1.3,
                 (replace_numbered t of.row k passes, passes),
               ),

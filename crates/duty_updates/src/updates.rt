@@ -1,7 +1,9 @@
 // What there is to do about rolling updates.
-ghost use Rattle.std.specs.Prelude.{◌≡◌, ◌==◌, ◌&&◌, ◌++◌, IfOk, OnOk, Some, not};
+ghost use Rattle.std.specs.Prelude.{◌≡◌, ◌==◌, ◌&&◌, ◌++◌, IfOk, None, OnOk, Some, not};
 ghost use Rattle.std.specs.List.{list_all, list_any};
 ghost use Rattle.std.specs.Option.{option_copied};
+ghost use Rattle.duty_rows.specs.Inside.LeastNumber.{keep_number, least_number};
+ghost use Rattle.duty_rows.specs.Inside.OfPlace.{is_suspect};
 ghost use Rattle.duty_updates.specs.Inside.Updating.{
   open_run,
   wants_fail,
@@ -11,6 +13,7 @@ ghost use Rattle.duty_updates.specs.Inside.Updating.{
   wants_swap,
   while_open,
 };
+ghost use Rattle.swarm_model.specs.Settle.{has_waiting_place};
 ghost use Rattle.swarm_objects.specs.Duties.{is_due};
 ghost use Rattle.swarm_objects.specs.Loops.Update.{
   is_to_finish,
@@ -27,13 +30,14 @@ ghost use Rattle.swarm_objects.specs.Loops.Words.{places_where, when};
 ghost use Rattle.swarm_objects.specs.Rows.{is_some_and, first_of};
 ghost use Rattle.swarm_objects.specs.Services.Runs.{is_of_version};
 ghost use Rattle.swarm_objects.specs.Services.Words.{is_live_clean};
-ghost use Rattle.swarm_objects.specs.Tasks.Places.{is_in_place, place_tasks, place_numbers};
+ghost use Rattle.swarm_objects.specs.Tasks.Places.{is_in_place, place_number, place_numbers, place_tasks};
 ghost use Rattle.swarm_objects.specs.Tasks.Words.{is_running};
 ghost use Rattle.swarm_plain.specs.Plain.{world_of};
 
 use crate::runs::{fails, has_room, is_of_version, is_under_way, is_watched};
+use duty_rows::least::comes_before;
 use duty_rows::places::{
-    has_clean, has_dirty_place, has_live_dirty, is_dirty_place, place_numbers,
+    has_clean, has_dirty_place, has_live_dirty, is_dirty_place, is_suspect, place_numbers,
 };
 use swarm_objects::{Duty, Id, List, NoMemory, Place, Service, Task, UpdateRun, add};
 use swarm_plain::Plain;
@@ -86,8 +90,8 @@ fn is_to_swap(plain: &Plain, service: &Service, number: u64) -> bool
     has_running_clean(plain, service, number) && has_live_dirty(plain, service, number)
 }
 
-/// The place is dirty, without a clean live task.
-pub fn is_to_replace(plain: &Plain, service: &Service, number: u64) -> bool
+// The place is dirty, without a clean live task.
+fn is_to_replace(plain: &Plain, service: &Service, number: u64) -> bool
     ensures { result ≡ is_to_replace (world_of plain.now).tables service.now number }
 {
     is_dirty_place(plain, service, number) && !has_clean(plain, service, number)
@@ -239,107 +243,168 @@ pub fn update_duties(plain: &Plain) -> Result<List<Duty>, NoMemory>
     Ok(duties)
 }
 
-// Of these places the first whose old tasks are to stop.
-fn first_swap(plain: &Plain, service: &Service, run: &UpdateRun, numbers: &[u64]) -> Option<Duty>
-    ensures { let t = (world_of plain.now).tables in let s = service.now in result
-        ≡ first_of (places_where (is_of_version s run.now) (is_to_swap t s) (Duty.Swap s.id) numbers.now) }
+// The number of the task's place, where its old tasks are to stop and it comes before the best one so far.
+fn keep_swap(plain: &Plain, service: &Service, best: Option<u64>, task: &Task) -> Option<u64>
+    ensures { let t = (world_of plain.now).tables in let s = service.now in
+        result ≡ keep_number (is_suspect s) (is_to_swap t s) best task.now }
+{
+    let number = task.place.place_number();
+    if is_suspect(service, task)
+        && comes_before(number, best)
+        && is_to_swap(plain, service, number)
+    {
+        Some(number)
+    } else {
+        best
+    }
+}
+
+// The least number of a place whose old tasks are to stop.
+fn least_swap(plain: &Plain, service: &Service) -> Option<u64>
+    ensures { let t = (world_of plain.now).tables in let s = service.now in
+        result ≡ least_number (is_suspect s) (is_to_swap t s) None t.tasks }
+{
+    let mut least = None;
+    for task in plain.tasks.as_slice() {
+        least = keep_swap(plain, service, least, task);
+    }
+    least
+}
+
+// The first place whose old tasks are to stop.
+fn first_swap(plain: &Plain, service: &Service, run: &UpdateRun) -> Option<Duty>
+    ensures { let t = (world_of plain.now).tables in let s = service.now in result ≡ first_of
+        (places_where (is_of_version s run.now) (is_to_swap t s) (Duty.Swap s.id) (place_numbers t s)) }
 {
     if !is_of_version(service, run) {
         return None;
     }
-    for number in numbers {
-        if is_to_swap(plain, service, *number) {
-            return Some(Duty::Swap(service.id, *number));
-        }
+    match least_swap(plain, service) {
+        Some(number) => Some(Duty::Swap(service.id, number)),
+        None => None,
     }
-    None
 }
 
-// The first that is to get a new task.
-fn first_replacement(
-    plain: &Plain,
-    service: &Service,
-    run: &UpdateRun,
-    numbers: &[u64],
-) -> Option<Duty>
+// The number of the task's place, where it is to get a new task and comes before the best one so far.
+fn keep_replacement(plain: &Plain, service: &Service, best: Option<u64>, task: &Task) -> Option<u64>
+    ensures { let t = (world_of plain.now).tables in let s = service.now in
+        result ≡ keep_number (is_suspect s) (is_to_replace t s) best task.now }
+{
+    let number = task.place.place_number();
+    if is_suspect(service, task)
+        && comes_before(number, best)
+        && is_to_replace(plain, service, number)
+    {
+        Some(number)
+    } else {
+        best
+    }
+}
+
+// The least number of a place that is to get a new task.
+fn least_replacement(plain: &Plain, service: &Service) -> Option<u64>
+    ensures { let t = (world_of plain.now).tables in let s = service.now in
+        result ≡ least_number (is_suspect s) (is_to_replace t s) None t.tasks }
+{
+    let mut least = None;
+    for task in plain.tasks.as_slice() {
+        least = keep_replacement(plain, service, least, task);
+    }
+    least
+}
+
+// The first place that is to get a new task.
+fn first_replacement(plain: &Plain, service: &Service, run: &UpdateRun) -> Option<Duty>
     ensures { let t = (world_of plain.now).tables in let s = service.now in
         let may = is_of_version s run.now && lets_replace t s run.now in
-        result ≡ first_of (places_where may (is_to_replace t s) (Duty.Replace s.id) numbers.now) }
+        result ≡ first_of (places_where may (is_to_replace t s) (Duty.Replace s.id) (place_numbers t s)) }
 {
     if !replaces(plain, service, run) {
         return None;
     }
-    for number in numbers {
-        if is_to_replace(plain, service, *number) {
-            return Some(Duty::Replace(service.id, *number));
+    match least_replacement(plain, service) {
+        Some(number) => Some(Duty::Replace(service.id, number)),
+        None => None,
+    }
+}
+
+// The first about the places of a run.
+#[tactic(auto, using(duty_rows::proofs::First::append_first))]
+fn first_change(plain: &Plain, service: &Service, run: &UpdateRun) -> Option<Duty>
+    ensures { let t = (world_of plain.now).tables in let s = service.now in
+        let may = is_of_version s run.now && lets_replace t s run.now in
+        result ≡ first_of (places_where (is_of_version s run.now) (is_to_swap t s) (Duty.Swap s.id) (place_numbers t s)
+        ++ places_where may (is_to_replace t s) (Duty.Replace s.id) (place_numbers t s)) }
+{
+    match first_swap(plain, service, run) {
+        Some(duty) => Some(duty),
+        None => first_replacement(plain, service, run),
+    }
+}
+
+// The first about the run of a service.
+fn run_first(plain: &Plain, service: &Service, run: &UpdateRun) -> Option<Duty>
+    ensures { let t = (world_of plain.now).tables in result ≡ first_of (run_duties t service.now (Some run.now)) }
+{
+    if !is_under_way(run) {
+        return None;
+    }
+    if fails(plain, service, run) {
+        return Some(Duty::Fail(service.id));
+    }
+    if let Some(duty) = first_change(plain, service, run) {
+        return Some(duty);
+    }
+    if is_to_finish(plain, service, run) {
+        return Some(Duty::Finish(service.id));
+    }
+    None
+}
+
+// The first about the service.
+fn first_update(plain: &Plain, service: &Service) -> Option<Duty>
+    ensures { let t = (world_of plain.now).tables in
+        result ≡ first_of (update_duties t service.now service.now.spec.mode) }
+{
+    if service.spec.mode.is_job() {
+        return None;
+    }
+    if is_to_start(plain, service) {
+        return Some(Duty::Start(service.id));
+    }
+    match &service.run {
+        Some(run) => run_first(plain, service, run),
+        None => None,
+    }
+}
+
+/// The first of these duties.
+pub fn update_first(plain: &Plain) -> Option<Duty>
+    ensures { result ≡ first_of (update (world_of plain.now).tables) }
+{
+    for service in plain.services.as_slice() {
+        let duty = first_update(plain, service);
+        if duty.is_some() {
+            return duty;
         }
     }
     None
 }
 
-// The first about these places of a run.
-#[tactic(auto, using(duty_rows::proofs::First::append_first))]
-fn first_change(plain: &Plain, service: &Service, run: &UpdateRun, numbers: &[u64]) -> Option<Duty>
-    ensures { let t = (world_of plain.now).tables in let s = service.now in
-        let may = is_of_version s run.now && lets_replace t s run.now in
-        result ≡ first_of (places_where (is_of_version s run.now) (is_to_swap t s) (Duty.Swap s.id) numbers.now
-        ++ places_where may (is_to_replace t s) (Duty.Replace s.id) numbers.now) }
+// A place of a suspect task is to get a new one.
+fn any_replacement(plain: &Plain, service: &Service) -> bool
+    ensures { let t = (world_of plain.now).tables in let s = service.now in result
+        ≡ list_any (λ x. is_suspect s x && is_to_replace t s (place_number x.place)) t.tasks }
 {
-    match first_swap(plain, service, run, numbers) {
-        Some(duty) => Some(duty),
-        None => first_replacement(plain, service, run, numbers),
-    }
+    plain.tasks.as_slice().iter().any(|task| is_suspect(service, task)
+        && is_to_replace(plain, service, task.place.place_number()))
 }
 
-// The first about the run of a service.
-fn run_first(plain: &Plain, service: &Service, run: &UpdateRun) -> Result<Option<Duty>, NoMemory>
-    ensures { let t = (world_of plain.now).tables in
-        IfOk result (λ first. first ≡ first_of (run_duties t service.now (Some run.now))) }
+/// A place of the service is to get a new task.
+pub fn has_waiting_place(plain: &Plain, service: &Service) -> bool
+    ensures { result ≡ has_waiting_place (world_of plain.now).tables service.now }
 {
-    if !is_under_way(run) {
-        return Ok(None);
-    }
-    if fails(plain, service, run) {
-        return Ok(Some(Duty::Fail(service.id)));
-    }
-    let numbers = place_numbers(plain, service)?;
-    if let Some(duty) = first_change(plain, service, run, numbers.as_slice()) {
-        return Ok(Some(duty));
-    }
-    if is_to_finish(plain, service, run) {
-        return Ok(Some(Duty::Finish(service.id)));
-    }
-    Ok(None)
-}
-
-// The first about the service.
-fn first_update(plain: &Plain, service: &Service) -> Result<Option<Duty>, NoMemory>
-    ensures { let t = (world_of plain.now).tables in
-        IfOk result (λ first. first ≡ first_of (update_duties t service.now service.now.spec.mode)) }
-{
-    if service.spec.mode.is_job() {
-        return Ok(None);
-    }
-    if is_to_start(plain, service) {
-        return Ok(Some(Duty::Start(service.id)));
-    }
-    match &service.run {
-        Some(run) => run_first(plain, service, run),
-        None => Ok(None),
-    }
-}
-
-/// The first of these duties.
-pub fn update_first(plain: &Plain) -> Result<Option<Duty>, NoMemory>
-    ensures { IfOk result (λ first. first ≡ first_of (update (world_of plain.now).tables)) }
-{
-    for service in plain.services.as_slice() {
-        let duty = first_update(plain, service)?;
-        if duty.is_some() {
-            return Ok(duty);
-        }
-    }
-    Ok(None)
+    any_replacement(plain, service)
 }
 
 // One duty.

@@ -3,6 +3,7 @@ use Rattle.std.proofs.Common.{◌≡◌, ℕ, ◌^◌, List, [], ◌∷◌, ◌+
 use Rattle.std.specs.List.{AllByRecursion, cons_option, filter_map, list_all, list_any}
 use Rattle.std.specs.Str.{bytes_eq}
 use Rattle.std.proofs.lemmas.Option.{same_Some}
+use Rattle.swarm_objects.proofs.Tests.{both, both_are, not-true}
 use Rattle.swarm_objects.specs.declared.calls.Call.{Call}
 use Rattle.swarm_objects.specs.declared.calls.Call.TheVariants as call
 use Rattle.swarm_objects.specs.declared.calls.Op.{Op}
@@ -46,7 +47,7 @@ use Rattle.script_grammar.proofs.DraftHas.{HasFields, HasHead, op_of_has, sessio
 use Rattle.script_grammar.proofs.HasWord.{of_all, wordy}
 use Rattle.script_grammar.proofs.Inversions.{bound, choose, either, never, same, tested}
 use Rattle.script_grammar.proofs.Nodes.{Labels, not_above}
-use Rattle.script_grammar.proofs.Numbers.{same_bytes, and_yes, below_yes, both, number_only, test_some}
+use Rattle.script_grammar.proofs.Numbers.{same_bytes, below_yes, number_only, test_some}
 use Rattle.script_grammar.proofs.ReadIsRight.{field_right, name_only}
 use Rattle.script_grammar.proofs.Rising.{Apart}
 use Rattle.script_grammar.proofs.Subnets.{subnet_only}
@@ -85,10 +86,6 @@ before_key (field.Engine j u) (field.Engine k v) e = not_equal j k e
 before_key f (field.Engine k v) e = refl
 before_key f g e = refl
 
-not_false : (b : Bool) → not b ≡ true → b ≡ false
-not_false true e = cc
-not_false false e = refl
-
 none_clash : (g : Field) (fs : List Field) → list_any (λ f. clashes f g) fs ≡ false → OwnKey fs g
 none_clash g [] e = tt
 none_clash g (f ∷ fs) e = go (clashes f g) refl e (none_clash g fs) where
@@ -99,14 +96,14 @@ none_clash g (f ∷ fs) e = go (clashes f g) refl e (none_clash g fs) where
 all_before_key : (g : Field) (fs : List Field) → list_all (λ f. comes_before f g) fs ≡ true → OwnKey fs g
 all_before_key g [] e = tt
 all_before_key g (f ∷ fs) e =
-    let b = both (comes_before f g) (list_all (λ x. comes_before x g) fs) e in (before_key f g b.0, all_before_key g fs b.1)
+    let b = both_are (comes_before f g) (list_all (λ x. comes_before x g) fs) e in (before_key f g b.0, all_before_key g fs b.1)
 
 own_key : (m : Form) (t : Table) (fs : List Field) (g : Field) (w : List ℕ) → may_stand m t fs g w ≡ true → OwnKey fs g
-own_key form.Script t fs g w e = none_clash g fs (not_false _ (both (belongs t g) (fits fs g) e).1)
+own_key form.Script t fs g w e = none_clash g fs (not-true _ (both_are (belongs t g) (fits fs g) e).1)
 own_key form.Journal t fs g w e =
-    let a = both (belongs t g) (bytes_eq w (field_text g) && follows t fs g) e in
-    let b = both (bytes_eq w (field_text g)) (follows t fs g) a.1 in
-    all_before_key g fs (both (not (is_default t g)) (list_all (λ x. comes_before x g) fs) b.1).1
+    let a = both_are (belongs t g) (bytes_eq w (field_text g) && follows t fs g) e in
+    let b = both_are (bytes_eq w (field_text g)) (follows t fs g) a.1 in
+    all_before_key g fs (both_are (not (is_default t g)) (list_all (λ x. comes_before x g) fs) b.1).1
 
 apart_snoc : (ls : Labels) (l : List ℕ × List ℕ) → Apart ls → AllByRecursion (λ m. bytes_eq l.0 m.0 ≡ false) ls → Apart (ls ++ l ∷ [])
 apart_snoc [] l a h = (tt, tt)
@@ -282,7 +279,7 @@ with_name_has ops verb.NodeRemove h n k = (h, k)
 with_name_has ops verb.ServiceCreate h n k = (h, k, no_fields)
 with_name_has ops verb.ServiceUpdate h n k = (h, (k, refl), no_fields)
 with_name_has ops verb.ServiceRemove h n k = (h, k)
-with_name_has ops verb.ServiceRollback h n k = (h, and_yes _ _ k refl)
+with_name_has ops verb.ServiceRollback h n k = (h, both _ _ k refl)
 with_name_has ops verb.NetworkCreate h n k = (h, k)
 with_name_has ops verb.NetworkRemove h n k = (h, k)
 
@@ -306,8 +303,8 @@ numbered_has number_verb.WatchPoll n k = k
 numbered_has number_verb.WatchClose n k = k
 
 with_session_has : (v : SessionVerb) (name : List ℕ) → is_name name ≡ true → (n : ℕ) → is_number n ≡ true → HasState (with_session v name n)
-with_session_has session_verb.Beat name h n k = and_yes _ _ h k
-with_session_has session_verb.Pull name h n k = and_yes _ _ h k
+with_session_has session_verb.Beat name h n k = both _ _ h k
+with_session_has session_verb.Pull name h n k = both _ _ h k
 with_session_has session_verb.Status name h n k = (h, k)
 
 versioned_has : (ops : List Op) (h : Head) (fs : List Field) (w : List ℕ) (next : State) → HasState (state.Fields ops h fs) → versioned ops h fs w ≡ Some next → HasState next
@@ -333,7 +330,7 @@ fields_have m ops h fs w next s e =
 behind_has : (ops : List Op) (o : Op) (w : List ℕ) (next : State) → HasOps ops → op_has_text o ≡ true → behind_op ops o w ≡ Some next → HasState next
 behind_has ops (op.RemoveNode n false) w next h k e = choose HasState w (codes "force") (state.Operation ops (op.RemoveNode n true)) None next (λ x. (h, k)) (never HasState next) e
 behind_has ops (op.RollbackService n None) w next h k e =
-    version_has (λ v. state.Operation ops (op.RollbackService n (Some v))) w next (λ v x. (h, and_yes _ _ (both (is_name n) true k).0 x)) e
+    version_has (λ v. state.Operation ops (op.RollbackService n (Some v))) w next (λ v x. (h, both _ _ (both_are (is_name n) true k).0 x)) e
 behind_has ops o w next h k e = cc
 
 filter_has : (w : List ℕ) (f : Filter) → filter_of w ≡ Some f → call_has_text (call.WatchBegin f) ≡ true
@@ -348,7 +345,7 @@ filter_has w f e =
 
 may_write_budget : (m : Form) (n : ℕ) → may_write m n ≡ true → is_budget n ≡ true
 may_write_budget form.Script n e = e
-may_write_budget form.Journal n e = (both (is_budget n) (not (nat_eq n largest_budget)) e).0
+may_write_budget form.Journal n e = (both_are (is_budget n) (not (nat_eq n largest_budget)) e).0
 
 settle_has : (m : Form) (w : List ℕ) (next : State) → (budget_of m w >>= λ n. Some (state.Done (call.Settle n))) ≡ Some next → HasState next
 settle_has m w next e =
@@ -360,7 +357,7 @@ settle_has m w next e =
 done_has : (c : Call) (w : List ℕ) (next : State) → call_has_text c ≡ true → behind_call c w ≡ Some next → HasState next
 done_has (call.View (query.ListTasks None)) w next h e = name_has (λ n. state.Done (call.View (query.ListTasks (Some n)))) w next (λ n k. k) e
 done_has (call.WatchBegin f) w next h e =
-    number_has (λ n. state.Done (call.WatchBegin (with_id f n))) w next (λ n k. and_yes _ _ (both (where_some is_watched f.kind) (where_some is_number f.id) h).0 k)
+    number_has (λ n. state.Done (call.WatchBegin (with_id f n))) w next (λ n k. both _ _ (both_are (where_some is_watched f.kind) (where_some is_number f.id) h).0 k)
     (tested _ (number_of w >>= λ n. Some (state.Done (call.WatchBegin (with_id f n)))) next e).1
 done_has c w next h e = cc
 
@@ -374,7 +371,7 @@ step_has m (state.Fields ops hd fs) w next h e = fields_have m ops hd fs w next 
 step_has m (state.Subnet ops n) w next h e =
     let b = bound (subnet_of w) (λ s. Some (state.Operation ops (op.CreateNetwork n s.0 s.1))) next e in
     let k = subnet_only w b.0.0 b.0.1 b.1 in
-    subst HasState (same_Some _ next b.2) (h.0, and_yes _ _ h.1 (and_yes _ _ (below_yes b.0.0 (2 ^ 32) k.1) (below_yes b.0.1 256 k.2)))
+    subst HasState (same_Some _ next b.2) (h.0, both _ _ h.1 (both _ _ (below_yes b.0.0 (2 ^ 32) k.1) (below_yes b.0.1 256 k.2)))
 step_has m (state.Operation ops o) w next h e =
     choose HasState w (codes ";") (state.Opening (ops ++ o ∷ [])) _ next (λ k. ops_snoc ops o h.0 h.1) (behind_has ops o w next h.0 h.1) e
 step_has m (state.CallNoun n) w next h e = call_second_has n w next e
@@ -390,7 +387,7 @@ step_has m (state.Session v name) w next h e = number_has (with_session v name) 
 step_has m (state.StatusTask name s) w next h e = number_has (λ t. state.StatusState name s t) w next (λ t k. (h.0, h.1, k)) e
 step_has m (state.StatusState name s t) w next h e =
     let b = bound (state_of w) (λ x. Some (state.Done (call.RemoteStatus name s t x))) next e in
-    subst HasState (same_Some _ next b.2) (and_yes _ _ h.0 (and_yes _ _ h.1 h.2))
+    subst HasState (same_Some _ next b.2) (both _ _ h.0 (both _ _ h.1 h.2))
 step_has m state.Settle w next h e = settle_has m w next e
 step_has m (state.Done c) w next h e = done_has c w next h e
 
@@ -401,7 +398,7 @@ run_has m (w ∷ ws) s t h e =
     run_has m ws b.0 t (step_has m s w b.0 h b.1) b.2
 
 txn_has : (ops : List Op) (o : Op) → HasOps ops → op_has_text o ≡ true → call_has_text (call.Txn (ops ++ o ∷ [])) ≡ true
-txn_has ops o h k = and_yes _ _ (some ops) (of_all op_has_text (ops ++ o ∷ []) (ops_snoc ops o h k)) where
+txn_has ops o h k = both _ _ (some ops) (of_all op_has_text (ops ++ o ∷ []) (ops_snoc ops o h k)) where
   some : (ops : List Op) → not (is_empty (ops ++ o ∷ [])) ≡ true
   some [] = refl
   some (p ∷ ops) = refl
@@ -410,7 +407,7 @@ pub whole_has : (s : State) (c : Call) → HasState s → whole s ≡ Some c →
 whole_has (state.Fields ops h fs) c s e = subst (λ x. call_has_text x ≡ true) (same_Some _ c e) (txn_has ops (op_of h fs) s.0 (op_of_has h fs s.1 s.2))
 whole_has (state.Operation ops o) c s e = subst (λ x. call_has_text x ≡ true) (same_Some _ c e) (txn_has ops o s.0 s.1)
 whole_has (state.SessionFields n fs) c s e =
-    subst (λ x. call_has_text x ≡ true) (same_Some _ c e) (and_yes _ _ s.0 (of_all has_word _ (session_wordy fs s.1.words)))
+    subst (λ x. call_has_text x ≡ true) (same_Some _ c e) (both _ _ s.0 (of_all has_word _ (session_wordy fs s.1.words)))
 whole_has state.Settle c s e = subst (λ x. call_has_text x ≡ true) (same_Some _ c e) refl
 whole_has (state.Done d) c s e = subst (λ x. call_has_text x ≡ true) (same_Some d c e) s
 whole_has s c h e = cc

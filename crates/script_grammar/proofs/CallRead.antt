@@ -2,6 +2,7 @@
 use Rattle.std.proofs.Common.{◌≡◌, ℕ, ◌<◌, ◌≤◌, ◌^◌, List, [], ◌∷◌, ◌++◌, codes, decimal, Bool, true, false, cond, ◌&&◌, not, refl, sym, ◌∙◌, ap, Option, Some, None, append_assoc, arith, nat_eq, nat_le}
 use Rattle.std.specs.List.{AllByRecursion, list_all}
 use Rattle.std.proofs.lemmas.Bool.Decides.{nat_tests}
+use Rattle.swarm_objects.proofs.Tests.{both, both_are}
 use Rattle.swarm_objects.specs.declared.calls.Op.{Op}
 use Rattle.swarm_objects.specs.declared.calls.Op.TheVariants as op
 use Rattle.swarm_objects.specs.declared.calls.Call.{Call}
@@ -31,7 +32,7 @@ use Rattle.script_grammar.specs.declared.states.State.TheVariants as state
 use Rattle.script_grammar.specs.declared.states.Verb.{Verb}
 use Rattle.script_grammar.specs.declared.states.Verb.TheVariants as verb
 use Rattle.swarm_filters.specs.Grammar.{is_name}
-use Rattle.script_grammar.specs.Words.{number_of, ◌>>=◌}
+use Rattle.script_grammar.specs.Words.{◌>>=◌}
 use Rattle.swarm_objects.specs.Limits.{largest_budget}
 use Rattle.script_grammar.specs.Calls.{call_grammar, call_named, call_numbered, is_budget, is_empty, may_write, op_of, state_of, step, version_of, whole, with_name, with_session}
 use Rattle.script_grammar.specs.HasText.{call_has_text, draft_has_text, has_word, have_words, is_address, is_byte, is_number, is_watched, keys_rise, node_has_text, op_has_text, query_has_text, where_some}
@@ -40,14 +41,15 @@ use Rattle.script_grammar.specs.Pieces.{joined, node_pieces, old_node_pieces, se
 use Rattle.script_grammar.specs.Texts.{call_words, op_words, ops_words, pieces_words, subnet_text}
 use Rattle.script_grammar.proofs.AllSpelled.{spelled}
 use Rattle.script_grammar.proofs.Canonical.{IsSpelled, node_canonical, old_canonical, read_fields, read_session, service_canonical, session_canonical, settings_canonical}
-use Rattle.script_grammar.proofs.HasWord.{Wordy, all_of, spellable}
+use Rattle.script_grammar.proofs.HasWord.{Wordy, spellable}
 use Rattle.script_grammar.proofs.NodeBack.{node_draft, old_availability, old_labels, old_role, rises_by, session_cpu, session_mem, settings_back}
 use Rattle.script_grammar.proofs.Nodes.{Labels, Rises}
-use Rattle.script_grammar.proofs.Numbers.{and_yes, below_only, both, number_yes}
+use Rattle.script_grammar.proofs.Numbers.{all_of, below_only, number_yes}
 use Rattle.script_grammar.proofs.SaysLaw.{run-append}
 use Rattle.script_grammar.proofs.ServiceBack.{service_draft}
 use Rattle.script_grammar.proofs.Spelled.{name_yes}
 use Rattle.script_grammar.proofs.Subnets.{subnet_yes}
+use Rattle.script_grammar.proofs.DutyLaws.{number_yes_of}
 
 -- a journal's words from a state on
 abbrev runs : State → List (List ℕ) → Option State
@@ -64,17 +66,14 @@ named_run ops v n ws h = ap (λ (o : Option (List ℕ)). next_run ws (o >>= λ x
 call_run : (v : CallVerb) (n : List ℕ) (ws : List (List ℕ)) → is_name n ≡ true → runs (state.CallVerb v) (n ∷ ws) ≡ runs (call_named v n) ws
 call_run v n ws h = ap (λ (o : Option (List ℕ)). next_run ws (o >>= λ x. Some (call_named v x))) (name_yes n h)
 
-number_is_read : (n : ℕ) → is_number n ≡ true → number_of (decimal n) ≡ Some n
-number_is_read n h = let k = below_only n (2 ^ 64) h in number_yes (2 ^ 64) n k k
-
 number_run : (v : NumberVerb) (n : ℕ) → is_number n ≡ true → runs (state.Number v) (decimal n ∷ []) ≡ Some (state.Done (call_numbered v n))
-number_run v n h = ap (λ (o : Option ℕ). next_run [] (o >>= λ x. Some (state.Done (call_numbered v x)))) (number_is_read n h)
+number_run v n h = ap (λ (o : Option ℕ). next_run [] (o >>= λ x. Some (state.Done (call_numbered v x)))) (number_yes_of n h)
 
 session_run : (v : SessionVerb) (name : List ℕ) (n : ℕ) (ws : List (List ℕ)) → is_number n ≡ true → runs (state.Session v name) (decimal n ∷ ws) ≡ runs (with_session v name n) ws
-session_run v name n ws h = ap (λ (o : Option ℕ). next_run ws (o >>= λ x. Some (with_session v name x))) (number_is_read n h)
+session_run v name n ws h = ap (λ (o : Option ℕ). next_run ws (o >>= λ x. Some (with_session v name x))) (number_yes_of n h)
 
 version_yes : (v : ℕ) → is_number v ≡ true → version_of (64 ∷ decimal v) ≡ Some v
-version_yes v h = number_is_read v h
+version_yes v h = number_yes_of v h
 
 all_spelled : (fs : List Field) → Wordy fs → AllByRecursion IsSpelled fs
 all_spelled [] h = tt
@@ -119,25 +118,25 @@ old_op n v ls r a l = let e = old_labels ls r a l in let f = old_role ls r a l i
 
 pub leads : (ops : List Op) (o : Op) → op_has_text o ≡ true → Leads ops o
 leads ops (op.CreateNode n d) h =
-    let a = both (is_name n) (node_has_text d) h in
-    let b = both (have_words (node_pieces d)) (keys_rise d.labels && keys_rise d.engine) a.1 in
-    let c = both (keys_rise d.labels) (keys_rise d.engine) b.1 in
+    let a = both_are (is_name n) (node_has_text d) h in
+    let b = both_are (have_words (node_pieces d)) (keys_rise d.labels && keys_rise d.engine) a.1 in
+    let c = both_are (keys_rise d.labels) (keys_rise d.engine) b.1 in
     let l = rises_by d.labels c.0 in
     let e = rises_by d.engine c.1 in
     leads_fields ops (head.CreateNode n) (joined (node_pieces d)) (op.CreateNode n d)
     (named_run ops verb.NodeJoin n (pieces_words (node_pieces d)) a.0 ∙ read_fields ops (head.CreateNode n) (joined (node_pieces d)) (words_spelled _ b.0) (node_canonical d l e))
     (ap (op.CreateNode n) (node_draft d l e))
 leads ops (op.UpdateNode n None ls r a) h =
-    let k = both (is_name n) (true && (have_words (old_node_pieces ls r a) && keys_rise ls)) h in
-    let b = both (have_words (old_node_pieces ls r a)) (keys_rise ls) k.1 in
+    let k = both_are (is_name n) (true && (have_words (old_node_pieces ls r a) && keys_rise ls)) h in
+    let b = both_are (have_words (old_node_pieces ls r a)) (keys_rise ls) k.1 in
     let l = rises_by ls b.1 in
     leads_fields ops (head.UpdateNode n None) (joined (old_node_pieces ls r a)) (op.UpdateNode n None ls r a)
     (named_run ops verb.NodeUpdate n (pieces_words (old_node_pieces ls r a)) k.0 ∙ read_fields ops (head.UpdateNode n None) (joined (old_node_pieces ls r a)) (words_spelled _ b.0) (old_canonical ls r a l))
     (old_op n None ls r a l)
 leads ops (op.UpdateNode n (Some v) ls r a) h =
-    let k = both (is_name n) (is_number v && (have_words (old_node_pieces ls r a) && keys_rise ls)) h in
-    let u = both (is_number v) (have_words (old_node_pieces ls r a) && keys_rise ls) k.1 in
-    let b = both (have_words (old_node_pieces ls r a)) (keys_rise ls) u.1 in
+    let k = both_are (is_name n) (is_number v && (have_words (old_node_pieces ls r a) && keys_rise ls)) h in
+    let u = both_are (is_number v) (have_words (old_node_pieces ls r a) && keys_rise ls) k.1 in
+    let b = both_are (have_words (old_node_pieces ls r a)) (keys_rise ls) u.1 in
     let l = rises_by ls b.1 in
     leads_fields ops (head.UpdateNode n (Some v)) (joined (old_node_pieces ls r a)) (op.UpdateNode n (Some v) ls r a)
     (
@@ -147,21 +146,21 @@ leads ops (op.UpdateNode n (Some v) ls r a) h =
     )
     (old_op n (Some v) ls r a l)
 leads ops (op.CreateService n d) h =
-    let a = both (is_name n) (draft_has_text d) h in
-    let b = both (have_words (service_pieces d)) (is_empty d.spec.template.networks) a.1 in
+    let a = both_are (is_name n) (draft_has_text d) h in
+    let b = both_are (have_words (service_pieces d)) (is_empty d.spec.template.networks) a.1 in
     leads_fields ops (head.CreateService n) (joined (service_pieces d)) (op.CreateService n d)
     (named_run ops verb.ServiceCreate n (pieces_words (service_pieces d)) a.0 ∙ read_fields ops (head.CreateService n) (joined (service_pieces d)) (words_spelled _ b.0) (service_canonical d))
     (ap (op.CreateService n) (service_draft d (empty_only d.spec.template.networks b.1)))
 leads ops (op.UpdateService n None d) h =
-    let a = both (is_name n) (true && draft_has_text d) h in
-    let b = both (have_words (service_pieces d)) (is_empty d.spec.template.networks) a.1 in
+    let a = both_are (is_name n) (true && draft_has_text d) h in
+    let b = both_are (have_words (service_pieces d)) (is_empty d.spec.template.networks) a.1 in
     leads_fields ops (head.UpdateService n None) (joined (service_pieces d)) (op.UpdateService n None d)
     (named_run ops verb.ServiceUpdate n (pieces_words (service_pieces d)) a.0 ∙ read_fields ops (head.UpdateService n None) (joined (service_pieces d)) (words_spelled _ b.0) (service_canonical d))
     (ap (op.UpdateService n None) (service_draft d (empty_only d.spec.template.networks b.1)))
 leads ops (op.UpdateService n (Some v) d) h =
-    let a = both (is_name n) (is_number v && draft_has_text d) h in
-    let u = both (is_number v) (draft_has_text d) a.1 in
-    let b = both (have_words (service_pieces d)) (is_empty d.spec.template.networks) u.1 in
+    let a = both_are (is_name n) (is_number v && draft_has_text d) h in
+    let u = both_are (is_number v) (draft_has_text d) a.1 in
+    let b = both_are (have_words (service_pieces d)) (is_empty d.spec.template.networks) u.1 in
     leads_fields ops (head.UpdateService n (Some v)) (joined (service_pieces d)) (op.UpdateService n (Some v) d)
     (
     named_run ops verb.ServiceUpdate n ((64 ∷ decimal v) ∷ pieces_words (service_pieces d)) a.0
@@ -174,21 +173,21 @@ leads ops (op.RemoveNode n false) h = record { to = state.Operation ops (op.Remo
 leads ops (op.RemoveNode n true) h = record { to = state.Operation ops (op.RemoveNode n true); read = named_run ops verb.NodeRemove n (codes "force" ∷ []) h; ended = refl; more = refl }
 leads ops (op.RollbackService n None) h = record {
   to = state.Operation ops (op.RollbackService n None);
-  read = named_run ops verb.ServiceRollback n [] (both (is_name n) true h).0;
+  read = named_run ops verb.ServiceRollback n [] (both_are (is_name n) true h).0;
   ended = refl;
   more = refl;
 }
 leads ops (op.RollbackService n (Some v)) h = record {
   to = state.Operation ops (op.RollbackService n (Some v));
   read =
-      named_run ops verb.ServiceRollback n ((64 ∷ decimal v) ∷ []) (both (is_name n) (is_number v) h).0
-      ∙ ap (λ (o : Option ℕ). next_run [] (o >>= λ x. Some (state.Operation ops (op.RollbackService n (Some x))))) (version_yes v (both (is_name n) (is_number v) h).1);
+      named_run ops verb.ServiceRollback n ((64 ∷ decimal v) ∷ []) (both_are (is_name n) (is_number v) h).0
+      ∙ ap (λ (o : Option ℕ). next_run [] (o >>= λ x. Some (state.Operation ops (op.RollbackService n (Some x))))) (version_yes v (both_are (is_name n) (is_number v) h).1);
   ended = refl;
   more = refl;
 }
 leads ops (op.CreateNetwork n base length) h =
-    let a = both (is_name n) (is_address base && is_byte length) h in
-    let b = both (is_address base) (is_byte length) a.1 in
+    let a = both_are (is_name n) (is_address base && is_byte length) h in
+    let b = both_are (is_address base) (is_byte length) a.1 in
     record {
       to = state.Operation ops (op.CreateNetwork n base length);
       read =
@@ -229,7 +228,7 @@ then_whole e f = ap (λ (o : Option State). o >>= whole) e ∙ f
 
 txn_read : (ops : List Op) → call_has_text (call.Txn ops) ≡ true → IsRead (call.Txn ops)
 txn_read [] h = cc
-txn_read (o ∷ ops) h = let a = both (op_has_text o) (list_all op_has_text ops) h in read_ops [] o ops a.0 (all_of op_has_text ops a.1)
+txn_read (o ∷ ops) h = let a = both_are (op_has_text o) (list_all op_has_text ops) h in read_ops [] o ops a.0 (all_of op_has_text ops a.1)
 
 query_read : (q : Query) → query_has_text q ≡ true → IsRead (call.View q)
 query_read query.ListNodes h = refl
@@ -248,7 +247,7 @@ abbrev filter : Option Kind → Option ℕ → Filter
 filter k i = record { kind = k; id = i }
 
 with_id_run : (k : Option Kind) (n : ℕ) → is_number n ≡ true → runs (state.Done (call.WatchBegin (filter k None))) (decimal n ∷ []) ≡ Some (state.Done (call.WatchBegin (filter k (Some n))))
-with_id_run k n h = ap (λ (o : Option ℕ). next_run [] (o >>= λ x. Some (state.Done (call.WatchBegin (filter k (Some x)))))) (number_is_read n h)
+with_id_run k n h = ap (λ (o : Option ℕ). next_run [] (o >>= λ x. Some (state.Done (call.WatchBegin (filter k (Some x)))))) (number_yes_of n h)
 
 watch_read : (k : Option Kind) (i : Option ℕ) → where_some is_watched k ≡ true → where_some is_number i ≡ true → IsRead (call.WatchBegin (filter k i))
 watch_read None None h g = refl
@@ -280,13 +279,13 @@ state_back task_state.Remove = refl
 state_back task_state.Orphaned = refl
 
 task_run : (name : List ℕ) (s t : ℕ) (ws : List (List ℕ)) → is_number t ≡ true → runs (state.StatusTask name s) (decimal t ∷ ws) ≡ runs (state.StatusState name s t) ws
-task_run name s t ws h = ap (λ (o : Option ℕ). next_run ws (o >>= λ x. Some (state.StatusState name s x))) (number_is_read t h)
+task_run name s t ws h = ap (λ (o : Option ℕ). next_run ws (o >>= λ x. Some (state.StatusState name s x))) (number_yes_of t h)
 
 state_run : (name : List ℕ) (s t : ℕ) (x : TaskState) → runs (state.StatusState name s t) (state_text x ∷ []) ≡ Some (state.Done (call.RemoteStatus name s t x))
 state_run name s t x = ap (λ (o : Option TaskState). next_run [] (o >>= λ y. Some (state.Done (call.RemoteStatus name s t y)))) (state_back x)
 
 budget_number : (n : ℕ) → is_budget n ≡ true → n < 2 ^ 64
-budget_number n h = let b = both (nat_le 1 n) (nat_le n largest_budget) h in let k : n ≤ largest_budget = at_most n b.1 in omega (arith, k) where
+budget_number n h = let b = both_are (nat_le 1 n) (nat_le n largest_budget) h in let k : n ≤ largest_budget = at_most n b.1 in omega (arith, k) where
   at_most : (n : ℕ) → nat_le n largest_budget ≡ true → n ≤ largest_budget
   at_most n e = grind (arith, nat_tests)
 
@@ -299,7 +298,7 @@ settle_read n h = go (nat_eq n largest_budget) refl where
   go false e =
       let k = budget_number n h in
       ap (λ (o : Option ℕ). (next_run [] ((o >>= λ m. cond (may_write form.Journal m) (Some m) None) >>= λ m. Some (state.Done (call.Settle m)))) >>= whole) (number_yes (2 ^ 64) n k k)
-      ∙ ap (λ b. (next_run [] ((cond b (Some n) None) >>= λ m. Some (state.Done (call.Settle m)))) >>= whole) (and_yes _ _ h (ap not e))
+      ∙ ap (λ b. (next_run [] ((cond b (Some n) None) >>= λ m. Some (state.Done (call.Settle m)))) >>= whole) (both _ _ h (ap not e))
 
 session_read : (n : List ℕ) (cpu mem : Option ℕ) → is_name n ≡ true → list_all has_word (joined (session_pieces cpu mem)) ≡ true → IsRead (call.RemoteBegin n cpu mem)
 session_read n cpu mem h w =
@@ -309,7 +308,7 @@ session_read n cpu mem h w =
 pub call_read : (c : Call) → call_has_text c ≡ true → IsRead c
 call_read (call.Txn ops) h = txn_read ops h
 call_read (call.View q) h = query_read q h
-call_read (call.WatchBegin f) h = let b = both (where_some is_watched f.kind) (where_some is_number f.id) h in watch_read f.kind f.id b.0 b.1
+call_read (call.WatchBegin f) h = let b = both_are (where_some is_watched f.kind) (where_some is_number f.id) h in watch_read f.kind f.id b.0 b.1
 call_read (call.WatchPoll id) h = then_whole (number_run number_verb.WatchPoll id h) refl
 call_read (call.WatchFinish id) h = then_whole (number_run number_verb.WatchClose id h) refl
 call_read (call.Tick n) h = then_whole (number_run number_verb.Tick n h) refl
@@ -318,16 +317,16 @@ call_read (call.NodeFail n) h = then_whole (call_run call_verb.NodeFail n [] h) 
 call_read (call.NodeStart n) h = then_whole (call_run call_verb.NodeStart n [] h) refl
 call_read (call.AgentStop n) h = then_whole (call_run call_verb.AgentStop n [] h) refl
 call_read (call.AgentStart n) h = then_whole (call_run call_verb.AgentStart n [] h) refl
-call_read (call.RemoteBegin n cpu mem) h = let b = both (is_name n) (have_words (session_pieces cpu mem)) h in session_read n cpu mem b.0 b.1
+call_read (call.RemoteBegin n cpu mem) h = let b = both_are (is_name n) (have_words (session_pieces cpu mem)) h in session_read n cpu mem b.0 b.1
 call_read (call.RemoteBeat n session) h =
-    let b = both (is_name n) (is_number session) h in
+    let b = both_are (is_name n) (is_number session) h in
     then_whole (call_run call_verb.RemoteBeat n (decimal session ∷ []) b.0 ∙ session_run session_verb.Beat n session [] b.1) refl
 call_read (call.RemotePull n session) h =
-    let b = both (is_name n) (is_number session) h in
+    let b = both_are (is_name n) (is_number session) h in
     then_whole (call_run call_verb.RemotePull n (decimal session ∷ []) b.0 ∙ session_run session_verb.Pull n session [] b.1) refl
 call_read (call.RemoteStatus n session task s) h =
-    let a = both (is_name n) (is_number session && is_number task) h in
-    let b = both (is_number session) (is_number task) a.1 in
+    let a = both_are (is_name n) (is_number session && is_number task) h in
+    let b = both_are (is_number session) (is_number task) a.1 in
     then_whole (
     call_run call_verb.RemoteStatus n (decimal session ∷ decimal task ∷ state_text s ∷ []) a.0
     ∙ session_run session_verb.Status n session (decimal task ∷ state_text s ∷ []) b.0

@@ -1,7 +1,8 @@
 -- The fields that a draft writes are canonical, and a journal's line reads them one after the other.
-use Rattle.std.proofs.Common.{◌≡◌, ℕ, codes, ◌≤◌, ◌+◌, List, [], ◌∷◌, ◌++◌, map, Bool, true, false, cond, ◌||◌, not, refl, sym, ◌∙◌, ap, subst, Option, Some, None, arith, nat_lt, append-nil, append_assoc}
+use Rattle.std.proofs.Common.{◌≡◌, ℕ, codes, ◌≤◌, ◌+◌, List, [], ◌∷◌, ◌++◌, map, true, false, cond, not, refl, sym, ◌∙◌, ap, subst, Option, Some, None, arith, nat_lt, append-nil, append_assoc}
 use Rattle.std.specs.List.{list_all, AllByRecursion}
 use Rattle.std.specs.Str.{bytes_eq}
+use Rattle.swarm_objects.proofs.Tests.{both, or_left}
 use Rattle.swarm_objects.specs.declared.calls.Op.{Op}
 use Rattle.swarm_objects.specs.declared.services.Draft.{Draft}
 use Rattle.script_grammar.specs.declared.fields.Field.{Field}
@@ -19,7 +20,7 @@ use Rattle.swarm_objects.specs.declared.nodes.NodeRole.{NodeRole}
 use Rattle.swarm_objects.specs.declared.settings.Settings.{Settings}
 use Rattle.script_grammar.proofs.NodeBack.{node_is, node_table, old_is, old_table, session_is, session_table, settings_is, settings_table}
 use Rattle.script_grammar.proofs.Nodes.{Labels, Rises}
-use Rattle.script_grammar.proofs.Numbers.{and_yes, below_yes, same_bytes}
+use Rattle.script_grammar.proofs.Numbers.{below_yes, same_bytes, test_yes}
 use Rattle.script_grammar.proofs.FieldRows.{InRow, Pieces, flat}
 use Rattle.script_grammar.proofs.Services.{IsCanonical}
 use Rattle.script_grammar.proofs.Sorted.{From, Sorted}
@@ -44,13 +45,10 @@ from_flat t n m [] le h = tt
 from_flat t n m (p ∷ ps) le h =
     all_append (λ f. m ≤ row f) p.1 (flat ps) (from_in_row m p.0 p.1 (omega (arith, h.0)) h.1.in_row) (from_flat t (p.0 + 1) m ps (omega (arith, h.0)) h.2)
 
-yes_or : (a b : Bool) → a ≡ true → (a || b) ≡ true
-yes_or a b e = ap (λ x. x || b) e
-
 before_all : (f : Field) (r : ℕ) (gs : List Field) → row f ≡ r → From (r + 1) gs → AllByRecursion (λ g. comes_before f g ≡ true) gs
 before_all f r [] e h = tt
 before_all f r (g ∷ gs) e h =
-    (yes_or (nat_lt (row f) (row g)) _ (below_yes (row f) (row g) (omega (arith, e, h.0))), before_all f r gs e h.1)
+    (or_left (nat_lt (row f) (row g)) _ (below_yes (row f) (row g) (omega (arith, e, h.0))), before_all f r gs e h.1)
 
 sorted_append : (r : ℕ) (fs gs : List Field) → InRow r fs → Sorted fs → From (r + 1) gs → Sorted gs → Sorted (fs ++ gs)
 sorted_append r [] gs i s h k = k
@@ -96,18 +94,15 @@ Follows fs g = AllByRecursion (λ f. comes_before f g ≡ true) fs
 
 follows_yes : (fs : List Field) (g : Field) → Follows fs g → list_all (λ f. comes_before f g) fs ≡ true
 follows_yes [] g h = refl
-follows_yes (f ∷ fs) g h = and_yes (comes_before f g) (list_all (λ x. comes_before x g) fs) h.0 (follows_yes fs g h.1)
-
-test_some_yes : {A : Type 0} (b : Bool) (x : A) → b ≡ true → cond b (Some x) None ≡ Some x
-test_some_yes b x e = ap (λ t. cond t (Some x) None) e
+follows_yes (f ∷ fs) g h = both (comes_before f g) (list_all (λ x. comes_before x g) fs) h.0 (follows_yes fs g h.1)
 
 pub next_yes : (t : Table) (fs : List Field) (g : Field) → IsSpelled g → belongs t g ≡ true → is_default t g ≡ false → Follows fs g →
     next_field form.Journal t fs (field_text g) ≡ Some (fs ++ g ∷ [])
 next_yes t fs g s b d f =
     let stands : may_stand form.Journal t fs g (field_text g) ≡ true =
-    and_yes _ _ b (and_yes _ _ (same_bytes (field_text g)) (and_yes _ _ (ap not d) (follows_yes fs g f))) in
+    both _ _ b (both _ _ (same_bytes (field_text g)) (both _ _ (ap not d) (follows_yes fs g f))) in
     ap (λ o. o >>= λ x. cond (may_stand form.Journal t fs x (field_text g)) (Some (fs ++ x ∷ [])) None) s.back
-    ∙ test_some_yes _ _ stands
+    ∙ test_yes _ _ stands
 
 pub read_one : (ops : List Op) (h : Head) (fs : List Field) (g : Field) → IsSpelled g → belongs (table_of h) g ≡ true → is_default (table_of h) g ≡ false → Follows fs g →
     step form.Journal (state.Fields ops h fs) (field_text g) ≡ Some (state.Fields ops h (fs ++ g ∷ []))

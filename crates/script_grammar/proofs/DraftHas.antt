@@ -3,6 +3,7 @@ use Rattle.std.proofs.Common.{◌≡◌, ℕ, List, [], ◌∷◌, ◌++◌, tak
 use Rattle.std.specs.List.{AllByRecursion, filter_map, list_all}
 use Rattle.std.proofs.lemmas.Option.{same_Some}
 use Rattle.std.specs.Option.{option_or}
+use Rattle.swarm_objects.proofs.Tests.{both}
 use Rattle.swarm_objects.specs.declared.nodes.Availability.{Availability}
 use Rattle.swarm_objects.specs.declared.nodes.Availability.TheVariants as availability
 use Rattle.swarm_objects.specs.declared.nodes.NodeRole.{NodeRole}
@@ -34,7 +35,6 @@ use Rattle.script_grammar.specs.Tables.{number_default, number_row}
 use Rattle.script_grammar.proofs.Canonical.{all_append}
 use Rattle.script_grammar.proofs.HasWord.{Wordy, many_wordy, of_all, once_wordy}
 use Rattle.script_grammar.proofs.Nodes.{Labels}
-use Rattle.script_grammar.proofs.Numbers.{and_yes}
 use Rattle.script_grammar.proofs.Rising.{Apart, keys_rise_yes, labels_rising}
 
 -- fields of which each has a word, and no two labels one key
@@ -266,9 +266,9 @@ have fs h = of_all has_word fs h
 
 pub op_of_has : (h : Head) (fs : List Field) → HasHead h → HasFields fs → op_has_text (op_of h fs) ≡ true
 op_of_has (head.CreateNode n) fs k h =
-    and_yes _ _ k (and_yes _ _ (have _ (node_wordy fs h.words)) (and_yes _ _ (keys_rise_yes _ (labels_rising _ h.labels)) (keys_rise_yes _ (labels_rising _ h.engines))))
+    both _ _ k (both _ _ (have _ (node_wordy fs h.words)) (both _ _ (keys_rise_yes _ (labels_rising _ h.labels)) (keys_rise_yes _ (labels_rising _ h.engines))))
 op_of_has (head.UpdateNode n v) fs k h =
-    and_yes _ _ k.0 (and_yes _ _ k.1 (and_yes _ _ (have _ (old_wordy fs h.words)) (keys_rise_yes _ (labels_rising _ h.labels))))
-op_of_has (head.CreateService n) fs k h = and_yes _ _ k (and_yes _ _ (have _ (service_wordy fs h.words)) refl)
-op_of_has (head.UpdateService n v) fs k h = and_yes _ _ k.0 (and_yes _ _ k.1 (and_yes _ _ (have _ (service_wordy fs h.words)) refl))
+    both _ _ k.0 (both _ _ k.1 (both _ _ (have _ (old_wordy fs h.words)) (keys_rise_yes _ (labels_rising _ h.labels))))
+op_of_has (head.CreateService n) fs k h = both _ _ k (both _ _ (have _ (service_wordy fs h.words)) refl)
+op_of_has (head.UpdateService n v) fs k h = both _ _ k.0 (both _ _ k.1 (both _ _ (have _ (service_wordy fs h.words)) refl))
 op_of_has head.SetCluster fs k h = have _ (settings_wordy fs h.words)

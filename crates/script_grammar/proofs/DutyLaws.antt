@@ -3,6 +3,7 @@ use Rattle.std.proofs.Common.{◌≡◌, ℕ, ◌^◌, List, [], ◌∷◌, ◌+
 use Rattle.std.specs.Fmt.{digits}
 use Rattle.std.specs.Str.{bytes_eq}
 use Rattle.std.proofs.lemmas.Option.{same_Some}
+use Rattle.swarm_objects.proofs.Tests.{both, both_are}
 use Rattle.swarm_objects.specs.Kinds.{bit, role_of, roles}
 use Rattle.swarm_objects.specs.DutyTexts.{duty_kind, duty_words, loop_word}
 use Rattle.swarm_objects.specs.declared.loops.Role.{Role}
@@ -20,7 +21,7 @@ use Rattle.script_grammar.specs.HasText.{duty_has_text, is_number, is_port}
 use Rattle.script_grammar.specs.Machines.{IsSaid, run}
 use Rattle.script_grammar.specs.Words.{number_of, port_number, ◌>>=◌}
 use Rattle.script_grammar.proofs.Inversions.{bound, choose, found, never, same}
-use Rattle.script_grammar.proofs.Numbers.{and_yes, below_only, below_yes, both, number_only, number_yes}
+use Rattle.script_grammar.proofs.Numbers.{below_only, below_yes, number_only, number_yes}
 
 -- ## The words of a duty are read back
 
@@ -34,7 +35,7 @@ next_run ws o = o >>= λ s. runs s ws
 abbrev pub IsRead : Duty → Type 0
 IsRead d = IsSaid duty_grammar (duty_words d) d
 
-number_yes_of : (n : ℕ) → is_number n ≡ true → number_of (decimal n) ≡ Some n
+pub number_yes_of : (n : ℕ) → is_number n ≡ true → number_of (decimal n) ≡ Some n
 number_yes_of n h = let k = below_only n (2 ^ 64) h in number_yes (2 ^ 64) n k k
 
 one_run : (k : OneNumber) (n : ℕ) → is_number n ≡ true → (runs (state.One k) (decimal n ∷ []) >>= duty_whole) ≡ Some (one_duty k n)
@@ -93,38 +94,38 @@ port_read s target udp h g =
     ∙ ap (λ (o : Option Bool). next_run [] (o >>= λ u. Some (state.Done (duty.Port s target u))) >>= duty_whole) (bit_back udp)
 
 pub duty_read : (d : Duty) → duty_has_text d ≡ true → IsRead d
-duty_read (duty.Expire n) h = one_read one.Expire n (both (is_number n) true h).0
-duty_read (duty.Orphan n) h = one_read one.Orphan n (both (is_number n) true h).0
-duty_read (duty.Reject n) h = one_read one.Reject n (both (is_number n) true h).0
-duty_read (duty.Restart n) h = one_read one.Restart n (both (is_number n) true h).0
-duty_read (duty.Raise n) h = one_read one.Raise n (both (is_number n) true h).0
-duty_read (duty.Start n) h = one_read one.Start n (both (is_number n) true h).0
-duty_read (duty.Fail n) h = one_read one.Fail n (both (is_number n) true h).0
-duty_read (duty.Finish n) h = one_read one.Finish n (both (is_number n) true h).0
-duty_read (duty.Gone n) h = one_read one.Gone n (both (is_number n) true h).0
-duty_read (duty.Old n) h = one_read one.Old n (both (is_number n) true h).0
-duty_read (duty.Address n) h = one_read one.Address n (both (is_number n) true h).0
-duty_read (duty.Note n) h = one_read one.Note n (both (is_number n) true h).0
-duty_read (duty.Drop n) h = one_read one.Drop n (both (is_number n) true h).0
-duty_read (duty.Explain n) h = one_read one.Explain n (both (is_number n) true h).0
-duty_read (duty.Delete n) h = one_read one.Delete n (both (is_number n) true h).0
-duty_read (duty.Trim n) h = one_read one.Trim n (both (is_number n) true h).0
-duty_read (duty.Register n) h = one_read one.Register n (both (is_number n) true h).0
-duty_read (duty.Beat n) h = one_read one.Beat n (both (is_number n) true h).0
-duty_read (duty.Apply n) h = one_read one.Apply n (both (is_number n) true h).0
-duty_read (duty.Pull n) h = one_read one.Pull n (both (is_number n) true h).0
-duty_read (duty.Swap a b) h = let c = both (is_number a) (is_number b && true) h in two_read two.Swap a b c.0 (both (is_number b) true c.1).0
-duty_read (duty.Replace a b) h = let c = both (is_number a) (is_number b && true) h in two_read two.Replace a b c.0 (both (is_number b) true c.1).0
-duty_read (duty.Down a b) h = let c = both (is_number a) (is_number b && true) h in two_read two.Down a b c.0 (both (is_number b) true c.1).0
-duty_read (duty.ReplicatedCreate a b) h = let c = both (is_number a) (is_number b && true) h in two_read two.ReplicatedCreate a b c.0 (both (is_number b) true c.1).0
-duty_read (duty.Leave a b) h = let c = both (is_number a) (is_number b && true) h in two_read two.Leave a b c.0 (both (is_number b) true c.1).0
-duty_read (duty.GlobalCreate a b) h = let c = both (is_number a) (is_number b && true) h in two_read two.GlobalCreate a b c.0 (both (is_number b) true c.1).0
-duty_read (duty.JobCreate a b) h = let c = both (is_number a) (is_number b && true) h in two_read two.JobCreate a b c.0 (both (is_number b) true c.1).0
-duty_read (duty.Place a b) h = let c = both (is_number a) (is_number b && true) h in two_read two.Place a b c.0 (both (is_number b) true c.1).0
-duty_read (duty.Exec a b) h = let c = both (is_number a) (is_number b && true) h in two_read two.Exec a b c.0 (both (is_number b) true c.1).0
-duty_read (duty.Report a b) h = let c = both (is_number a) (is_number b && true) h in two_read two.Report a b c.0 (both (is_number b) true c.1).0
-duty_read (duty.Forget a b) h = let c = both (is_number a) (is_number b && true) h in two_read two.Forget a b c.0 (both (is_number b) true c.1).0
-duty_read (duty.Port s target udp) h = let b = both (is_number s) (is_port target) h in port_read s target udp b.0 b.1
+duty_read (duty.Expire n) h = one_read one.Expire n (both_are (is_number n) true h).0
+duty_read (duty.Orphan n) h = one_read one.Orphan n (both_are (is_number n) true h).0
+duty_read (duty.Reject n) h = one_read one.Reject n (both_are (is_number n) true h).0
+duty_read (duty.Restart n) h = one_read one.Restart n (both_are (is_number n) true h).0
+duty_read (duty.Raise n) h = one_read one.Raise n (both_are (is_number n) true h).0
+duty_read (duty.Start n) h = one_read one.Start n (both_are (is_number n) true h).0
+duty_read (duty.Fail n) h = one_read one.Fail n (both_are (is_number n) true h).0
+duty_read (duty.Finish n) h = one_read one.Finish n (both_are (is_number n) true h).0
+duty_read (duty.Gone n) h = one_read one.Gone n (both_are (is_number n) true h).0
+duty_read (duty.Old n) h = one_read one.Old n (both_are (is_number n) true h).0
+duty_read (duty.Address n) h = one_read one.Address n (both_are (is_number n) true h).0
+duty_read (duty.Note n) h = one_read one.Note n (both_are (is_number n) true h).0
+duty_read (duty.Drop n) h = one_read one.Drop n (both_are (is_number n) true h).0
+duty_read (duty.Explain n) h = one_read one.Explain n (both_are (is_number n) true h).0
+duty_read (duty.Delete n) h = one_read one.Delete n (both_are (is_number n) true h).0
+duty_read (duty.Trim n) h = one_read one.Trim n (both_are (is_number n) true h).0
+duty_read (duty.Register n) h = one_read one.Register n (both_are (is_number n) true h).0
+duty_read (duty.Beat n) h = one_read one.Beat n (both_are (is_number n) true h).0
+duty_read (duty.Apply n) h = one_read one.Apply n (both_are (is_number n) true h).0
+duty_read (duty.Pull n) h = one_read one.Pull n (both_are (is_number n) true h).0
+duty_read (duty.Swap a b) h = let c = both_are (is_number a) (is_number b && true) h in two_read two.Swap a b c.0 (both_are (is_number b) true c.1).0
+duty_read (duty.Replace a b) h = let c = both_are (is_number a) (is_number b && true) h in two_read two.Replace a b c.0 (both_are (is_number b) true c.1).0
+duty_read (duty.Down a b) h = let c = both_are (is_number a) (is_number b && true) h in two_read two.Down a b c.0 (both_are (is_number b) true c.1).0
+duty_read (duty.ReplicatedCreate a b) h = let c = both_are (is_number a) (is_number b && true) h in two_read two.ReplicatedCreate a b c.0 (both_are (is_number b) true c.1).0
+duty_read (duty.Leave a b) h = let c = both_are (is_number a) (is_number b && true) h in two_read two.Leave a b c.0 (both_are (is_number b) true c.1).0
+duty_read (duty.GlobalCreate a b) h = let c = both_are (is_number a) (is_number b && true) h in two_read two.GlobalCreate a b c.0 (both_are (is_number b) true c.1).0
+duty_read (duty.JobCreate a b) h = let c = both_are (is_number a) (is_number b && true) h in two_read two.JobCreate a b c.0 (both_are (is_number b) true c.1).0
+duty_read (duty.Place a b) h = let c = both_are (is_number a) (is_number b && true) h in two_read two.Place a b c.0 (both_are (is_number b) true c.1).0
+duty_read (duty.Exec a b) h = let c = both_are (is_number a) (is_number b && true) h in two_read two.Exec a b c.0 (both_are (is_number b) true c.1).0
+duty_read (duty.Report a b) h = let c = both_are (is_number a) (is_number b && true) h in two_read two.Report a b c.0 (both_are (is_number b) true c.1).0
+duty_read (duty.Forget a b) h = let c = both_are (is_number a) (is_number b && true) h in two_read two.Forget a b c.0 (both_are (is_number b) true c.1).0
+duty_read (duty.Port s target udp) h = let b = both_are (is_number s) (is_port target) h in port_read s target udp b.0 b.1
 
 -- ## Words that say a duty are its words
 
@@ -160,39 +161,39 @@ record Grows (s : DutyState) (word : List ℕ) (next : DutyState) : Type 0 where
   has : HasState next
 
 one_grows : (k : OneNumber) (n : ℕ) → is_number n ≡ true → Grows (state.One k) (decimal n) (state.Done (one_duty k n))
-one_grows one.Expire n h = record { words = refl; has = and_yes _ _ h refl }
-one_grows one.Orphan n h = record { words = refl; has = and_yes _ _ h refl }
-one_grows one.Reject n h = record { words = refl; has = and_yes _ _ h refl }
-one_grows one.Restart n h = record { words = refl; has = and_yes _ _ h refl }
-one_grows one.Raise n h = record { words = refl; has = and_yes _ _ h refl }
-one_grows one.Start n h = record { words = refl; has = and_yes _ _ h refl }
-one_grows one.Fail n h = record { words = refl; has = and_yes _ _ h refl }
-one_grows one.Finish n h = record { words = refl; has = and_yes _ _ h refl }
-one_grows one.Gone n h = record { words = refl; has = and_yes _ _ h refl }
-one_grows one.Old n h = record { words = refl; has = and_yes _ _ h refl }
-one_grows one.Address n h = record { words = refl; has = and_yes _ _ h refl }
-one_grows one.Note n h = record { words = refl; has = and_yes _ _ h refl }
-one_grows one.Drop n h = record { words = refl; has = and_yes _ _ h refl }
-one_grows one.Explain n h = record { words = refl; has = and_yes _ _ h refl }
-one_grows one.Delete n h = record { words = refl; has = and_yes _ _ h refl }
-one_grows one.Trim n h = record { words = refl; has = and_yes _ _ h refl }
-one_grows one.Register n h = record { words = refl; has = and_yes _ _ h refl }
-one_grows one.Beat n h = record { words = refl; has = and_yes _ _ h refl }
-one_grows one.Apply n h = record { words = refl; has = and_yes _ _ h refl }
-one_grows one.Pull n h = record { words = refl; has = and_yes _ _ h refl }
+one_grows one.Expire n h = record { words = refl; has = both _ _ h refl }
+one_grows one.Orphan n h = record { words = refl; has = both _ _ h refl }
+one_grows one.Reject n h = record { words = refl; has = both _ _ h refl }
+one_grows one.Restart n h = record { words = refl; has = both _ _ h refl }
+one_grows one.Raise n h = record { words = refl; has = both _ _ h refl }
+one_grows one.Start n h = record { words = refl; has = both _ _ h refl }
+one_grows one.Fail n h = record { words = refl; has = both _ _ h refl }
+one_grows one.Finish n h = record { words = refl; has = both _ _ h refl }
+one_grows one.Gone n h = record { words = refl; has = both _ _ h refl }
+one_grows one.Old n h = record { words = refl; has = both _ _ h refl }
+one_grows one.Address n h = record { words = refl; has = both _ _ h refl }
+one_grows one.Note n h = record { words = refl; has = both _ _ h refl }
+one_grows one.Drop n h = record { words = refl; has = both _ _ h refl }
+one_grows one.Explain n h = record { words = refl; has = both _ _ h refl }
+one_grows one.Delete n h = record { words = refl; has = both _ _ h refl }
+one_grows one.Trim n h = record { words = refl; has = both _ _ h refl }
+one_grows one.Register n h = record { words = refl; has = both _ _ h refl }
+one_grows one.Beat n h = record { words = refl; has = both _ _ h refl }
+one_grows one.Apply n h = record { words = refl; has = both _ _ h refl }
+one_grows one.Pull n h = record { words = refl; has = both _ _ h refl }
 
 two_grows : (k : TwoNumbers) (a b : ℕ) → is_number a ≡ true → is_number b ≡ true → Grows (state.Second k a) (decimal b) (state.Done (two_duty k a b))
-two_grows two.Swap a b h g = record { words = refl; has = and_yes _ _ h (and_yes _ _ g refl) }
-two_grows two.Replace a b h g = record { words = refl; has = and_yes _ _ h (and_yes _ _ g refl) }
-two_grows two.Down a b h g = record { words = refl; has = and_yes _ _ h (and_yes _ _ g refl) }
-two_grows two.ReplicatedCreate a b h g = record { words = refl; has = and_yes _ _ h (and_yes _ _ g refl) }
-two_grows two.Leave a b h g = record { words = refl; has = and_yes _ _ h (and_yes _ _ g refl) }
-two_grows two.GlobalCreate a b h g = record { words = refl; has = and_yes _ _ h (and_yes _ _ g refl) }
-two_grows two.JobCreate a b h g = record { words = refl; has = and_yes _ _ h (and_yes _ _ g refl) }
-two_grows two.Place a b h g = record { words = refl; has = and_yes _ _ h (and_yes _ _ g refl) }
-two_grows two.Exec a b h g = record { words = refl; has = and_yes _ _ h (and_yes _ _ g refl) }
-two_grows two.Report a b h g = record { words = refl; has = and_yes _ _ h (and_yes _ _ g refl) }
-two_grows two.Forget a b h g = record { words = refl; has = and_yes _ _ h (and_yes _ _ g refl) }
+two_grows two.Swap a b h g = record { words = refl; has = both _ _ h (both _ _ g refl) }
+two_grows two.Replace a b h g = record { words = refl; has = both _ _ h (both _ _ g refl) }
+two_grows two.Down a b h g = record { words = refl; has = both _ _ h (both _ _ g refl) }
+two_grows two.ReplicatedCreate a b h g = record { words = refl; has = both _ _ h (both _ _ g refl) }
+two_grows two.Leave a b h g = record { words = refl; has = both _ _ h (both _ _ g refl) }
+two_grows two.GlobalCreate a b h g = record { words = refl; has = both _ _ h (both _ _ g refl) }
+two_grows two.JobCreate a b h g = record { words = refl; has = both _ _ h (both _ _ g refl) }
+two_grows two.Place a b h g = record { words = refl; has = both _ _ h (both _ _ g refl) }
+two_grows two.Exec a b h g = record { words = refl; has = both _ _ h (both _ _ g refl) }
+two_grows two.Report a b h g = record { words = refl; has = both _ _ h (both _ _ g refl) }
+two_grows two.Forget a b h g = record { words = refl; has = both _ _ h (both _ _ g refl) }
 
 number_fits : (w : List ℕ) (n : ℕ) → number_of w ≡ Some n → (w ≡ decimal n) × (is_number n ≡ true)
 number_fits w n e = let k = number_only (2 ^ 64) n w e in (k.0, below_yes n (2 ^ 64) k.1)
@@ -304,7 +305,7 @@ protocol_grows s target w next h g e =
     let b = bound (bit_of w) (λ u. Some (state.Done (duty.Port s target u))) next e in
     let made : Grows (state.PortProtocol s target) w (state.Done (duty.Port s target b.0)) = record {
       words = ap (λ x. codes "allocator" ∷ codes "port" ∷ decimal s ∷ decimal target ∷ x ∷ []) (sym (bit_only w b.0 b.1));
-      has = and_yes _ _ h g;
+      has = both _ _ h g;
     } in
     subst (Grows (state.PortProtocol s target) w) (same_Some _ next b.2) made
 

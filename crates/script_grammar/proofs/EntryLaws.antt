@@ -6,6 +6,7 @@ use Rattle.std.specs.Str.{bytes_eq}
 use Rattle.std.proofs.lemmas.Bool.Decides.{nat_tests}
 use Rattle.std.proofs.lemmas.Option.{same_Some}
 use Rattle.std.proofs.Math.Seq.{take-append_seam}
+use Rattle.swarm_objects.proofs.Tests.{both, both_are}
 use Rattle.swarm_objects.specs.Limits.{longest_entry}
 use Rattle.swarm_objects.specs.DutyTexts.{duty_words, spaced}
 use Rattle.swarm_objects.specs.declared.calls.Call.{Call}
@@ -40,7 +41,7 @@ use Rattle.script_grammar.proofs.DutyLaws.{duty_read, duty_spelling}
 use Rattle.script_grammar.proofs.EntryWords.{entry_graphic}
 use Rattle.script_grammar.proofs.Inversions.{mapped, same}
 use Rattle.script_grammar.proofs.LineLaws.{says_entry, says_line}
-use Rattle.script_grammar.proofs.Numbers.{and_yes, below_only, below_yes, both, number_only, number_yes}
+use Rattle.script_grammar.proofs.Numbers.{below_only, below_yes, number_only, number_yes}
 use Rattle.script_grammar.proofs.OneSpelling.{call_spelling}
 use Rattle.script_grammar.proofs.SaysLaw.{onto}
 use Rattle.script_grammar.proofs.Spaces.{graphic_clean, spaced_printable, spaced_words, words_back, words_clean}
@@ -122,13 +123,13 @@ behind_caller by h (x ∷ ws) e d = go (bytes_eq x (codes "duty")) refl where
       let s = duty_spelling ws k.0 k.1 in
       subst (OneEntry (decimal by ∷ x ∷ ws)) k.2 (record {
         words = ap (λ y. decimal by ∷ y ∷ ws) (same x (codes "duty") t) ∙ ap (λ ys. decimal by ∷ codes "duty" ∷ ys) s.0;
-        has = and_yes _ _ h s.1;
+        has = both _ _ h s.1;
       })
   go false t =
       let k = held_said (call_grammar form.Journal) journal_grammar (entry_state.Call by) (call_entry by) (λ s word. refl) (λ s. refl) (state.Opening []) (x ∷ ws) e (sym (call_from by x ws t) ∙ d) in
       subst (OneEntry (decimal by ∷ x ∷ ws)) k.2 (record {
         words = ap (λ ys. decimal by ∷ ys) (call_spelling (x ∷ ws) k.0 k.1);
-        has = and_yes _ _ h (call_has form.Journal (x ∷ ws) k.0 k.1);
+        has = both _ _ h (call_has form.Journal (x ∷ ws) k.0 k.1);
       })
 
 pub one_entry : (ws : List (List ℕ)) (e : Entry) → IsSaid journal_grammar ws e → OneEntry ws e
@@ -144,7 +145,7 @@ one_entry (w ∷ ws) e d = go (number_of w) refl d where
 pub entry_read : (e : Entry) → has_text e ≡ true → IsSaid journal_grammar (entry_words e) e
 entry_read e h = caller ∙ said e.what b.1 where
   b : (is_number e.by ≡ true) × (what_has_text e.what ≡ true)
-  b = both (is_number e.by) (what_has_text e.what) h
+  b = both_are (is_number e.by) (what_has_text e.what) h
 
   caller : (run journal_grammar entry_state.Opening (entry_words e) >>= journal_grammar.whole) ≡ from_caller e.by (what_words e.what)
   caller =

@@ -2,6 +2,7 @@
 use Rattle.std.proofs.Common.{◌≡◌, ℕ, ◌<◌, ◌≤◌, ◌^◌, ◌/◌, ◌%◌, List, [], ◌∷◌, ◌++◌, codes, decimal, map, Bool, true, false, cond, ◌&&◌, refl, Option, Some, None, arith, nat_eq, nat_le}
 use Rattle.std.specs.List.{AllByRecursion}
 use Rattle.std.proofs.lemmas.Bool.Decides.{nat_tests}
+use Rattle.swarm_objects.proofs.Tests.{both_are}
 use Rattle.swarm_objects.specs.Kinds.{bit, duty_numbers, role_of}
 use Rattle.swarm_objects.specs.DutyTexts.{duty_kind, duty_words, loop_word}
 use Rattle.swarm_objects.specs.declared.calls.Call.{Call}
@@ -46,8 +47,8 @@ use Rattle.script_grammar.specs.HasText.{call_has_text, draft_has_text, duty_has
 use Rattle.script_grammar.specs.Pieces.{joined, node_pieces, old_node_pieces, service_pieces, session_pieces, settings_pieces}
 use Rattle.script_grammar.specs.Texts.{address_text, budget_words, call_words, entry_words, filter_text, force_words, id_words, op_words, ops_words, pieces_words, query_words, subnet_text, version_words, what_words}
 use Rattle.script_grammar.proofs.AllSpelled.{IsPortNumber, IsSpellable}
-use Rattle.script_grammar.proofs.HasWord.{Wordy, all_of, spellable}
-use Rattle.script_grammar.proofs.Numbers.{below_only, below_yes, both}
+use Rattle.script_grammar.proofs.HasWord.{Wordy, spellable}
+use Rattle.script_grammar.proofs.Numbers.{all_of, below_only, below_yes}
 use Rattle.script_grammar.proofs.Spaces.{AllGraphic, Graphic, decimal_graphic, graphic_append, name_graphic, value_graphic, words_append}
 use Rattle.script_grammar.proofs.Spelled.{IsKey}
 
@@ -113,7 +114,7 @@ field_graphic (field.Net n) h = name_graphic n h
 field_graphic (field.Spread k) h = key_graphic k h
 field_graphic (field.Constraint c) h =
     (
-    let b = both (key_has_text c.key) (is_value c.value) h in
+    let b = both_are (key_has_text c.key) (is_value c.value) h in
     graphic_append (key_text c.key) (sign_of c.equal ++ c.value) (key_graphic c.key b.0) (graphic_append (sign_of c.equal) c.value (sign_graphic c.equal) (value_graphic c.value b.1)))
 field_graphic (field.Port p) h = port_graphic p.target p.number p.udp h.0 h.1
 field_graphic (field.Host p) h = port_graphic p.target p.number p.udp h.0.0 h.0.1
@@ -168,29 +169,29 @@ subnet_graphic base length h k =
 
 pub op_graphic : (o : Op) → op_has_text o ≡ true → AllGraphic (op_words o)
 op_graphic (op.CreateNode n d) h =
-    let a = both (is_name n) (node_has_text d) h in
-    (refl, (refl, (name_graphic n a.0, pieces_graphic (node_pieces d) (both (have_words (node_pieces d)) (keys_rise d.labels && keys_rise d.engine) a.1).0)))
+    let a = both_are (is_name n) (node_has_text d) h in
+    (refl, (refl, (name_graphic n a.0, pieces_graphic (node_pieces d) (both_are (have_words (node_pieces d)) (keys_rise d.labels && keys_rise d.engine) a.1).0)))
 op_graphic (op.UpdateNode n v ls r a) h =
-    let x = both (is_name n) (where_some is_number v && (have_words (old_node_pieces ls r a) && keys_rise ls)) h in
-    let y = both (where_some is_number v) (have_words (old_node_pieces ls r a) && keys_rise ls) x.1 in
-    let z = both (have_words (old_node_pieces ls r a)) (keys_rise ls) y.1 in
+    let x = both_are (is_name n) (where_some is_number v && (have_words (old_node_pieces ls r a) && keys_rise ls)) h in
+    let y = both_are (where_some is_number v) (have_words (old_node_pieces ls r a) && keys_rise ls) x.1 in
+    let z = both_are (have_words (old_node_pieces ls r a)) (keys_rise ls) y.1 in
     (refl, (refl, (name_graphic n x.0, words_append (version_words v) _ (version_graphic v y.0) (pieces_graphic (old_node_pieces ls r a) z.0))))
 op_graphic (op.RemoveNode n force) h = (refl, (refl, (name_graphic n h, force_graphic force)))
 op_graphic (op.CreateService n d) h =
-    let a = both (is_name n) (draft_has_text d) h in
-    (refl, (refl, (name_graphic n a.0, pieces_graphic (service_pieces d) (both (have_words (service_pieces d)) (is_empty d.spec.template.networks) a.1).0)))
+    let a = both_are (is_name n) (draft_has_text d) h in
+    (refl, (refl, (name_graphic n a.0, pieces_graphic (service_pieces d) (both_are (have_words (service_pieces d)) (is_empty d.spec.template.networks) a.1).0)))
 op_graphic (op.UpdateService n v d) h =
-    let x = both (is_name n) (where_some is_number v && draft_has_text d) h in
-    let y = both (where_some is_number v) (draft_has_text d) x.1 in
-    let z = both (have_words (service_pieces d)) (is_empty d.spec.template.networks) y.1 in
+    let x = both_are (is_name n) (where_some is_number v && draft_has_text d) h in
+    let y = both_are (where_some is_number v) (draft_has_text d) x.1 in
+    let z = both_are (have_words (service_pieces d)) (is_empty d.spec.template.networks) y.1 in
     (refl, (refl, (name_graphic n x.0, words_append (version_words v) _ (version_graphic v y.0) (pieces_graphic (service_pieces d) z.0))))
 op_graphic (op.RemoveService n) h = (refl, (refl, (name_graphic n h, tt)))
 op_graphic (op.RollbackService n v) h =
-    let x = both (is_name n) (where_some is_number v) h in
+    let x = both_are (is_name n) (where_some is_number v) h in
     (refl, (refl, (name_graphic n x.0, version_graphic v x.1)))
 op_graphic (op.CreateNetwork n base length) h =
-    let x = both (is_name n) (is_address base && is_byte length) h in
-    let y = both (is_address base) (is_byte length) x.1 in
+    let x = both_are (is_name n) (is_address base && is_byte length) h in
+    let y = both_are (is_address base) (is_byte length) x.1 in
     (refl, (refl, (name_graphic n x.0, (subnet_graphic base length (below_only base (2 ^ 32) y.0) (below_only length 256 y.1), tt))))
 op_graphic (op.RemoveNetwork n) h = (refl, (refl, (name_graphic n h, tt)))
 op_graphic (op.SetCluster s) h = (refl, (refl, pieces_graphic (settings_pieces s) h))
@@ -233,7 +234,7 @@ budget_graphic : (n : ℕ) → is_budget n ≡ true → AllGraphic (budget_words
 budget_graphic n h = go (nat_eq n largest_budget) where
   go : (b : Bool) → AllGraphic (cond b [] (decimal n ∷ []))
   go true = tt
-  go false = (decimal_graphic n (budget_small n (both (nat_le 1 n) (nat_le n largest_budget) h).1), tt)
+  go false = (decimal_graphic n (budget_small n (both_are (nat_le 1 n) (nat_le n largest_budget) h).1), tt)
 
 state_graphic : (s : TaskState) → Graphic (state_text s)
 state_graphic task_state.New = refl
@@ -258,7 +259,7 @@ txn_graphic (o ∷ ops) h = ops_graphic (o ∷ ops) (all_of op_has_text (o ∷ o
 pub call_graphic : (c : Call) → call_has_text c ≡ true → AllGraphic (call_words c)
 call_graphic (call.Txn ops) h = txn_graphic ops h
 call_graphic (call.View q) h = query_graphic q h
-call_graphic (call.WatchBegin f) h = (refl, (refl, (filter_graphic f.kind, id_graphic f.id (both (where_some is_watched f.kind) (where_some is_number f.id) h).1)))
+call_graphic (call.WatchBegin f) h = (refl, (refl, (filter_graphic f.kind, id_graphic f.id (both_are (where_some is_watched f.kind) (where_some is_number f.id) h).1)))
 call_graphic (call.WatchPoll id) h = (refl, (refl, (number_of_graphic id h, tt)))
 call_graphic (call.WatchFinish id) h = (refl, (refl, (number_of_graphic id h, tt)))
 call_graphic (call.Tick n) h = (refl, (number_of_graphic n h, tt))
@@ -268,13 +269,13 @@ call_graphic (call.NodeStart n) h = (refl, (refl, (name_graphic n h, tt)))
 call_graphic (call.AgentStop n) h = (refl, (refl, (name_graphic n h, tt)))
 call_graphic (call.AgentStart n) h = (refl, (refl, (name_graphic n h, tt)))
 call_graphic (call.RemoteBegin n cpu mem) h =
-    let b = both (is_name n) (have_words (session_pieces cpu mem)) h in
+    let b = both_are (is_name n) (have_words (session_pieces cpu mem)) h in
     (refl, (refl, (name_graphic n b.0, pieces_graphic (session_pieces cpu mem) b.1)))
-call_graphic (call.RemoteBeat n session) h = let b = both (is_name n) (is_number session) h in (refl, (refl, (name_graphic n b.0, (number_of_graphic session b.1, tt))))
-call_graphic (call.RemotePull n session) h = let b = both (is_name n) (is_number session) h in (refl, (refl, (name_graphic n b.0, (number_of_graphic session b.1, tt))))
+call_graphic (call.RemoteBeat n session) h = let b = both_are (is_name n) (is_number session) h in (refl, (refl, (name_graphic n b.0, (number_of_graphic session b.1, tt))))
+call_graphic (call.RemotePull n session) h = let b = both_are (is_name n) (is_number session) h in (refl, (refl, (name_graphic n b.0, (number_of_graphic session b.1, tt))))
 call_graphic (call.RemoteStatus n session task s) h =
-    let a = both (is_name n) (is_number session && is_number task) h in
-    let b = both (is_number session) (is_number task) a.1 in
+    let a = both_are (is_name n) (is_number session && is_number task) h in
+    let b = both_are (is_number session) (is_number task) a.1 in
     (refl, (refl, (name_graphic n a.0, (number_of_graphic session b.0, (number_of_graphic task b.1, (state_graphic s, tt))))))
 call_graphic call.Halt h = (refl, tt)
 
@@ -339,7 +340,7 @@ port_number : (n : ℕ) → is_port n ≡ true → is_number n ≡ true
 port_number n h = let k = below_only n 65536 h in below_yes n (2 ^ 64) (omega (arith, k))
 
 duty_has : (d : Duty) → duty_has_text d ≡ true → AllByRecursion (λ n. is_number n ≡ true) (duty_numbers d)
-duty_has (duty.Port s target udp) h = let b = both (is_number s) (is_port target) h in (b.0, (port_number target b.1, (bit_number udp, tt)))
+duty_has (duty.Port s target udp) h = let b = both_are (is_number s) (is_port target) h in (b.0, (port_number target b.1, (bit_number udp, tt)))
 duty_has (duty.Expire n) h = all_of is_number (n ∷ []) h
 duty_has (duty.Orphan n) h = all_of is_number (n ∷ []) h
 duty_has (duty.Reject n) h = all_of is_number (n ∷ []) h
@@ -383,5 +384,5 @@ what_graphic (what.Duty d) h = (refl, duty_graphic d h)
 
 pub entry_graphic : (e : Entry) → has_text e ≡ true → AllGraphic (entry_words e)
 entry_graphic e h =
-    let b = both (is_number e.by) (what_has_text e.what) h in
+    let b = both_are (is_number e.by) (what_has_text e.what) h in
     (number_of_graphic e.by b.0, what_graphic e.what b.1)

@@ -2,6 +2,7 @@
 use Rattle.std.proofs.Common.{◌≡◌, ℕ, ◌^◌, List, [], ◌∷◌, map, Bool, true, false, refl, Option, Some, None}
 use Rattle.std.specs.List.{AllByRecursion, filter_map, cons_option, list_all}
 use Rattle.std.specs.Prelude.{unwrap_or}
+use Rattle.swarm_objects.proofs.Tests.{both, both_are}
 use Rattle.swarm_objects.specs.declared.services.Mode.TheVariants as mode
 use Rattle.swarm_objects.specs.declared.templates.End.TheVariants as end
 use Rattle.swarm_objects.specs.declared.templates.Port.{Port}
@@ -11,7 +12,7 @@ use Rattle.script_grammar.specs.Drafts.{named_or}
 use Rattle.swarm_filters.specs.Grammar.{is_name}
 use Rattle.script_grammar.specs.HasText.{has_number, has_word, is_byte, is_number, is_port, port_has_text, where_some}
 use Rattle.script_grammar.proofs.AllSpelled.{IsPort, IsPortNumber, IsSomeNumber, IsSpellable}
-use Rattle.script_grammar.proofs.Numbers.{and_yes, below_only, below_yes, both}
+use Rattle.script_grammar.proofs.Numbers.{below_only, below_yes}
 
 -- ## From the test
 
@@ -21,7 +22,7 @@ port_number_is (Some n) h = below_only n 65536 h
 
 port_is : (p : Port) → port_has_text p ≡ true → IsPort p
 port_is p h =
-    let b = both (is_port p.target) (where_some is_port p.number) h in
+    let b = both_are (is_port p.target) (where_some is_port p.number) h in
     (below_only p.target 65536 b.0, port_number_is p.number b.1)
 
 some_is : (o : Option ℕ) → (elim o [ Some n ↦ true | None ↦ false ]) ≡ true → IsSomeNumber o
@@ -32,20 +33,20 @@ pub spellable : (f : Field) → has_word f ≡ true → IsSpellable f
 spellable (field.Number w n) h = below_only n (2 ^ 64) h
 spellable (field.Mode (mode.Replicated n)) h = below_only n (2 ^ 64) h
 spellable (field.Mode mode.Global) h = tt
-spellable (field.Mode (mode.Job c t)) h = let b = both (is_number c) (is_number t) h in (below_only c (2 ^ 64) b.0, below_only t (2 ^ 64) b.1)
+spellable (field.Mode (mode.Job c t)) h = let b = both_are (is_number c) (is_number t) h in (below_only c (2 ^ 64) b.0, below_only t (2 ^ 64) b.1)
 spellable (field.End end.Never) h = cc
-spellable (field.End (end.Exit ms code)) h = let b = both (is_number ms) (is_byte code) h in (below_only ms (2 ^ 64) b.0, below_only code 256 b.1)
+spellable (field.End (end.Exit ms code)) h = let b = both_are (is_number ms) (is_byte code) h in (below_only ms (2 ^ 64) b.0, below_only code 256 b.1)
 spellable (field.End end.Reject) h = tt
-spellable (field.Label k v) h = both (is_name k) (is_name v) h
-spellable (field.Engine k v) h = both (is_name k) (is_name v) h
-spellable (field.Platform p) h = both (is_name p.os) (is_name p.arch) h
+spellable (field.Label k v) h = both_are (is_name k) (is_name v) h
+spellable (field.Engine k v) h = both_are (is_name k) (is_name v) h
+spellable (field.Platform p) h = both_are (is_name p.os) (is_name p.arch) h
 spellable (field.Os n) h = h
 spellable (field.Arch n) h = h
 spellable (field.Net n) h = h
 spellable (field.Spread k) h = h
 spellable (field.Constraint c) h = h
 spellable (field.Port p) h = port_is p h
-spellable (field.Host p) h = let b = both (port_has_text p) (has_number p) h in (port_is p b.0, some_is p.number b.1)
+spellable (field.Host p) h = let b = both_are (port_has_text p) (has_number p) h in (port_is p b.0, some_is p.number b.1)
 spellable (field.Role x) h = tt
 spellable (field.Availability x) h = tt
 spellable field.Remote h = tt
@@ -64,7 +65,7 @@ port_number_yes None h = refl
 port_number_yes (Some n) h = below_yes n 65536 h
 
 port_yes : (p : Port) → IsPort p → port_has_text p ≡ true
-port_yes p h = and_yes _ _ (below_yes p.target 65536 h.0) (port_number_yes p.number h.1)
+port_yes p h = both _ _ (below_yes p.target 65536 h.0) (port_number_yes p.number h.1)
 
 some_yes : (o : Option ℕ) → IsSomeNumber o → (elim o [ Some n ↦ true | None ↦ false ]) ≡ true
 some_yes (Some n) h = refl
@@ -74,20 +75,20 @@ pub wordy : (f : Field) → IsSpellable f → has_word f ≡ true
 wordy (field.Number w n) h = below_yes n (2 ^ 64) h
 wordy (field.Mode (mode.Replicated n)) h = below_yes n (2 ^ 64) h
 wordy (field.Mode mode.Global) h = refl
-wordy (field.Mode (mode.Job c t)) h = and_yes _ _ (below_yes c (2 ^ 64) h.0) (below_yes t (2 ^ 64) h.1)
+wordy (field.Mode (mode.Job c t)) h = both _ _ (below_yes c (2 ^ 64) h.0) (below_yes t (2 ^ 64) h.1)
 wordy (field.End end.Never) h = absurd h
-wordy (field.End (end.Exit ms code)) h = and_yes _ _ (below_yes ms (2 ^ 64) h.0) (below_yes code 256 h.1)
+wordy (field.End (end.Exit ms code)) h = both _ _ (below_yes ms (2 ^ 64) h.0) (below_yes code 256 h.1)
 wordy (field.End end.Reject) h = refl
-wordy (field.Label k v) h = and_yes _ _ h.0 h.1
-wordy (field.Engine k v) h = and_yes _ _ h.0 h.1
-wordy (field.Platform p) h = and_yes _ _ h.0 h.1
+wordy (field.Label k v) h = both _ _ h.0 h.1
+wordy (field.Engine k v) h = both _ _ h.0 h.1
+wordy (field.Platform p) h = both _ _ h.0 h.1
 wordy (field.Os n) h = h
 wordy (field.Arch n) h = h
 wordy (field.Net n) h = h
 wordy (field.Spread k) h = h
 wordy (field.Constraint c) h = h
 wordy (field.Port p) h = port_yes p h
-wordy (field.Host p) h = and_yes _ _ (port_yes p h.0) (some_yes p.number h.1)
+wordy (field.Host p) h = both _ _ (port_yes p h.0) (some_yes p.number h.1)
 wordy (field.Role x) h = refl
 wordy (field.Availability x) h = refl
 wordy field.Remote h = refl
@@ -97,13 +98,9 @@ wordy (field.Order x) h = refl
 
 -- ## Lists
 
-pub all_of : {A : Type 0} (p : A → Bool) (xs : List A) → list_all p xs ≡ true → AllByRecursion (λ x. p x ≡ true) xs
-all_of p [] h = tt
-all_of p (x ∷ xs) h = let b = both (p x) (list_all p xs) h in (b.0, all_of p xs b.1)
-
 pub of_all : {A : Type 0} (p : A → Bool) (xs : List A) → AllByRecursion (λ x. p x ≡ true) xs → list_all p xs ≡ true
 of_all p [] h = refl
-of_all p (x ∷ xs) h = and_yes (p x) (list_all p xs) h.0 (of_all p xs h.1)
+of_all p (x ∷ xs) h = both (p x) (list_all p xs) h.0 (of_all p xs h.1)
 
 -- each field of the list has a word
 abbrev pub Wordy : List Field → Type 0

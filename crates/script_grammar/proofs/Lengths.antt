@@ -7,6 +7,7 @@ use Rattle.std.proofs.lemmas.Bool.Decides.{nat_tests}
 use Rattle.std.proofs.lemmas.Fmt.{length-decimal-le}
 use Rattle.std.proofs.lemmas.List.{length-append}
 use Rattle.std.proofs.lemmas.Option.{same_Some}
+use Rattle.swarm_objects.proofs.Tests.{both_are}
 use Rattle.swarm_objects.specs.DutyTexts.{duty_kind, duty_words, loop_word, spaced}
 use Rattle.swarm_objects.specs.Kinds.{bit, duty_numbers, role_of}
 use Rattle.swarm_objects.specs.declared.calls.Call.{Call}
@@ -25,7 +26,7 @@ use Rattle.script_grammar.specs.declared.states.State.TheVariants as state
 use Rattle.script_grammar.proofs.EntryLaws.{held_said}
 use Rattle.script_grammar.proofs.LengthsCalls.{call_room}
 use Rattle.script_grammar.proofs.LengthsDrafts.{room}
-use Rattle.script_grammar.proofs.Numbers.{below_only, both}
+use Rattle.script_grammar.proofs.Numbers.{below_only}
 use Rattle.script_grammar.proofs.LineLaws.{says_line}
 use Rattle.script_grammar.proofs.Spaces.{spaced_words}
 use Rattle.script_grammar.specs.Calls.{call_grammar, step}
@@ -179,7 +180,7 @@ few_numbers _ = omega arith
 
 all_fit : (ns : List ℕ) → list_all is_number ns ≡ true → AllByRecursion (λ n. n < 2 ^ 64) ns
 all_fit [] h = tt
-all_fit (n ∷ ns) h = let b = both (is_number n) (list_all is_number ns) h in (below_only n (2 ^ 64) b.0, all_fit ns b.1)
+all_fit (n ∷ ns) h = let b = both_are (is_number n) (list_all is_number ns) h in (below_only n (2 ^ 64) b.0, all_fit ns b.1)
 
 port_fits : (n : ℕ) → is_port n ≡ true → n < 2 ^ 64
 port_fits n h = omega (arith, below_only n 65536 h)
@@ -190,7 +191,7 @@ bit_fits false = omega arith
 
 duty_fits : (d : Duty) → duty_has_text d ≡ true → AllByRecursion (λ n. n < 2 ^ 64) (duty_numbers d)
 duty_fits (duty.Port s target udp) h =
-    let b = both (is_number s) (is_port target) h in (below_only s (2 ^ 64) b.0, (port_fits target b.1, (bit_fits udp, tt)))
+    let b = both_are (is_number s) (is_port target) h in (below_only s (2 ^ 64) b.0, (port_fits target b.1, (bit_fits udp, tt)))
 duty_fits d h = all_fit (duty_numbers d) h
 
 -- a tick's line is short

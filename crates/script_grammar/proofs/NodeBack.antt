@@ -3,6 +3,7 @@ use Rattle.std.proofs.Common.{◌≡◌, ℕ, List, [], ◌∷◌, ◌++◌, map
 use Rattle.std.specs.List.{filter_map, list_all, AllByRecursion}
 use Rattle.std.specs.Str.{bytes_eq}
 use Rattle.std.proofs.lemmas.Slice.Eq.{bytes_eq-Decides}
+use Rattle.swarm_objects.proofs.Tests.{both_are}
 use Rattle.swarm_objects.specs.Defaults.{usual_node, usual_settings}
 use Rattle.swarm_objects.specs.declared.nodes.Availability.{Availability}
 use Rattle.swarm_objects.specs.declared.nodes.Availability.TheVariants as availability
@@ -19,20 +20,16 @@ use Rattle.script_grammar.specs.Pieces.{arch_piece, availability_piece, engine_f
 use Rattle.script_grammar.specs.Tables.{bytes_lt, comes_before}
 use Rattle.script_grammar.proofs.FieldRows.{Pieces, flat}
 use Rattle.script_grammar.proofs.Nodes.{Labels, Rises, labels_kept, looks_arch, looks_availability, looks_engine, looks_label, looks_os, looks_remote, looks_role}
-use Rattle.script_grammar.proofs.Numbers.{both}
 use Rattle.script_grammar.proofs.PieceRows.{ArePieces, IsPiece, list_back, number_back, number_is, none_piece, one_piece, row_all, row_once, test_piece}
 use Rattle.script_grammar.proofs.RowPieces.{looks_number}
+use Rattle.script_grammar.proofs.Numbers.{all_of}
 
 -- ## Labels
-
-all_of : {A : Type 0} (p : A → Bool) (xs : List A) → list_all p xs ≡ true → AllByRecursion (λ x. p x ≡ true) xs
-all_of p [] h = tt
-all_of p (x ∷ xs) h = let b = both (p x) (list_all p xs) h in (b.0, all_of p xs b.1)
 
 pub rises_by : (ls : Labels) → keys_rise ls ≡ true → Rises ls
 rises_by [] h = tt
 rises_by (l ∷ ls) h =
-    let b = both (list_all (λ m. bytes_lt l.0 m.0) ls) (keys_rise ls) h in
+    let b = both_are (list_all (λ m. bytes_lt l.0 m.0) ls) (keys_rise ls) h in
     (all_of (λ m. bytes_lt l.0 m.0) ls b.0, rises_by ls b.1)
 
 labels_below : (k v : List ℕ) (ls : Labels) → AllByRecursion (λ m. bytes_lt k m.0 ≡ true) ls → AllByRecursion (λ g. comes_before (field.Label k v) g ≡ true) (map label_field ls)

@@ -3,6 +3,8 @@ use Rattle.std.proofs.Common.{◌≡◌, ℕ, ◌^◌, List, [], ◌∷◌, ◌+
 use Rattle.std.specs.List.{list_all}
 use Rattle.std.specs.Str.{bytes_eq}
 use Rattle.std.proofs.lemmas.Option.{same_Some}
+use Rattle.std.proofs.lemmas.List.{map-append}
+use Rattle.swarm_objects.proofs.Tests.{both_are, not-true}
 use Rattle.swarm_objects.specs.declared.calls.Op.{Op}
 use Rattle.swarm_objects.specs.declared.calls.Op.TheVariants as op
 use Rattle.swarm_objects.specs.declared.calls.Call.{Call}
@@ -42,7 +44,7 @@ use Rattle.script_grammar.proofs.Canonical.{Follows, all_append}
 use Rattle.script_grammar.proofs.FieldRows.{number_same}
 use Rattle.script_grammar.proofs.Inversions.{bound, choose, found, named_only, never, same, tested}
 use Rattle.script_grammar.proofs.Nodes.{node_fields, old_fields, session_fields, settings_fields}
-use Rattle.script_grammar.proofs.Numbers.{both, number_only, test_some}
+use Rattle.script_grammar.proofs.Numbers.{number_only, test_some}
 use Rattle.script_grammar.proofs.Services.{IsCanonical, service_fields}
 use Rattle.script_grammar.proofs.Sorted.{Sorted}
 use Rattle.script_grammar.proofs.Subnets.{subnet_only}
@@ -144,19 +146,11 @@ pub record Grows (s : State) (word : List ℕ) (next : State) : Type 0 where
 
 all_before : (fs : List Field) (g : Field) → list_all (λ f. comes_before f g) fs ≡ true → Follows fs g
 all_before [] g e = tt
-all_before (f ∷ fs) g e = let b = both (comes_before f g) (list_all (λ x. comes_before x g) fs) e in (b.0, all_before fs g b.1)
+all_before (f ∷ fs) g e = let b = both_are (comes_before f g) (list_all (λ x. comes_before x g) fs) e in (b.0, all_before fs g b.1)
 
 sorted_snoc : (fs : List Field) (g : Field) → Sorted fs → Follows fs g → Sorted (fs ++ g ∷ [])
 sorted_snoc [] g s f = (tt, tt)
 sorted_snoc (x ∷ fs) g s f = (all_append (λ y. comes_before x y ≡ true) fs (g ∷ []) s.0 (f.0, tt), sorted_snoc fs g s.1 f.1)
-
-pub map-append : {A B : Type 0} (h : A → B) (xs ys : List A) → map h (xs ++ ys) ≡ map h xs ++ map h ys
-map-append h [] ys = refl
-map-append h (x ∷ xs) ys = ap (λ zs. h x ∷ zs) (map-append h xs ys)
-
-not_true : (b : Bool) → not b ≡ true → b ≡ false
-not_true true e = cc
-not_true false e = refl
 
 -- the field of the word behind canonical ones, all of which are canonical
 pub record AddsField (t : Table) (fs : List Field) (word : List ℕ) (gs : List Field) : Type 0 where
@@ -168,16 +162,16 @@ field_adds t fs word gs c e =
     let f = bound (field_of word) (λ g. cond (may_stand form.Journal t fs g word) (Some (fs ++ g ∷ [])) None) gs e in
     let g = f.0 in
     let u = test_some (may_stand form.Journal t fs g word) (fs ++ g ∷ []) gs f.2 in
-    let a = both (belongs t g) (bytes_eq word (field_text g) && follows t fs g) u.0 in
-    let b = both (bytes_eq word (field_text g)) (follows t fs g) a.1 in
-    let k = both (not (is_default t g)) (list_all (λ x. comes_before x g) fs) b.1 in
+    let a = both_are (belongs t g) (bytes_eq word (field_text g) && follows t fs g) u.0 in
+    let b = both_are (bytes_eq word (field_text g)) (follows t fs g) a.1 in
+    let k = both_are (not (is_default t g)) (list_all (λ x. comes_before x g) fs) b.1 in
     let spelled = same word (field_text g) b.0 in
     let later = all_before fs g k.1 in
     let made : AddsField t fs word (fs ++ g ∷ []) = record {
       words = map-append field_text fs (g ∷ []) ∙ ap (λ w. map field_text fs ++ w ∷ []) (sym spelled);
       right = record {
         belong = all_append (λ x. belongs t x ≡ true) fs (g ∷ []) c.belong (a.0, tt);
-        named = all_append (λ x. is_default t x ≡ false) fs (g ∷ []) c.named (not_true _ k.0, tt);
+        named = all_append (λ x. is_default t x ≡ false) fs (g ∷ []) c.named (not-true _ k.0, tt);
         sorted = sorted_snoc fs g c.sorted later;
       };
     } in
@@ -513,7 +507,7 @@ settle_grows w next e =
     let b = bound (budget_of form.Journal w) (λ n. Some (state.Done (call.Settle n))) next e in
     let d = bound (number_of w) (λ n. cond (may_write form.Journal n) (Some n) None) b.0 b.1 in
     let t = test_some (may_write form.Journal d.0) d.0 b.0 d.2 in
-    let u = not_true (nat_eq d.0 largest_budget) (both (is_budget d.0) (not (nat_eq d.0 largest_budget)) t.0).1 in
+    let u = not-true (nat_eq d.0 largest_budget) (both_are (is_budget d.0) (not (nat_eq d.0 largest_budget)) t.0).1 in
     let k = number_only (2 ^ 64) d.0 w d.1 in
     let made : Grows state.Settle w (state.Done (call.Settle d.0)) = record {
       words = ap (λ b. codes "settle" ∷ cond b [] (decimal d.0 ∷ [])) u ∙ ap (λ x. codes "settle" ∷ x ∷ []) (sym k.0);

@@ -3,12 +3,12 @@ use Rattle.std.proofs.Common.{◌≡◌, ℕ, zero, suc, ◌<◌, ◌+◌, List,
 use Rattle.std.specs.List.{AllByRecursion}
 use Rattle.std.specs.Str.{bytes_eq}
 use Rattle.std.proofs.lemmas.Bool.Decides.{nat_tests}
+use Rattle.swarm_objects.proofs.Tests.{both}
 use Rattle.script_grammar.specs.Drafts.{label_place, labels_of, labels_onto, with_label}
 use Rattle.script_grammar.specs.HasText.{keys_rise}
 use Rattle.script_grammar.specs.Tables.{bytes_lt}
 use Rattle.script_grammar.proofs.HasWord.{of_all}
 use Rattle.script_grammar.proofs.Nodes.{Labels, Rises}
-use Rattle.script_grammar.proofs.Numbers.{and_yes}
 
 -- ## The order of bytes
 
@@ -121,4 +121,4 @@ labels_rising ls a = onto_rises ls [] a (none_lacks ls) tt
 
 pub keys_rise_yes : (ls : Labels) → Rises ls → keys_rise ls ≡ true
 keys_rise_yes [] r = refl
-keys_rise_yes (l ∷ ls) r = and_yes _ _ (of_all (λ m. bytes_lt l.0 m.0) ls r.0) (keys_rise_yes ls r.1)
+keys_rise_yes (l ∷ ls) r = both _ _ (of_all (λ m. bytes_lt l.0 m.0) ls r.0) (keys_rise_yes ls r.1)

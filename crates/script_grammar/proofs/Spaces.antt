@@ -6,12 +6,12 @@ use Rattle.std.specs.List.{AllByRecursion, list_all, onto_first}
 use Rattle.std.specs.Str.Parse.{AllDigits}
 use Rattle.std.proofs.lemmas.Bool.Decides.{nat_tests}
 use Rattle.std.proofs.lemmas.Fmt.{decimal_is_IsNumeral}
+use Rattle.swarm_objects.proofs.Tests.{both, both_are}
 use Rattle.swarm_objects.specs.DutyTexts.{spaced}
 use Rattle.script_grammar.specs.Lines.{is_printable}
 use Rattle.swarm_filters.specs.Grammar.{is_name, is_name_byte, is_value}
 use Rattle.script_grammar.specs.Words.{words_of}
 use Rattle.script_grammar.proofs.FieldRows.{number_same}
-use Rattle.script_grammar.proofs.Numbers.{and_yes, both}
 use Rattle.script_grammar.proofs.Spelled.{Clean, clean_bytes, name_bytes, value_bytes}
 
 -- ## A text is its words with spaces between them
@@ -64,15 +64,15 @@ Graphic w = list_all is_ascii_graphic w ≡ true
 pub graphic_append : (xs ys : List ℕ) → Graphic xs → Graphic ys → Graphic (xs ++ ys)
 graphic_append [] ys h k = k
 graphic_append (x ∷ xs) ys h k =
-    let b = both (is_ascii_graphic x) (list_all is_ascii_graphic xs) h in
-    and_yes _ _ b.0 (graphic_append xs ys b.1 k)
+    let b = both_are (is_ascii_graphic x) (list_all is_ascii_graphic xs) h in
+    both _ _ b.0 (graphic_append xs ys b.1 k)
 
 pub graphic_clean : (w : List ℕ) → Graphic w → Clean 32 w
 graphic_clean w h = clean_bytes 32 is_ascii_graphic refl w h
 
 all_mono : (p q : ℕ → Bool) → ((b : ℕ) → p b ≡ true → q b ≡ true) → (xs : List ℕ) → list_all p xs ≡ true → list_all q xs ≡ true
 all_mono p q h [] e = refl
-all_mono p q h (x ∷ xs) e = let b = both (p x) (list_all p xs) e in and_yes _ _ (h x b.0) (all_mono p q h xs b.1)
+all_mono p q h (x ∷ xs) e = let b = both_are (p x) (list_all p xs) e in both _ _ (h x b.0) (all_mono p q h xs b.1)
 
 or_cases : {Q : Type 0} (a b : Bool) → (a || b) ≡ true → (a ≡ true → Q) → (b ≡ true → Q) → Q
 or_cases true b e f g = f refl
@@ -80,12 +80,12 @@ or_cases false b e f g = g e
 
 range_graphic : (lo hi b : ℕ) → 33 ≤ lo → hi ≤ 126 → is_in_range lo hi b ≡ true → is_ascii_graphic b ≡ true
 range_graphic lo hi b h k e =
-    let c = both (nat_le lo b) (nat_le b hi) e in
+    let c = both_are (nat_le lo b) (nat_le b hi) e in
     let low : nat_le lo b ≡ true = c.0 in
     let high : nat_le b hi ≡ true = c.1 in
     let x : nat_le 33 b ≡ true = grind (arith, nat_tests) in
     let y : nat_le b 126 ≡ true = grind (arith, nat_tests) in
-    and_yes (nat_le 33 b) (nat_le b 126) x y
+    both (nat_le 33 b) (nat_le b 126) x y
 
 one_graphic : (n b : ℕ) → is_ascii_graphic n ≡ true → nat_eq b n ≡ true → is_ascii_graphic b ≡ true
 one_graphic n b h e = ap is_ascii_graphic (number_same b n e) ∙ h
@@ -116,7 +116,7 @@ value_graphic w h = bytes_graphic w (value_bytes w h)
 digit_graphic : (c : ℕ) → digit_value c < 10 → is_ascii_graphic c ≡ true
 digit_graphic c h = go (nat_lt c 48) (nat_lt c 58) (nat_lt c 65) (nat_lt c 91) (nat_lt c 97) (nat_lt c 123) refl refl refl refl refl refl h where
   within : 33 ≤ c → c ≤ 126 → is_ascii_graphic c ≡ true
-  within x y = and_yes (nat_le 33 c) (nat_le c 126) (grind (arith, nat_tests)) (grind (arith, nat_tests))
+  within x y = both (nat_le 33 c) (nat_le c 126) (grind (arith, nat_tests)) (grind (arith, nat_tests))
 
   go : (p q r s t u : Bool) → nat_lt c 48 ≡ p → nat_lt c 58 ≡ q → nat_lt c 65 ≡ r → nat_lt c 91 ≡ s → nat_lt c 97 ≡ t → nat_lt c 123 ≡ u →
       cond p 36 (cond q (c - 48) (cond r 36 (cond s (c - 55) (cond t 36 (cond u (c - 87) 36))))) < 10 → is_ascii_graphic c ≡ true
@@ -130,7 +130,7 @@ digit_graphic c h = go (nat_lt c 48) (nat_lt c 58) (nat_lt c 65) (nat_lt c 91) (
 
 digits_graphic : (ds : List ℕ) → AllDigits 10 ds → Graphic ds
 digits_graphic [] h = refl
-digits_graphic (d ∷ ds) h = and_yes _ _ (digit_graphic d h.0) (digits_graphic ds h.1)
+digits_graphic (d ∷ ds) h = both _ _ (digit_graphic d h.0) (digits_graphic ds h.1)
 
 pub decimal_graphic : (n : ℕ) → n < 2 ^ 64 → Graphic (decimal n)
 decimal_graphic n h = digits_graphic (decimal n) (decimal_is_IsNumeral n h).0.1
@@ -150,15 +150,15 @@ words_clean (w ∷ ws) h = (graphic_clean w h.0, words_clean ws h.1)
 
 graphic_printable : (b : ℕ) → is_ascii_graphic b ≡ true → is_in_range 32 126 b ≡ true
 graphic_printable b e =
-    let c = both (nat_le 33 b) (nat_le b 126) e in
+    let c = both_are (nat_le 33 b) (nat_le b 126) e in
     let low : nat_le 33 b ≡ true = c.0 in
-    and_yes (nat_le 32 b) (nat_le b 126) (grind (arith, nat_tests)) c.1
+    both (nat_le 32 b) (nat_le b 126) (grind (arith, nat_tests)) c.1
 
 printable_append : (xs ys : List ℕ) → is_printable xs ≡ true → is_printable ys ≡ true → is_printable (xs ++ ys) ≡ true
 printable_append [] ys h k = k
 printable_append (x ∷ xs) ys h k =
-    let b = both (is_in_range 32 126 x) (list_all (is_in_range 32 126) xs) h in
-    and_yes _ _ b.0 (printable_append xs ys b.1 k)
+    let b = both_are (is_in_range 32 126 x) (list_all (is_in_range 32 126) xs) h in
+    both _ _ b.0 (printable_append xs ys b.1 k)
 
 word_printable : (w : List ℕ) → Graphic w → is_printable w ≡ true
 word_printable w h = all_mono is_ascii_graphic (is_in_range 32 126) graphic_printable w h

@@ -6,13 +6,14 @@ use Rattle.std.specs.Char.{digit_value}
 use Rattle.std.specs.Str.Parse.{AllDigits}
 use Rattle.std.proofs.lemmas.Bool.Decides.{nat_tests}
 use Rattle.std.proofs.lemmas.Fmt.{decimal_is_IsNumeral}
+use Rattle.swarm_objects.proofs.Tests.{both_are}
 use Rattle.swarm_objects.specs.declared.services.Mode.TheVariants as mode
 use Rattle.swarm_objects.specs.declared.templates.Key.{Key}
 use Rattle.script_grammar.specs.declared.fields.Field.TheVariants as field
 use Rattle.script_grammar.specs.declared.fields.NumberField.{NumberField}
 use Rattle.script_grammar.specs.declared.fields.NumberField.TheVariants as number
 use Rattle.script_grammar.proofs.Canonical.{IsSpelled}
-use Rattle.script_grammar.proofs.Numbers.{both, number_yes, test_yes}
+use Rattle.script_grammar.proofs.Numbers.{number_yes, test_yes}
 use Rattle.script_grammar.specs.Calls.{begins_version}
 use Rattle.swarm_filters.specs.Grammar.{begins_name, is_name, is_name_byte, is_value}
 use Rattle.swarm_filters.specs.Keys.{key_of}
@@ -41,15 +42,15 @@ differs b sep p at_b at_sep = go (nat_eq b sep) refl where
 pub clean_bytes : (sep : ℕ) (p : ℕ → Bool) → p sep ≡ false → (xs : List ℕ) → list_all p xs ≡ true → Clean sep xs
 clean_bytes sep p other [] h = tt
 clean_bytes sep p other (x ∷ xs) h =
-    let b = both (p x) (list_all p xs) h in
+    let b = both_are (p x) (list_all p xs) h in
     (differs x sep p b.0 other, clean_bytes sep p other xs b.1)
 
 -- the bytes of a name and of a value
 pub value_bytes : (w : List ℕ) → is_value w ≡ true → list_all is_name_byte w ≡ true
-value_bytes w h = (both (nat_lt 0 (length w) && nat_le (length w) 63) (list_all is_name_byte w) h).1
+value_bytes w h = (both_are (nat_lt 0 (length w) && nat_le (length w) 63) (list_all is_name_byte w) h).1
 
 pub name_bytes : (w : List ℕ) → is_name w ≡ true → list_all is_name_byte w ≡ true
-name_bytes w h = value_bytes w (both (begins_name w) (is_value w) h).1
+name_bytes w h = value_bytes w (both_are (begins_name w) (is_value w) h).1
 
 pub clean_name : (sep : ℕ) → is_name_byte sep ≡ false → (w : List ℕ) → is_name w ≡ true → Clean sep w
 clean_name sep other w h = clean_bytes sep is_name_byte other w (name_bytes w h)

@@ -1,8 +1,8 @@
 -- Nodes that pass two tests, one after the other.
-use Rattle.std.proofs.Common.{◌≡◌, ℕ, Bool, true, false, cond, List, [], ◌∷◌, length, None, refl, sym, ap, ◌∙◌}
-use Rattle.std.specs.Prelude.{◌&&◌, count_by, filter}
-use Rattle.std.proofs.lemmas.List.Sums.{length-filter}
+use Rattle.std.proofs.Common.{◌≡◌, ℕ, List, [], ◌∷◌, None, refl, sym, ap, ◌∙◌}
+use Rattle.std.specs.Prelude.{count_by, filter}
 use Rattle.swarm_admission.specs.Tested.{is_counted, is_open}
+use Rattle.swarm_objects.proofs.Filters.{count_both}
 use Rattle.swarm_objects.specs.Nodes.BestNode.{best_node, node_cmp}
 use Rattle.swarm_objects.specs.Nodes.Filters.{admits, is_refused_by, is_tested_on, refusal_counts, tested_nodes}
 use Rattle.swarm_objects.specs.Rows.{least_by}
@@ -10,10 +10,6 @@ use Rattle.swarm_objects.specs.World.{Tables}
 use Rattle.swarm_objects.specs.declared.nodes.Node.{Node}
 use Rattle.swarm_objects.specs.declared.tasks.Task.{Task}
 use Rattle.swarm_roles.proofs.Applied.{filter_both}
-
-count_both : {X : Type 0} (p q : X → Bool) (xs : List X) → count_by (λ x. p x && q x) xs ≡ count_by q (filter p xs)
-count_both p q xs =
-    sym (length-filter (λ x. p x && q x) xs) ∙ ap length (sym (filter_both p q xs)) ∙ length-filter q (filter p xs)
 
 counted : (t : Tables) (x : Task) (k : ℕ) →
     count_by (is_counted t x k) t.nodes ≡ count_by (is_refused_by t x k) (tested_nodes t x)

@@ -1,4 +1,2 @@
 pub mod Filtering
-mod LabelValues
 mod Placing
-mod Supported

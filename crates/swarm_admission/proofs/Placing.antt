@@ -1,7 +1,8 @@
 -- The tasks that are placed on a node.
-use Rattle.std.proofs.Common.{◌≡◌, ℕ, Bool, true, false, cond, List, [], ◌∷◌, refl, sym, ap, ◌∙◌}
+use Rattle.std.proofs.Common.{◌≡◌, ℕ, Bool, List, sym, ap, ◌∙◌}
 use Rattle.std.proofs.lemmas.List.Sums.{length-filter, sum_by-cons}
 use Rattle.std.specs.Prelude.{◌&&◌, count_by, filter, length}
+use Rattle.swarm_objects.proofs.Filters.{filter_within}
 use Rattle.swarm_objects.specs.Nodes.BestNode.{load}
 use Rattle.swarm_objects.specs.Nodes.Filters.{here}
 use Rattle.swarm_objects.specs.Nodes.Holdings.{is_placed_on, tasks_placed_on}
@@ -15,20 +16,6 @@ pub ruleset sum_steps = (sum_by-cons, few_among)
 pub ruleset count_steps = (count_by_yes, count_by_no, few_among)
 
 pub ruleset refusal_steps = (count_by_yes, count_by_no, few_nodes)
-
--- one test after the other
-filter_within : {X : Type 0} (p q : X → Bool) (xs : List X) → filter q (filter p xs) ≡ filter (λ x. q x && p x) xs
-filter_within p q [] = refl
-filter_within p q (x ∷ xs) = go (p x) (q x) refl (filter_within p q xs)
-  where
-    go : (a b : Bool) → q x ≡ b → filter q (filter p xs) ≡ filter (λ y. q y && p y) xs
-        → filter q (cond a (x ∷ filter p xs) (filter p xs))
-        ≡ cond (b && a) (x ∷ filter (λ y. q y && p y) xs) (filter (λ y. q y && p y) xs)
-    go true true is below =
-        ap (λ b. cond b (x ∷ filter q (filter p xs)) (filter q (filter p xs))) is ∙ ap (λ ys. x ∷ ys) below
-    go true false is below = ap (λ b. cond b (x ∷ filter q (filter p xs)) (filter q (filter p xs))) is ∙ below
-    go false true is below = below
-    go false false is below = below
 
 count_within : {X : Type 0} (p q : X → Bool) (xs : List X) → count_by q (filter p xs) ≡ count_by (λ x. q x && p x) xs
 count_within p q xs =

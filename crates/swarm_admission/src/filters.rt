@@ -54,7 +54,7 @@ fn has_platform(platforms: &[Platform], node: &Node) -> bool
 }
 
 // No platform is named, or one is the node's.
-#[tactic(auto, using(crate::proofs::Supported::one_named))]
+#[tactic(auto, using(swarm_objects::proofs::Supported::one_named))]
 fn is_supported(platforms: &[Platform], node: &Node) -> bool
     ensures { result ≡ is_supported platforms.now node.now }
 {

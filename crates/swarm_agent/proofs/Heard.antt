@@ -8,10 +8,10 @@ use Rattle.swarm_agent.specs.Agent.{is_stale}
 use Rattle.swarm_agent.specs.Hearing.{AreRising, HasDue, Hears, HearingLaw, are_fresh, hear, is_due_once, is_never_due, may_be_due, messages_of, never_returns, sent_after}
 use Rattle.swarm_matching.proofs.Hearing.{keys-has, message-tells, rows-left, update-row}
 use Rattle.swarm_matching.proofs.InStep.{same-aim}
-use Rattle.swarm_matching.proofs.Tests.{any-cases, both, no-way, or-left, or-right, refuted}
 use Rattle.swarm_matching.specs.Messages.{aimed_or_new, executor_after, is_sent_so, may_have}
 use Rattle.swarm_objects.proofs.Empty.{flat_map_empty}
 use Rattle.swarm_objects.proofs.RowLemmas.{Has-from_row_at, number_above, row_at-Some}
+use Rattle.swarm_objects.proofs.Tests.{any-has, both, false_from_ne_true, never-both, or_left, or_right}
 use Rattle.swarm_objects.specs.Agents.Messages.{applied, assigned_task, change_of, changes_of, complete_message, difference_message, gone_executor, is_sent, message_with, next_message, same_assigned, tasks_of_either, update_of}
 use Rattle.swarm_objects.specs.Loops.Agents.{begun}
 use Rattle.swarm_objects.specs.Rows.{Has, IsRising, executor_task, has_row, on_row, row_at}
@@ -203,7 +203,7 @@ module _ (clock : ℕ) (sent : Option NodeSent) (due : List Assigned) (m : Messa
       (e : Executor) × (row_at executor_task a.task es ≡ Some e) × (e.desired ≡ a.desired) × (e.gone ≡ false)
   sent-so None has a q = absurd (let wrong : false ≡ true = q in cc)
   sent-so (Some s) has a q =
-      let from = any-cases (same_assigned a) s.tasks q in
+      let from = any-has (same_assigned a) s.tasks q in
       let same = same-aim a from.0 from.2 in
       let f = has.items from.0 from.1 in
       (f.0, subst (λ (k : ℕ). row_at executor_task k es ≡ Some f.0) same.0 f.1, f.2 ∙ same.1, f.3)
@@ -218,10 +218,10 @@ module _ (clock : ℕ) (sent : Option NodeSent) (due : List Assigned) (m : Messa
       -- one that is due isn't gone
       alive : (a : Assigned) → Has due a → (e : Executor) → row_at executor_task a.task es ≡ Some e → e.gone ≡ false
       alive a h e at =
-          refuted e.gone (λ gone.
+          false_from_ne_true e.gone (λ gone.
           let task = (Has-from_row_at executor_task a.task es e at).1 in
           let off = never-head a.task due dues (gone-never e a.task (due ∷ dues) task (ready a.task e at) gone) in
-          no-way (has_row assigned_task a.task due) off
+          never-both (has_row assigned_task a.task due) off
           (there (row_at assigned_task a.task due) a (found due a rises h)))
 
       go : (a : Assigned) → Has due a → (b : Bool) → is_sent_so sent a ≡ b → (o : Option Executor) →
@@ -274,7 +274,7 @@ module _ (s : NodeSent) (due : List Assigned) (rises : IsRising assigned_task du
   same-task : (x : ℕ) → (has_row assigned_task x s.tasks || has_row assigned_task x due) ≡ true →
       change_of s.tasks due x ≡ []
   same-task x either =
-      let k = any-cases (λ (k : ℕ). eqb k x) (tasks_of_either s.tasks due) (keys-has x s.tasks due ∙ either) in
+      let k = any-has (λ (k : ℕ). eqb k x) (tasks_of_either s.tasks due) (keys-has x s.tasks due ∙ either) in
       let is : k.0 ≡ x = (let q = k.2 in grind (arith, nat_tests, q)) in
       subst (λ (j : ℕ). change_of s.tasks due j ≡ []) is
       (flat_map_empty (change_of s.tasks due) (tasks_of_either s.tasks due) k.0 none k.1)
@@ -315,9 +315,9 @@ module _ (s : NodeSent) (due : List Assigned) (rises : IsRising assigned_task du
     items = λ a h. item a h;
     others = λ x e at off.
         has.others x e at
-        (refuted (has_row assigned_task x s.tasks) (λ on.
-        let row = still x (same-task x (or-left (has_row assigned_task x s.tasks) (has_row assigned_task x due) on)) in
-        no-way (has_row assigned_task x due) off (there (row_at assigned_task x due) row.0 row.1)));
+        (false_from_ne_true (has_row assigned_task x s.tasks) (λ on.
+        let row = still x (same-task x (or_left (has_row assigned_task x s.tasks) (has_row assigned_task x due) on)) in
+        never-both (has_row assigned_task x due) off (there (row_at assigned_task x due) row.0 row.1)));
   }
     where
       item : (a : Assigned) → Has due a →
@@ -325,11 +325,11 @@ module _ (s : NodeSent) (due : List Assigned) (rises : IsRising assigned_task du
       item a h =
           let here = found due a rises h in
           let row =
-          still a.task (same-task a.task (or-right (has_row assigned_task a.task s.tasks)
+          still a.task (same-task a.task (or_right (has_row assigned_task a.task s.tasks)
           (has_row assigned_task a.task due) (there (row_at assigned_task a.task due) a here))) in
           let is : row.0 ≡ a = one (row_at assigned_task a.task due) row.0 a row.1 here in
           let sent : is_sent s.tasks a ≡ true = subst (λ (z : Assigned). is_sent s.tasks z ≡ true) is row.2 in
-          let from = any-cases (same_assigned a) s.tasks sent in
+          let from = any-has (same_assigned a) s.tasks sent in
           let same = same-aim a from.0 from.2 in
           let f = has.items from.0 from.1 in
           (f.0, subst (λ (k : ℕ). row_at executor_task k es ≡ Some f.0) same.0 f.1, f.2 ∙ same.1, f.3)

@@ -1,4 +1,3 @@
 mod Applying
-mod FreeNumbers
 mod Pooled
 mod Steps

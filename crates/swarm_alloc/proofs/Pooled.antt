@@ -2,9 +2,9 @@
 use Rattle.std.proofs.Common.{◌≡◌, ◌∙◌, ◌+◌, ◌<◌, ◌≤◌, ◌⊎◌, Bool, List, None, Option, Some, [], ap, arith, cond, drop, false, inl, inr, leb, length, refl, subst, suc, sym, true, zero, ℕ, ◌∷◌}
 use Rattle.std.proofs.lemmas.Bool.Decides.{nat_tests}
 use Rattle.std.specs.Prelude.{fold, ◌&&◌}
-use Rattle.swarm_roles.proofs.AnyOf.{rising-has}
-use Rattle.swarm_alloc.proofs.FreeNumbers.{gap-free, gap-held, is_taken, not-Has, rising-cases, rising-rises, taken-Has, with_number-cases}
 use Rattle.swarm_objects.proofs.Gaps.{Has-with_number_keeps, Has-with_row, first_gap-ge}
+use Rattle.swarm_objects.proofs.FreeNumbers.{is_taken, not-Has, taken-Has}
+use Rattle.swarm_objects.proofs.Rising.{gap-free, gap-held, rising-cases, rising-has, rising-rises, with_number-cases}
 use Rattle.swarm_objects.specs.Rows.{Has, IsRising, first_free, first_gap, itself, rising, with_number}
 
 -- what is taken, and this number, where it is one of the pool's

@@ -1,23 +1,12 @@
--- Whether one row holds an address or wants a number, and a change of one service.
-use Rattle.std.specs.Prelude.{Bool, List, None, Option, Some, [], ℕ, ◌&&◌, ◌==◌, ◌∷◌}
-use Rattle.std.specs.List.{list_any}
+-- Whether a port can get a number, and a change of one service.
+use Rattle.std.specs.Prelude.{Bool, List, None, Option, Some, [], ◌&&◌, ◌∷◌}
 use Rattle.swarm_objects.specs.Loops.Allocator.{has_free_port}
 use Rattle.swarm_objects.specs.Services.Ports.{is_unnumbered}
-use Rattle.swarm_objects.specs.Tasks.Words.{is_not_over}
 use Rattle.swarm_objects.specs.World.{Tables}
 use Rattle.swarm_objects.specs.declared.rows.Change.{Change}
 use Rattle.swarm_objects.specs.declared.rows.Change.TheVariants as change
 use Rattle.swarm_objects.specs.declared.services.Service.{Service}
-use Rattle.swarm_objects.specs.declared.tasks.Address.{Address}
-use Rattle.swarm_objects.specs.declared.tasks.Task.{Task}
 use Rattle.swarm_objects.specs.declared.templates.Port.{Port}
-
-abbrev pub is_address : ℕ → ℕ → Address → Bool
-is_address network number a = a.network == network && a.number == number
-
--- the task is up to RUNNING, and has this address
-abbrev pub holds_address : ℕ → ℕ → Task → Bool
-holds_address network number x = is_not_over x && list_any (is_address network number) x.addresses
 
 -- the port can get a number
 abbrev pub gets_number : Tables → Service → Port → Bool

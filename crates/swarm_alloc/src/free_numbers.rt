@@ -5,7 +5,7 @@ ghost use Rattle.swarm_objects.specs.Loops.Allocator.{has_free_address, has_free
 ghost use Rattle.swarm_objects.specs.Services.Ports.{free_port, holds_port};
 ghost use Rattle.swarm_objects.specs.Tasks.Addresses.{addresses_held, free_address, free_in};
 ghost use Rattle.swarm_roles.specs.Usable.{IsUsable};
-ghost use Rattle.swarm_alloc.specs.Allocating.{holds_address, is_address};
+ghost use Rattle.swarm_objects.specs.Tasks.Holders.{holds_address, is_address};
 
 use crate::ports::{FIRST_PORT, LAST_PORT, holds_port};
 use swarm_objects::{Address, Id, Network, Rows, Task};

@@ -4,10 +4,11 @@ use Rattle.std.specs.Bool.{Decides}
 use Rattle.std.specs.Prelude.{◌&&◌, ◌==◌, map}
 use Rattle.std.specs.Cmp.Lexicographic.{pointwise}
 use Rattle.std.proofs.lemmas.Bool.Decides.{Decides-and, Decides-eqb, Decides-like}
-use Rattle.swarm_assign.proofs.Together.{Meets, first, second, both, neither, meets, merged_both, merged_first, merged_second, rising-from}
+use Rattle.swarm_assign.proofs.Together.{Meets, first, second, both, neither, meets, merged_both, merged_first, merged_second}
 use Rattle.swarm_assign.specs.Inside.Merging.{change_task, difference_of, left_of, merged}
 use Rattle.swarm_objects.proofs.RowLemmas.{RisesFrom-lower}
 use Rattle.swarm_objects.proofs.SameLemmas.{Decides-pointwise, Decides-same_workload}
+use Rattle.swarm_objects.proofs.RowChanges.{rising_from}
 use Rattle.swarm_objects.specs.Agents.Messages.{assigned_task, same_assigned}
 use Rattle.swarm_objects.specs.Rows.{IsRising, RisesFrom}
 use Rattle.swarm_objects.specs.Same.{same_workload}
@@ -67,7 +68,7 @@ Pair sent due = Meets Assigned Assigned assigned_task assigned_task sent due
 
 pair : (n : ℕ) (sent due : List Assigned) → RisesFrom assigned_task n sent → RisesFrom assigned_task n due → Pair sent due
 pair n sent due r q =
-    meets assigned_task assigned_task sent due (rising-from assigned_task n sent r) (rising-from assigned_task n due q)
+    meets assigned_task assigned_task sent due (rising_from assigned_task n sent r) (rising_from assigned_task n due q)
 
 -- changes rise, as tasks do
 
@@ -128,7 +129,7 @@ is-rising-step (both {x = x} {xs = xs} {y = y} {ys = ys} e a b) =
   where
     go : (c : Bool) → RisesFrom change_task y.task (differing xs ys) →
         IsRising change_task (cond c [] (assign.Update y ∷ []) ++ differing xs ys)
-    go true h = rising-from change_task y.task (differing xs ys) h
+    go true h = rising_from change_task y.task (differing xs ys) h
     go false h = h
 
 pub differing-is-rising : (sent due : List Assigned) → IsRising assigned_task sent → IsRising assigned_task due →
@@ -163,16 +164,16 @@ left-step (first {x = x} {xs = xs} {ys = ys} a b) below =
     ap (λ cs. left_by cs (x ∷ xs)) (merged_first assigned_task assigned_task difference_of x xs ys a b)
     ∙ merged_both change_task assigned_task left_of (assign.Remove x.task) (differing xs ys) x xs refl
     (rises x.task xs ys a b) a
-    ∙ below xs ys (omega arith) (rising-from assigned_task x.task xs a) (rising-from assigned_task x.task ys b)
+    ∙ below xs ys (omega arith) (rising_from assigned_task x.task xs a) (rising_from assigned_task x.task ys b)
 left-step (second {xs = xs} {y = y} {ys = ys} a b) below =
     ap (λ cs. left_by cs xs) (merged_second assigned_task assigned_task difference_of xs y ys a b)
     ∙ merged_first change_task assigned_task left_of (assign.Update y) (differing xs ys) xs (rises y.task xs ys a b) a
     ∙ ap (λ zs. y ∷ zs)
-    (below xs ys (omega arith) (rising-from assigned_task y.task xs a) (rising-from assigned_task y.task ys b))
+    (below xs ys (omega arith) (rising_from assigned_task y.task xs a) (rising_from assigned_task y.task ys b))
 left-step (both {x = x} {xs = xs} {y = y} {ys = ys} e a b) below =
     ap (λ cs. left_by cs (x ∷ xs)) (merged_both assigned_task assigned_task difference_of x xs y ys e a b)
     ∙ left-both x xs y ys e a b
-    (below xs ys (omega arith) (rising-from assigned_task x.task xs a) (rising-from assigned_task y.task ys b))
+    (below xs ys (omega arith) (rising_from assigned_task x.task xs a) (rising_from assigned_task y.task ys b))
     (same_assigned y x) refl
 
 left-is : (fuel : ℕ) (sent due : List Assigned) → length sent + length due ≤ fuel → IsRising assigned_task sent →
@@ -208,7 +209,7 @@ pub unchanged : (told : List Assigned) → IsRising assigned_task told → left_
 unchanged [] r = refl
 unchanged (a ∷ told) r =
     merged_second change_task assigned_task left_of [] a told tt r
-    ∙ ap (λ zs. a ∷ zs) (unchanged told (rising-from assigned_task a.task told r))
+    ∙ ap (λ zs. a ∷ zs) (unchanged told (rising_from assigned_task a.task told r))
 
 -- a whole message
 
@@ -226,4 +227,4 @@ all-updated [] r = refl
 all-updated (d ∷ due) r =
     merged_first change_task assigned_task left_of (assign.Update d) (map assign.Update due) []
     (updates-rise-from d.task due r) tt
-    ∙ ap (λ zs. d ∷ zs) (all-updated due (rising-from assigned_task d.task due r))
+    ∙ ap (λ zs. d ∷ zs) (all-updated due (rising_from assigned_task d.task due r))

@@ -3,9 +3,11 @@ use Rattle.std.proofs.Common.{◌≡◌, ℕ, ◌≤◌, ◌<◌, Bool, true, fa
 use Rattle.std.specs.Prelude.{◌&&◌, ◌||◌, ◌==◌, filter, flat_map, is_some, map, not}
 use Rattle.std.proofs.lemmas.Bool.Decides.{nat_tests}
 use Rattle.std.proofs.lemmas.List.{map-append}
-use Rattle.swarm_assign.proofs.Together.{flat_map-same, rising-from}
+use Rattle.swarm_assign.proofs.Together.{flat_map-same}
 use Rattle.swarm_assign.specs.Inside.Merging.{difference_of, merged}
 use Rattle.swarm_objects.proofs.RowLemmas.{Has-from_row_at, RisesFrom-filter}
+use Rattle.swarm_objects.proofs.RowChanges.{rising_from}
+use Rattle.swarm_objects.proofs.Tests.{or_false}
 use Rattle.swarm_objects.specs.Agents.Messages.{assigned_task, change_of, changes_of, is_sent, same_assigned, update_of}
 use Rattle.swarm_objects.specs.Rows.{IsRising, RisesFrom, rising, row_at}
 use Rattle.swarm_objects.specs.Same.{same_workload}
@@ -34,10 +36,6 @@ abbrev is_sent_so : Assigned → Option Assigned → Bool
 is_sent_so a None = false
 is_sent_so a (Some s) = same_assigned a s
 
-or-false : (b : Bool) → (b || false) ≡ b
-or-false true = refl
-or-false false = refl
-
 turned : (a b : ℕ) → eqb a b ≡ eqb b a
 turned a b = grind (arith, nat_tests)
 
@@ -48,13 +46,13 @@ sent-is : (a : Assigned) (sent : List Assigned) → IsRising assigned_task sent 
     is_sent sent a ≡ is_sent_so a (row_at assigned_task a.task sent)
 sent-is a [] r = refl
 sent-is a (s ∷ sent) r =
-    go (eqb s.task a.task) refl (sent-is a sent (rising-from assigned_task s.task sent r))
+    go (eqb s.task a.task) refl (sent-is a sent (rising_from assigned_task s.task sent r))
   where
     go : (b : Bool) → eqb s.task a.task ≡ b → is_sent sent a ≡ is_sent_so a (row_at assigned_task a.task sent) →
         (same_assigned a s || is_sent sent a) ≡ is_sent_so a (cond b (Some s) (row_at assigned_task a.task sent))
     go true e below =
         ap (λ b. same_assigned a s || b) (none-sent s.task a sent r (equal-number s.task a.task e))
-        ∙ or-false (same_assigned a s)
+        ∙ or_false (same_assigned a s)
     go false e below =
         ap (λ b. b || is_sent sent a) (other-assigned a s (turned a.task s.task ∙ e)) ∙ below
 
@@ -71,7 +69,7 @@ one-update : (p : Assigned → Bool) (k : ℕ) (due : List Assigned) (d : Assign
     row_at assigned_task k due ≡ Some d → update_of (filter p due) k ≡ cond (p d) (assign.Update d ∷ []) []
 one-update p k [] d r is = absurd cc
 one-update p k (a ∷ due) d r is =
-    go (eqb a.task k) refl is (one-update p k due d (rising-from assigned_task a.task due r))
+    go (eqb a.task k) refl is (one-update p k due d (rising_from assigned_task a.task due r))
   where
     here : (b : Bool) → p a ≡ b → eqb a.task k ≡ true →
         update_of (cond b (a ∷ filter p due) (filter p due)) k ≡ cond b (assign.Update a ∷ []) []

@@ -1,8 +1,9 @@
 -- What a node is to have, by its tasks.
-use Rattle.std.proofs.Common.{◌≡◌, ℕ, Bool, true, false, cond, List, [], ◌∷◌, refl, sym, ap, subst}
-use Rattle.std.specs.Prelude.{◌&&◌, filter, map}
+use Rattle.std.proofs.Common.{◌≡◌, ℕ, List, [], ◌∷◌, sym, ap, subst}
+use Rattle.std.specs.Prelude.{filter, map}
 use Rattle.swarm_assign.specs.Inside.Merging.{is_from_assigned}
 use Rattle.swarm_objects.proofs.Gaps.{IsRising-filter}
+use Rattle.swarm_objects.proofs.Filters.{filter_within}
 use Rattle.swarm_objects.specs.Agents.Messages.{assigned, assigned_task, due_set, is_assigned_on}
 use Rattle.swarm_objects.specs.Rows.{IsRising, RisesFrom, task_id}
 use Rattle.swarm_objects.specs.Tasks.Words.{is_on}
@@ -11,31 +12,9 @@ use Rattle.swarm_objects.specs.declared.messages.Assigned.{Assigned}
 use Rattle.swarm_objects.specs.declared.tasks.Task.{Task}
 use Rattle.swarm_roles.specs.Usable.{IsUsable}
 
-filter-both : {X : Type 0} (p q : X → Bool) (xs : List X) → filter q (filter p xs) ≡ filter (λ x. q x && p x) xs
-filter-both p q [] = refl
-filter-both p q (x ∷ xs) = go (p x) (filter-both p q xs)
-  where
-    kept : (b : Bool) → filter q (filter p xs) ≡ filter (λ y. q y && p y) xs →
-        cond b (x ∷ filter q (filter p xs)) (filter q (filter p xs))
-        ≡ cond (b && true) (x ∷ filter (λ y. q y && p y) xs) (filter (λ y. q y && p y) xs)
-    kept true e = ap (λ zs. x ∷ zs) e
-    kept false e = e
-
-    passed : (b : Bool) → filter q (filter p xs) ≡ filter (λ y. q y && p y) xs →
-        filter q (filter p xs)
-        ≡ cond (b && false) (x ∷ filter (λ y. q y && p y) xs) (filter (λ y. q y && p y) xs)
-    passed true e = e
-    passed false e = e
-
-    go : (a : Bool) → filter q (filter p xs) ≡ filter (λ y. q y && p y) xs →
-        filter q (cond a (x ∷ filter p xs) (filter p xs))
-        ≡ cond (q x && a) (x ∷ filter (λ y. q y && p y) xs) (filter (λ y. q y && p y) xs)
-    go true e = kept (q x) e
-    go false e = passed (q x) e
-
 pub due_of_node : (t : Tables) (node : ℕ) →
     map assigned (filter is_from_assigned (filter (is_on node) t.tasks)) ≡ due_set t node
-due_of_node t node = ap (map assigned) (filter-both (is_on node) is_from_assigned t.tasks)
+due_of_node t node = ap (map assigned) (filter_within (is_on node) is_from_assigned t.tasks)
 
 assigned-rise-from : (n : ℕ) (xs : List Task) → RisesFrom task_id n xs → RisesFrom assigned_task n (map assigned xs)
 assigned-rise-from n [] r = tt

@@ -1,102 +1,14 @@
 -- Two lists by rising number are gone through number by number.
-use Rattle.std.proofs.Common.{◌≡◌, ℕ, ◌+◌, ◌<◌, length, append-nil, Bool, true, false, cond, eqb, ltb, List, [], ◌∷◌, ◌++◌, refl, ap, sym, ◌∙◌, subst, Option, Some, None, ◌⊎◌, inl, inr, arith, append_assoc, min}
-use Rattle.std.specs.Prelude.{flat_map, fold, map}
+use Rattle.std.proofs.Common.{◌≡◌, ℕ, ◌+◌, ◌<◌, length, append-nil, Bool, true, false, cond, eqb, ltb, List, [], ◌∷◌, ◌++◌, refl, ap, sym, ◌∙◌, subst, Option, Some, None, inl, inr, arith, append_assoc, min}
+use Rattle.std.specs.Prelude.{flat_map, map}
 use Rattle.std.proofs.lemmas.Bool.Decides.{nat_tests}
-use Rattle.std.proofs.lemmas.Grind.{fold-append}
 use Rattle.swarm_assign.specs.Inside.Merging.{head_at, least_key, merged, rest_at}
-use Rattle.swarm_objects.proofs.RowLemmas.{Has-append_cases, Has-map_cases, number_above, row_at-None_below}
-use Rattle.swarm_objects.specs.Rows.{Has, IsRising, RisesFrom, rising, row_at, with_number}
-
--- Numbers among rising ones.
-
-abbrev insert_all : List ℕ → List ℕ → List ℕ
-insert_all acc js = fold (λ ks k. with_number k ks) acc js
-
-abbrev AllAbove : ℕ → List ℕ → Type 0
-AllAbove k js = (j : ℕ) → Has js j → k < j
-
-insert-first : (k : ℕ) (acc : List ℕ) → AllAbove k acc → with_number k acc ≡ k ∷ acc
-insert-first k [] above = refl
-insert-first k (j ∷ acc) above =
-    let lt : k < j = above j (inl refl) in
-    let less : ltb k j ≡ true = grind (arith, nat_tests) in
-    rw less refl
-
-insert-again : (k : ℕ) (acc : List ℕ) → with_number k (k ∷ acc) ≡ k ∷ acc
-insert-again k acc =
-    let less : ltb k k ≡ false = grind (arith, nat_tests) in
-    let same : eqb k k ≡ true = grind (arith, nat_tests) in
-    rw (less, same) refl
-
-insert-behind : (k j : ℕ) (acc : List ℕ) → k < j → with_number j (k ∷ acc) ≡ k ∷ with_number j acc
-insert-behind k j acc lt =
-    let less : ltb j k ≡ false = grind (arith, nat_tests) in
-    let same : eqb j k ≡ false = grind (arith, nat_tests) in
-    rw (less, same) refl
-
-insert_all-behind : (k : ℕ) (js acc : List ℕ) → AllAbove k js → insert_all (k ∷ acc) js ≡ k ∷ insert_all acc js
-insert_all-behind k [] acc above = refl
-insert_all-behind k (j ∷ js) acc above =
-    ap (λ ks. insert_all ks js) (insert-behind k j acc (above j (inl refl)))
-    ∙ insert_all-behind k js (with_number j acc) (λ i h. above i (inr h))
-
-insert-cases : (k j : ℕ) (acc : List ℕ) → Has (with_number k acc) j → (k ≡ j) ⊎ Has acc j
-insert-cases k j [] (inl e) = inl e
-insert-cases k j [] (inr h) = absurd h
-insert-cases k j (i ∷ acc) h = go (ltb k i) (eqb k i) (insert-cases k j acc) h
-  where
-    go : (a b : Bool) → (Has (with_number k acc) j → (k ≡ j) ⊎ Has acc j) →
-        Has (cond a (k ∷ i ∷ acc) (cond b (k ∷ acc) (i ∷ with_number k acc))) j → (k ≡ j) ⊎ Has (i ∷ acc) j
-    go true b below (inl e) = inl e
-    go true b below (inr m) = inr m
-    go false true below (inl e) = inl e
-    go false true below (inr m) = inr (inr m)
-    go false false below (inl e) = inr (inl e)
-    go false false below (inr m) = elim (below m) [ inl e ↦ inl e | inr n ↦ inr (inr n) ]
-
-insert_all-cases : (js acc : List ℕ) (j : ℕ) → Has (insert_all acc js) j → Has acc j ⊎ Has js j
-insert_all-cases [] acc j h = inl h
-insert_all-cases (k ∷ js) acc j h = go (insert_all-cases js (with_number k acc) j h)
-  where
-    go : Has (with_number k acc) j ⊎ Has js j → Has acc j ⊎ Has (k ∷ js) j
-    go (inl m) = elim (insert-cases k j acc m) [ inl e ↦ inr (inl e) | inr n ↦ inl n ]
-    go (inr m) = inr (inr m)
-
-above-insert_all : (k : ℕ) (js : List ℕ) → AllAbove k js → AllAbove k (rising js)
-above-insert_all k js above j h = elim (insert_all-cases js [] j h) [ inl m ↦ absurd m | inr m ↦ above j m ]
-
-above-append : (k : ℕ) (is js : List ℕ) → AllAbove k is → AllAbove k js → AllAbove k (is ++ js)
-above-append k is js a b j h = elim (Has-append_cases is js j h) [ inl m ↦ a j m | inr m ↦ b j m ]
-
--- the least number comes first, whether it stands in the first list, in the second, or in both
-rising-first : (k : ℕ) (is js : List ℕ) → AllAbove k is → AllAbove k js → rising ((k ∷ is) ++ js) ≡ k ∷ rising (is ++ js)
-rising-first k is js a b = insert_all-behind k (is ++ js) [] (above-append k is js a b)
-
-rising-second : (k : ℕ) (is js : List ℕ) → AllAbove k is → AllAbove k js → rising (is ++ k ∷ js) ≡ k ∷ rising (is ++ js)
-rising-second k is js a b =
-    fold-append (λ ks j. with_number j ks) [] is (k ∷ js)
-    ∙ ap (λ ks. insert_all ks js) (insert-first k (rising is) (above-insert_all k is a))
-    ∙ insert_all-behind k js (rising is) b
-    ∙ ap (λ ks. k ∷ ks) (sym (fold-append (λ ks j. with_number j ks) [] is js))
-
-rising-both : (k : ℕ) (is js : List ℕ) → AllAbove k is → AllAbove k js → rising ((k ∷ is) ++ k ∷ js) ≡ k ∷ rising (is ++ js)
-rising-both k is js a b =
-    fold-append (λ ks j. with_number j ks) (k ∷ []) is (k ∷ js)
-    ∙ ap (λ ks. insert_all (with_number k ks) js) (insert_all-behind k is [] a)
-    ∙ ap (λ ks. insert_all ks js) (insert-again k (rising is))
-    ∙ insert_all-behind k js (rising is) b
-    ∙ ap (λ ks. k ∷ ks) (sym (fold-append (λ ks j. with_number j ks) [] is js))
+use Rattle.swarm_objects.proofs.RowLemmas.{row_at-None_below}
+use Rattle.swarm_objects.proofs.RowChanges.{rising_from}
+use Rattle.swarm_objects.proofs.Rising.{AllAbove, above-append, above-rising, keys-above, rising-both, rising-first, rising-second}
+use Rattle.swarm_objects.specs.Rows.{Has, IsRising, RisesFrom, rising, row_at}
 
 -- Rows behind a number.
-
-pub rising-from : {X : Type 0} (key : X → ℕ) (least : ℕ) (rows : List X) → RisesFrom key least rows → IsRising key rows
-rising-from key least [] r = tt
-rising-from key least (x ∷ rows) r = r.1
-
-keys-above : {X : Type 0} (key : X → ℕ) (id : ℕ) (rows : List X) → RisesFrom key id rows → AllAbove id (map key rows)
-keys-above key id rows r j h =
-    let m = Has-map_cases key rows j h in
-    subst (λ k. id < k) m.2 (number_above key id rows m.0 r m.1)
 
 -- a look-up of a greater number passes over the first row
 row-later : {X : Type 0} (key : X → ℕ) (j : ℕ) (x : X) (rows : List X) → key x < j →
@@ -129,7 +41,7 @@ module _ {X Y Z : Type 0} (kx : X → ℕ) (ky : Y → ℕ) (give : ℕ → Opti
   above-left : (n : ℕ) (xs : List X) (ys : List Y) → RisesFrom kx n xs → RisesFrom ky n ys →
       AllAbove n (rising (map kx xs ++ map ky ys))
   above-left n xs ys r q =
-      above-insert_all n (map kx xs ++ map ky ys)
+      above-rising n (map kx xs ++ map ky ys)
       (above-append n (map kx xs) (map ky ys) (keys-above kx n xs r) (keys-above ky n ys q))
 
   pub merged_first : (x : X) (xs : List X) (ys : List Y) → RisesFrom kx (kx x) xs → RisesFrom ky (kx x) ys →
@@ -283,8 +195,8 @@ step-first kx ky give x xs ys r q =
           ∙ ap (λ zs. give (kx x) (Some x) None ++ merged kx ky give zs (rest_at ky (kx x) ys)) t
           ∙ ap (λ zs. give (kx x) (Some x) None ++ merged kx ky give xs zs) u);
       less = omega (arith, ap length t, ap length u);
-      rises_one = subst (IsRising kx) (sym t) (rising-from kx (kx x) xs r);
-      rises_two = subst (IsRising ky) (sym u) (rising-from ky (kx x) ys q);
+      rises_one = subst (IsRising kx) (sym t) (rising_from kx (kx x) xs r);
+      rises_two = subst (IsRising ky) (sym u) (rising_from ky (kx x) ys q);
     }
 
 step-second : {X Y Z : Type 0} (kx : X → ℕ) (ky : Y → ℕ) (give : ℕ → Option X → Option Y → List Z) (xs : List X)
@@ -305,8 +217,8 @@ step-second kx ky give xs y ys r q =
           ∙ ap (λ zs. give (ky y) None (Some y) ++ merged kx ky give zs (rest_at ky (ky y) (y ∷ ys))) u
           ∙ ap (λ zs. give (ky y) None (Some y) ++ merged kx ky give xs zs) t);
       less = omega (arith, ap length t, ap length u);
-      rises_one = subst (IsRising kx) (sym u) (rising-from kx (ky y) xs r);
-      rises_two = subst (IsRising ky) (sym t) (rising-from ky (ky y) ys q);
+      rises_one = subst (IsRising kx) (sym u) (rising_from kx (ky y) xs r);
+      rises_two = subst (IsRising ky) (sym t) (rising_from ky (ky y) ys q);
     }
 
 step-both : {X Y Z : Type 0} (kx : X → ℕ) (ky : Y → ℕ) (give : ℕ → Option X → Option Y → List Z) (x : X)
@@ -328,8 +240,8 @@ step-both kx ky give x xs y ys e r q =
           ∙ ap (λ zs. give (kx x) (Some x) (Some y) ++ merged kx ky give zs (rest_at ky (kx x) (y ∷ ys))) t
           ∙ ap (λ zs. give (kx x) (Some x) (Some y) ++ merged kx ky give xs zs) u);
       less = omega (arith, ap length t, ap length u);
-      rises_one = subst (IsRising kx) (sym t) (rising-from kx (kx x) xs r);
-      rises_two = subst (IsRising ky) (sym u) (rising-from ky (ky y) ys q);
+      rises_one = subst (IsRising kx) (sym t) (rising_from kx (kx x) xs r);
+      rises_two = subst (IsRising ky) (sym u) (rising_from ky (ky y) ys q);
     }
 
 steps-of : {X Y Z : Type 0} {kx : X → ℕ} {ky : Y → ℕ} {xs : List X} {ys : List Y}

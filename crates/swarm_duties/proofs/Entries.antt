@@ -81,11 +81,10 @@ seen_events w v d did = ap (λ (u : World). u.events) did ∙ events-duty (w.ent
 -- the settle test, as an entry
 pub settled_call : (w v : World) (budget : ℕ) (answer : Settle) (o : Option Refusal) →
     o ≡ refusal_of w (call.Settle budget) → ((r : Refusal) → o ≡ Some r → ⊥) → answer ≡ settle_answer w →
-    v ≡ entered_unseen (w.entries + 1) w → Meets (outcome w (call.Settle budget)) w (reply.Settle budget answer) v
+    v ≡ entered_unseen (w.entries + 1) w → Gives (outcome w (call.Settle budget)) (reply.Settle budget answer) v
 settled_call w v budget answer (Some r) is none told ends = absurd (none r refl)
 settled_call w v budget answer None is none told ends =
-    let same = outcome-admitted w (call.Settle budget) (admitted-unrefused w (call.Settle budget) (sym is)) in
-    inl (
+    let same = outcome-admitted w (call.Settle budget) (admitted-unrefused w (call.Settle budget) (sym is)) in (
       ap (reply.Settle budget) told ∙ ap (λ (o : Outcome). o.reply) (sym same),
       ends ∙ sym (settle-unseen w) ∙ ap (λ (o : Outcome). o.after) (sym same),
     )
@@ -107,4 +106,4 @@ reached_step before after what (Ok told) is does = record {
       ∙ sym (replay-snoc empty_world is.history (record { by = 0; what = what }));
 }
 reached_step before after what (Err Illegal) is does = subst IsReached (sym does.1) is
-reached_step before after what (Err NoMemory) is does = subst IsReached (sym does) is
+reached_step before after what (Err NoMemory) is does = subst IsReached (sym does.1) is

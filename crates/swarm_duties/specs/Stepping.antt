@@ -8,8 +8,8 @@ use Rattle.swarm_objects.specs.World.{World}
 use Rattle.swarm_objects.specs.declared.calls.What.{What}
 use Rattle.swarm_objects.specs.declared.replies.Reply.{Reply}
 
--- an entry that may follow was done, or it is one that may not, or memory was wanting; a fault changes nothing
+-- an entry that may follow was done, or memory was wanting for it; or it is one that may not. A fault changes nothing
 abbrev pub DoesStep : World → What → Result Reply StepFault → World → Type 0
 DoesStep before what (Ok reply) after = (may_follow before what ≡ true) × Gives (step before what) reply after
 DoesStep before what (Err Illegal) after = (may_follow before what ≡ false) × (after ≡ before)
-DoesStep before what (Err NoMemory) after = after ≡ before
+DoesStep before what (Err NoMemory) after = (may_follow before what ≡ true) × (after ≡ before)

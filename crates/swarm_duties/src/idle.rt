@@ -1,5 +1,5 @@
 // What the settle test answers where no control loop has a duty.
-ghost use Rattle.std.specs.Prelude.{◌≡◌, find, flat_map, IfOk, option_to_list};
+ghost use Rattle.std.specs.Prelude.{◌≡◌, find, flat_map, option_to_list};
 ghost use Rattle.std.specs.Option.{option_copied};
 ghost use Rattle.swarm_model.specs.Settle.{
   first_wait,
@@ -18,19 +18,19 @@ ghost use Rattle.swarm_plain.specs.Plain.{tables_of, world_of};
 use crate::update_waits::update_waits;
 use crate::waits::{Wait, executor_waits, remote_waits, session_waits, start_waits};
 use duty_updates::runs::{is_of_version, is_under_way};
-use swarm_objects::{NoMemory, RunStatus, Service, Settle, Task};
+use swarm_objects::{RunStatus, Service, Settle, Task};
 use swarm_plain::Plain;
 
 // The least of all waits.
-fn first_wait(plain: &Plain) -> Result<Option<Wait>, NoMemory>
+fn first_wait(plain: &Plain) -> Option<Wait>
     requires { IsSmall (world_of plain.now) }
-    ensures { IfOk result (λ wait. wait ≡ first_wait (world_of plain.now)) }
+    ensures { result ≡ first_wait (world_of plain.now) }
 {
     let started = start_waits(plain, None);
-    let updated = update_waits(plain, started)?;
+    let updated = update_waits(plain, started);
     let executed = executor_waits(plain, updated);
     let heard = session_waits(plain, executed);
-    Ok(remote_waits(plain, heard))
+    remote_waits(plain, heard)
 }
 
 // A live clean task of the service is below RUNNING.
@@ -126,18 +126,18 @@ fn paused(plain: &Plain) -> Option<Settle>
 }
 
 /// Without duties the world waits for the least time that is waited for, is held up or paused, or has settled.
-pub fn idle_answer(plain: &Plain) -> Result<Settle, NoMemory>
+pub fn idle_answer(plain: &Plain) -> Settle
     requires { IsSmall (world_of plain.now) }
-    ensures { IfOk result (λ answer. answer ≡ idle_answer (world_of plain.now)) }
+    ensures { result ≡ idle_answer (world_of plain.now) }
 {
-    if let Some(wait) = first_wait(plain)? {
-        return Ok(Settle::Waiting(wait.time, wait.cause, wait.id));
+    if let Some(wait) = first_wait(plain) {
+        return Settle::Waiting(wait.time, wait.cause, wait.id);
     }
     if let Some(answer) = held(plain) {
-        return Ok(answer);
+        return answer;
     }
     match paused(plain) {
-        Some(answer) => Ok(answer),
-        None => Ok(Settle::Settled),
+        Some(answer) => answer,
+        None => Settle::Settled,
     }
 }

@@ -1,11 +1,11 @@
 // The duties of each control loop, and the settle test.
-ghost use Rattle.std.specs.Prelude.{◌≡◌, IfOk, None, flat_map};
+ghost use Rattle.std.specs.Prelude.{◌≡◌, IfOk, None, Ok, flat_map};
 ghost use Rattle.std.specs.Bool.{OnTrue};
 ghost use Rattle.swarm_duties.specs.Quiet.{IsQuiet, table_roles};
 ghost use Rattle.swarm_duties.specs.Reached.{IsReached};
 ghost use Rattle.swarm_matching.specs.Matched.{IsMatched};
 ghost use Rattle.swarm_model.specs.Calls.{outcome};
-ghost use Rattle.swarm_model.specs.Outcome.{Meets};
+ghost use Rattle.swarm_model.specs.Outcome.{Gives};
 ghost use Rattle.swarm_model.specs.Settle.{settle_answer};
 ghost use Rattle.swarm_objects.specs.Duties.{duties};
 ghost use Rattle.swarm_objects.specs.Kinds.{roles};
@@ -25,7 +25,7 @@ use duty_orchestrators::restart::{restart_duties, restart_first};
 use duty_placement::allocator::{allocator_duties, allocator_first};
 use duty_placement::scheduler::{scheduler_duties, scheduler_first};
 use duty_updates::updates::{update_duties, update_first};
-use swarm_objects::{Call, Duty, List, NoMemory, Refusal, Reply, Role, Settle};
+use swarm_objects::{Call, Duty, List, NoMemory, Reply, Role, Settle};
 use swarm_plain::Plain;
 
 // The control loops that read the tables alone.
@@ -63,105 +63,107 @@ pub fn duties(plain: &Plain, role: Role) -> Result<List<Duty>, NoMemory>
 }
 
 /// The first duty of the control loop, if it has one. What comes behind it isn't worked out.
-pub fn next_duty(plain: &Plain, role: Role) -> Result<Option<Duty>, NoMemory>
+pub fn next_duty(plain: &Plain, role: Role) -> Option<Duty>
     requires { IsReached (world_of plain.now) }
-    ensures { IfOk result (λ first. first ≡ first_of (duties role (world_of plain.now))) }
+    ensures { result ≡ first_of (duties role (world_of plain.now)) }
 {
     match role {
-        Role::Dispatcher => Ok(dispatcher_first(plain)),
-        Role::Enforcer => Ok(enforcer_first(plain)),
-        Role::Restart => Ok(restart_first(plain)),
+        Role::Dispatcher => dispatcher_first(plain),
+        Role::Enforcer => enforcer_first(plain),
+        Role::Restart => restart_first(plain),
         Role::Update => update_first(plain),
         Role::Replicated => replicated_first(plain),
         Role::Global => global_first(plain),
         Role::Job => job_first(plain),
-        Role::Allocator => Ok(allocator_first(plain)),
-        Role::Scheduler => Ok(scheduler_first(plain)),
-        Role::Reaper => Ok(reaper_first(plain)),
-        Role::Agents => Ok(agents_first(plain, None)),
+        Role::Allocator => allocator_first(plain),
+        Role::Scheduler => scheduler_first(plain),
+        Role::Reaper => reaper_first(plain),
+        Role::Agents => agents_first(plain, None),
     }
 }
 
 // The first duty of the first of these control loops that has one.
-fn first_among(plain: &Plain, loops: &[Role]) -> Result<Option<Duty>, NoMemory>
+fn first_among(plain: &Plain, loops: &[Role]) -> Option<Duty>
     requires { IsReached (world_of plain.now) }
-    ensures { let w = world_of plain.now in
-        IfOk result (λ first. first ≡ first_of (flat_map (λ role. duties role w) loops.now)) }
+    ensures { let w = world_of plain.now in result ≡ first_of (flat_map (λ role. duties role w) loops.now) }
 {
     for role in loops {
-        let duty = next_duty(plain, *role)?;
+        let duty = next_duty(plain, *role);
         if duty.is_some() {
-            return Ok(duty);
+            return duty;
         }
     }
-    Ok(None)
+    None
 }
 
 // The first duty of the first of the control loops over the tables that has one. Where none has, none is asked.
-fn first_by_tables(plain: &Plain, quiet: bool) -> Result<Option<Duty>, NoMemory>
+fn first_by_tables(plain: &Plain, quiet: bool) -> Option<Duty>
     requires reached { IsReached (world_of plain.now) }
     requires quiet { let w = world_of plain.now in
         OnTrue quiet (first_of (flat_map (λ role. duties role w) table_roles) ≡ None) }
-    ensures { let w = world_of plain.now in
-        IfOk result (λ first. first ≡ first_of (flat_map (λ role. duties role w) table_roles)) }
+    ensures { let w = world_of plain.now in result ≡ first_of (flat_map (λ role. duties role w) table_roles) }
 {
     if quiet {
-        Ok(None)
+        None
     } else {
         first_among(plain, &TABLE_LOOPS)
     }
 }
 
 // The first duty of the first control loop that has one.
-fn first_duty(plain: &Plain, quiet: Quiet) -> Result<Option<Duty>, NoMemory>
+fn first_duty(plain: &Plain, quiet: Quiet) -> Option<Duty>
     requires reached { IsReached (world_of plain.now) }
     requires quiet { IsQuiet quiet (world_of plain.now) }
-    ensures { let w = world_of plain.now in
-        IfOk result (λ first. first ≡ first_of (flat_map (λ role. duties role w) roles)) }
+    ensures { let w = world_of plain.now in result ≡ first_of (flat_map (λ role. duties role w) roles) }
 {
-    match first_by_tables(plain, quiet.tables)? {
-        Some(duty) => Ok(Some(duty)),
-        None => Ok(agents_first(plain, quiet.before)),
+    match first_by_tables(plain, quiet.tables) {
+        Some(duty) => Some(duty),
+        None => agents_first(plain, quiet.before),
     }
 }
 
-/// The settle test: the first duty of the first control loop that has one; else what is waited for, held or paused, or
-/// that all is settled. Then what runs matches the specifications.
-pub fn settle(plain: &Plain) -> Result<Settle, NoMemory>
-    requires { IsReached (world_of plain.now) }
-    ensures answers { IfOk result (λ answer. answer ≡ settle_answer (world_of plain.now)) }
-    ensures matched { IfOk result (λ answer. answer ≡ Settle.Settled → IsMatched (world_of plain.now)) }
-{
-    settle_knowing(plain, Quiet::nowhere())
-}
-
-/// The same, which doesn't look where it is known to be quiet.
-pub fn settle_knowing(plain: &Plain, quiet: Quiet) -> Result<Settle, NoMemory>
+/// The settle test, which doesn't look where it is known to be quiet.
+pub fn settle_knowing(plain: &Plain, quiet: Quiet) -> Settle
     requires reached { IsReached (world_of plain.now) }
     requires quiet { IsQuiet quiet (world_of plain.now) }
-    ensures { IfOk result (λ answer. answer ≡ settle_answer (world_of plain.now)) }
+    ensures { result ≡ settle_answer (world_of plain.now) }
 {
-    match first_duty(plain, quiet)? {
-        Some(duty) => Ok(Settle::Busy(duty)),
+    match first_duty(plain, quiet) {
+        Some(duty) => Settle::Busy(duty),
         None => idle_answer(plain),
     }
 }
 
-/// Answers the call by which a line with this budget asks whether the world has settled, as an entry.
+// The settle test, which looks everywhere.
+fn settled(plain: &Plain) -> Settle
+    requires { IsReached (world_of plain.now) }
+    ensures answers { result ≡ settle_answer (world_of plain.now) }
+    ensures matched { result ≡ Settle.Settled → IsMatched (world_of plain.now) }
+{
+    settle_knowing(plain, Quiet::nowhere())
+}
+
+/// The settle test: the first duty of the first control loop that has one; else what is waited for, held or paused, or
+/// that all is settled. Then what runs matches the specifications. It takes no memory, so it always answers.
+pub fn settle(plain: &Plain) -> Result<Settle, NoMemory>
+    requires { IsReached (world_of plain.now) }
+    ensures answers { result ≡ Ok (settle_answer (world_of plain.now)) }
+    ensures matched { IfOk result (λ answer. answer ≡ Settle.Settled → IsMatched (world_of plain.now)) }
+{
+    Ok(settled(plain))
+}
+
+/// Answers the call by which a line with this budget asks whether the world has settled, as an entry. It takes no
+/// memory.
 pub fn settle_call(plain: &mut Plain, budget: u64) -> Reply
     requires { IsReached (world_of plain.old) }
-    ensures meets { let before = world_of plain.old in
-        Meets (outcome before (Call.Settle budget)) before result (world_of plain.new) }
+    ensures gives { Gives (outcome (world_of plain.old) (Call.Settle budget)) result (world_of plain.new) }
     ensures matched { result ≡ Reply.Settle budget Settle.Settled → IsMatched (world_of plain.old) }
 {
     if let Some(refusal) = plain.refuses(&Call::Settle(budget)) {
         return Reply::Refused(refusal);
     }
-    match settle(plain) {
-        Ok(answer) => {
-            plain.end_unseen(plain.entries + 1);
-            Reply::Settle(budget, answer)
-        }
-        Err(NoMemory) => Reply::Refused(Refusal::NoMemory),
-    }
+    let answer = settled(plain);
+    plain.end_unseen(plain.entries + 1);
+    Reply::Settle(budget, answer)
 }

@@ -42,11 +42,11 @@ pub enum StepFault {
 }
 
 // The duty is among those of its control loop, whose list isn't made.
-fn is_due(plain: &Plain, duty: Duty) -> Result<bool, NoMemory>
+fn is_due(plain: &Plain, duty: Duty) -> bool
     requires { IsReached (world_of plain.now) }
-    ensures { IfOk result (λ due. due ≡ is_due (world_of plain.now) duty) }
+    ensures { result ≡ is_due (world_of plain.now) duty }
 {
-    Ok(match duty {
+    match duty {
         Duty::Expire(node) => is_expire_due(plain, node),
         Duty::Orphan(task) => is_orphan_due(plain, task),
         Duty::Reject(task) => is_reject_due(plain, task),
@@ -58,14 +58,12 @@ fn is_due(plain: &Plain, duty: Duty) -> Result<bool, NoMemory>
         Duty::Replace(service, number) => is_replace_due(plain, service, number),
         Duty::Finish(service) => is_finish_due(plain, service),
         Duty::Gone(task) => is_gone_due(plain, task),
-        Duty::Down(service, slot) => return is_down_due(plain, service, slot),
-        Duty::ReplicatedCreate(service, slot) => return is_replicated_create_due(
-            plain, service, slot,
-        ),
+        Duty::Down(service, slot) => is_down_due(plain, service, slot),
+        Duty::ReplicatedCreate(service, slot) => is_replicated_create_due(plain, service, slot),
         Duty::Leave(service, node) => is_leave_due(plain, service, node),
         Duty::GlobalCreate(service, node) => is_global_create_due(plain, service, node),
         Duty::Old(task) => is_old_due(plain, task),
-        Duty::JobCreate(service, slot) => return is_job_create_due(plain, service, slot),
+        Duty::JobCreate(service, slot) => is_job_create_due(plain, service, slot),
         Duty::Port(service, target, udp) => is_port_due(plain, service, target, udp),
         Duty::Address(task) => is_address_due(plain, task),
         Duty::Note(task) => is_note_due(plain, task),
@@ -81,16 +79,16 @@ fn is_due(plain: &Plain, duty: Duty) -> Result<bool, NoMemory>
         Duty::Exec(node, task) => is_exec_due(plain, node, task),
         Duty::Report(node, task) => is_report_due(plain, node, task),
         Duty::Forget(node, task) => is_forget_due(plain, node, task),
-    })
+    }
 }
 
 // The duty may come next.
-fn may_be_done(plain: &Plain, duty: Duty) -> Result<bool, NoMemory>
+fn may_be_done(plain: &Plain, duty: Duty) -> bool
     requires { IsReached (world_of plain.now) }
-    ensures { IfOk result (λ may. may ≡ may_follow (world_of plain.now) (What.Duty duty)) }
+    ensures { result ≡ may_follow (world_of plain.now) (What.Duty duty) }
 {
     if plain.halted || plain.entries >= MOST_ENTRIES {
-        return Ok(false);
+        return false;
     }
     is_due(plain, duty)
 }
@@ -99,10 +97,8 @@ fn step_duty(plain: &mut Plain, duty: Duty) -> Result<Reply, StepFault>
     requires { IsReached (world_of plain.old) }
     ensures { DoesStep (world_of plain.old) (What.Duty duty) result (world_of plain.new) }
 {
-    match may_be_done(plain, duty) {
-        Ok(true) => {}
-        Ok(false) => return Err(StepFault::Illegal),
-        Err(NoMemory) => return Err(StepFault::NoMemory),
+    if !may_be_done(plain, duty) {
+        return Err(StepFault::Illegal);
     }
     match do_duty(plain, duty) {
         Ok(()) => Ok(Reply::Did),

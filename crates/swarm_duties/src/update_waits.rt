@@ -1,12 +1,11 @@
 // What updates under way wait for: places in flight, and the watching of new tasks.
-ghost use Rattle.std.specs.Prelude.{◌≡◌, ◌&&◌, flat_map, IfOk, true};
+ghost use Rattle.std.specs.Prelude.{◌≡◌, ◌&&◌, flat_map, true};
 ghost use Rattle.std.specs.List.{list_all};
 ghost use Rattle.std.specs.Ordering.{nat_cmp};
 ghost use Rattle.swarm_duties.specs.Flights.{item_times};
 ghost use Rattle.swarm_model.specs.Settle.{
   flight_times,
   flight_wait,
-  has_waiting_place,
   least_time,
   run_wait,
   update_wait,
@@ -22,10 +21,10 @@ ghost use Rattle.swarm_objects.specs.Tasks.Words.{is_running};
 ghost use Rattle.swarm_plain.specs.Plain.{tables_of};
 
 use crate::waits::{Wait, wait_till};
-use duty_rows::places::{has_dirty_place, place_numbers};
+use duty_rows::places::has_dirty_place;
 use duty_updates::runs::{has_room, is_flying, is_under_way, is_watched};
-use duty_updates::updates::is_to_replace;
-use swarm_objects::{Cause, Ms, NoMemory, Replaced, Service, Task, UpdateRun};
+use duty_updates::updates::has_waiting_place;
+use swarm_objects::{Cause, Ms, Replaced, Service, Task, UpdateRun};
 use swarm_plain::Plain;
 
 // The time, where it comes before the least one so far.
@@ -39,19 +38,6 @@ fn keep_time(least: Option<Ms>, time: Ms) -> Option<Ms>
 }
 
 // Places in flight.
-
-// Some place is to be replaced.
-fn has_waiting_place(plain: &Plain, service: &Service) -> Result<bool, NoMemory>
-    ensures { IfOk result (λ waits. waits ≡ has_waiting_place (tables_of plain.now) service.now) }
-{
-    let numbers = place_numbers(plain, service)?;
-    Ok(
-        numbers
-            .as_slice()
-            .iter()
-            .any(|number| is_to_replace(plain, service, *number)),
-    )
-}
 
 // The task is in flight in the place, and runs.
 fn is_flying_there(plain: &Plain, service: &Service, item: &Replaced, task: &Task) -> bool
@@ -95,17 +81,16 @@ fn flight_wait(
     best: Option<Wait>,
     service: &Service,
     run: &UpdateRun,
-) -> Result<Option<Wait>, NoMemory>
+) -> Option<Wait>
     requires tasks { list_all is_near_task plain.now.tasks ≡ true }
     requires service { is_near_service service.now ≡ true }
-    ensures { let waits = flight_wait (tables_of plain.now) service.now run.now in
-        IfOk result (λ least. least ≡ least_by wait_cmp best waits) }
+    ensures { result ≡ least_by wait_cmp best (flight_wait (tables_of plain.now) service.now run.now) }
 {
-    if !has_waiting_place(plain, service)? || has_room(plain, service, run) {
-        return Ok(best);
+    if !has_waiting_place(plain, service) || has_room(plain, service, run) {
+        return best;
     }
     let time = flight_time(plain, service, run);
-    Ok(wait_till(best, Cause::Update, service.id, time))
+    wait_till(best, Cause::Update, service.id, time)
 }
 
 // The watching of new tasks.
@@ -138,50 +123,38 @@ fn watch_wait(plain: &Plain, best: Option<Wait>, service: &Service, run: &Update
     wait_till(best, Cause::Update, service.id, time)
 }
 
-fn run_wait(
-    plain: &Plain,
-    best: Option<Wait>,
-    service: &Service,
-    run: &UpdateRun,
-) -> Result<Option<Wait>, NoMemory>
+fn run_wait(plain: &Plain, best: Option<Wait>, service: &Service, run: &UpdateRun) -> Option<Wait>
     requires tasks { list_all is_near_task plain.now.tasks ≡ true }
     requires service { is_near_service service.now ≡ true }
     requires run { is_near_run run.now ≡ true }
-    ensures { let waits = run_wait (tables_of plain.now) service.now run.now in
-        IfOk result (λ least. least ≡ least_by wait_cmp best waits) }
+    ensures { result ≡ least_by wait_cmp best (run_wait (tables_of plain.now) service.now run.now) }
 {
     if !is_under_way(run) {
-        return Ok(best);
+        return best;
     }
-    let least = flight_wait(plain, best, service, run)?;
-    Ok(watch_wait(plain, least, service, run))
+    let least = flight_wait(plain, best, service, run);
+    watch_wait(plain, least, service, run)
 }
 
-fn update_wait(
-    plain: &Plain,
-    best: Option<Wait>,
-    service: &Service,
-) -> Result<Option<Wait>, NoMemory>
+fn update_wait(plain: &Plain, best: Option<Wait>, service: &Service) -> Option<Wait>
     requires tasks { list_all is_near_task plain.now.tasks ≡ true }
     requires service { is_near_service service.now ≡ true }
-    ensures { let waits = update_wait (tables_of plain.now) service.now in
-        IfOk result (λ least. least ≡ least_by wait_cmp best waits) }
+    ensures { result ≡ least_by wait_cmp best (update_wait (tables_of plain.now) service.now) }
 {
     match &service.run {
         Some(run) => run_wait(plain, best, service, run),
-        None => Ok(best),
+        None => best,
     }
 }
 
 /// The least of the best wait so far and those for updates.
-pub fn update_waits(plain: &Plain, best: Option<Wait>) -> Result<Option<Wait>, NoMemory>
+pub fn update_waits(plain: &Plain, best: Option<Wait>) -> Option<Wait>
     requires { HasNearTimes (tables_of plain.now) }
-    ensures { let waits = flat_map (update_wait (tables_of plain.now)) plain.now.services in
-        IfOk result (λ least. least ≡ least_by wait_cmp best waits) }
+    ensures { result ≡ least_by wait_cmp best (flat_map (update_wait (tables_of plain.now)) plain.now.services) }
 {
     let mut least = best;
     for service in plain.services.as_slice() {
-        least = update_wait(plain, least, service)?;
+        least = update_wait(plain, least, service);
     }
-    Ok(least)
+    least
 }

@@ -49,8 +49,16 @@ impl<R: Row + Drop> Indexed<R> {
         ensures rows { self.new.rows ≡ self.old.rows }
         ensures room { self.old.room ≤ self.new.room }
         ensures err { OnErr result (self.new ≡ self.old) }
+        ensures full { OnErr result (self.old.room < n) }
     {
         self.spare.reserve(n)
+    }
+
+    /// How many inserts and replaces can't want memory.
+    pub fn room(&self) -> u64
+        ensures { result ≡ self.now.room }
+    {
+        self.spare.room()
     }
 
     /// Puts a row with a new id among the others, or hands it back for want of memory.

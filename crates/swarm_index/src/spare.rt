@@ -54,6 +54,13 @@ impl<R: Row + Drop> Spare<R> {
         }
     }
 
+    // How many rows more take no memory.
+    pub fn room(&self) -> u64
+        ensures { result ≡ self.now.room }
+    {
+        (self.rows.capacity() - self.rows.len()) as u64
+    }
+
     // Whether the next row takes memory.
     pub fn is_full(&self) -> bool
         ensures { result ≡ (self.now.room == 0) }
@@ -67,6 +74,7 @@ impl<R: Row + Drop> Spare<R> {
         ensures rows { self.new.rows ≡ self.old.rows }
         ensures room { self.old.room ≤ self.new.room }
         ensures err { OnErr result (self.new ≡ self.old) }
+        ensures full { OnErr result (self.old.room < n) }
     {
         match self.rows.reserve(n as usize) {
             Ok(()) => Ok(()),

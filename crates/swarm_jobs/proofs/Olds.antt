@@ -2,11 +2,11 @@
 use Rattle.std.proofs.Common.{◌≡◌}
 use Rattle.std.specs.List.{list_any}
 use Rattle.std.specs.Prelude.{filter}
+use Rattle.swarm_objects.proofs.Tests.{any_filter}
 use Rattle.swarm_objects.specs.Loops.Jobs.{has_old, is_old_of}
 use Rattle.swarm_objects.specs.Tasks.Words.{is_of}
 use Rattle.swarm_objects.specs.World.{Tables}
 use Rattle.swarm_objects.specs.declared.services.Service.{Service}
-use Rattle.swarm_roles.proofs.PlaceLemmas.{any_filter}
 
 pub old_of_service : (t : Tables) (s : Service)
     → list_any (λ x. is_old_of x s) (filter (is_of s.id) t.tasks) ≡ has_old t s

@@ -57,7 +57,6 @@ use Rattle.std.specs.Prelude.{fold, ⊤, ◌&&◌}
 use Rattle.swarm_matching.proofs.Closings.{by-last}
 use Rattle.swarm_matching.proofs.Known.{Known, known-replay}
 use Rattle.swarm_matching.proofs.ShapeDuties.{found}
-use Rattle.swarm_matching.proofs.Tests.{no-way}
 use Rattle.swarm_matching.specs.Agents.{AreAhead, IsAhead, ReportLaw}
 use Rattle.swarm_model.proofs.Base.Histories.{replay-snoc}
 use Rattle.swarm_model.proofs.Laws.Orderly.{step-moves}
@@ -69,6 +68,7 @@ use Rattle.swarm_model.proofs.Moves.Worlds.{TaskMoves}
 use Rattle.swarm_model.specs.Calls.Faults.{failed_agent, lost}
 use Rattle.swarm_model.specs.Calls.Nodes.{new_agent, with_agent_if}
 use Rattle.swarm_objects.proofs.RowLemmas.{Has-map_cases}
+use Rattle.swarm_objects.proofs.Tests.{never-both}
 use Rattle.swarm_objects.specs.Agents.Executors.{at_time, ending, executor_step, exited, is_late, is_to_go, moved, prepared, wants_to_stop}
 use Rattle.swarm_objects.specs.Agents.Messages.{applied, apply_change, change_executor, gone_executor, left_out, names, new_executor}
 use Rattle.swarm_objects.specs.Duties.{effect_by}
@@ -341,7 +341,7 @@ told-ahead n w node task a e orderly gives ha at he et is = record {
             task_id (cond b (raised_to n w.tables.clock e.state x) x) ≡ e.task →
             rank e.state ≤ rank (cond b (raised_to n w.tables.clock e.state x) x).state
         go x true q r = task-raised n w.tables.clock e.state x
-        go x false q r = no-way (eqb (task_id x) e.task) q (grind (arith, nat_tests, r))
+        go x false q r = never-both (eqb (task_id x) e.task) q (grind (arith, nat_tests, r))
 
 take-each : (t : Tables) (clock : ℕ) (o : Option Message) (a : NodeAgent) → Each t a.executors →
     Each t (take_in clock o a).executors

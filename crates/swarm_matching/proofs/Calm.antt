@@ -1,7 +1,6 @@
 -- In a quiet world of a legal history tasks that are to stop hold nothing up, and live ones that are placed run.
 use Rattle.std.proofs.Common.{Bool, List, None, Option, Some, [], ap, arith, cond, false, inl, inr, not, refl, subst, sym, true, ℕ, ◌∙◌, ◌≡◌, ◌≤◌, ◌⊎◌}
 use Rattle.std.proofs.lemmas.Bool.Decides.{nat_tests}
-use Rattle.std.specs.Option.{option_map}
 use Rattle.std.specs.Prelude.{filter, nat_le, nat_lt, ⊤, ◌&&◌, ◌==◌, ◌||◌}
 use Rattle.swarm_matching.proofs.Ahead.{ahead-replay}
 use Rattle.swarm_matching.proofs.Ended.{never-ended}
@@ -12,12 +11,11 @@ use Rattle.swarm_matching.proofs.KnownCalls.{known-nodes-replay}
 use Rattle.swarm_matching.proofs.KnownNodes.{KnownNodes, is_known}
 use Rattle.swarm_matching.proofs.Lawful.{lawful-replay}
 use Rattle.swarm_matching.proofs.NothingElse.{LivesIn, live-in}
-use Rattle.swarm_matching.proofs.QuietAgents.{quiet-agents, ready-live}
+use Rattle.swarm_matching.proofs.QuietAgents.{deadline-there, quiet-agents, ready-live}
 use Rattle.swarm_matching.proofs.Rest.{no-duty, no-waits}
 use Rattle.swarm_matching.proofs.Served.{always-served}
 use Rattle.swarm_matching.proofs.ShapeDuties.{found}
 use Rattle.swarm_matching.proofs.Shapes.{blank}
-use Rattle.swarm_matching.proofs.Tests.{any-cases, both, is-not, neither-left, neither-right, no-way, not-is, refuted, some-and}
 use Rattle.swarm_matching.proofs.TogetherCalls.{together-replay}
 use Rattle.swarm_matching.proofs.Unmet.{live-wanted}
 use Rattle.swarm_matching.proofs.WellPlaced.{node-found, valid-node}
@@ -26,14 +24,14 @@ use Rattle.swarm_matching.specs.Aimed.{AimsLaw}
 use Rattle.swarm_matching.specs.Rest.{IsQuiet}
 use Rattle.swarm_matching.specs.Sent.{HasOwners, inside_numbers, is_inside}
 use Rattle.swarm_matching.specs.Served.{AreServed, IsExecutorOf, IsOnNode}
-use Rattle.swarm_model.proofs.Moves.Duties.{and-left, and-right}
 use Rattle.swarm_model.specs.History.{IsLegal, replay}
 use Rattle.swarm_model.specs.Laws.Matches.{is_in_hand}
 use Rattle.swarm_model.specs.Settle.{deadline_of, has_live_session, is_awaited_there, is_behind, is_remote, node_deadline, wait_till, wait_where}
 use Rattle.swarm_objects.proofs.RowLemmas.{Has-filter, Has-from_row_at, Has-map, Has-map_cases}
+use Rattle.swarm_objects.proofs.Tests.{any-has, both, false_from_ne_true, first_so, neither_left, neither_right, never-both, not-true, not_from_false, second_so, some-and}
 use Rattle.swarm_objects.specs.Agents.Executors.{is_early, is_late}
 use Rattle.swarm_objects.specs.Loops.Restart.{is_current, is_held_up, is_in_the_way}
-use Rattle.swarm_objects.specs.Nodes.Sessions.{is_before_deadline, is_session_live, session_of}
+use Rattle.swarm_objects.specs.Nodes.Sessions.{is_session_live}
 use Rattle.swarm_objects.specs.Nodes.Words.{is_astray, is_down, is_drain, is_invalid, is_node_and, is_ready, is_valid, is_valid_node}
 use Rattle.swarm_objects.specs.Rows.{Has, agent_node, executor_task, is_row_and, is_some_and, node_id, on_row, row_at, service_id}
 use Rattle.swarm_objects.specs.Tasks.Places.{counts_for}
@@ -47,7 +45,6 @@ use Rattle.swarm_objects.specs.declared.duties.Cause.TheVariants as cause
 use Rattle.swarm_objects.specs.declared.duties.Duty.TheVariants as duty
 use Rattle.swarm_objects.specs.declared.nodes.Node.{Node}
 use Rattle.swarm_objects.specs.declared.services.Service.{Service}
-use Rattle.swarm_objects.specs.declared.sessions.NodeSession.{NodeSession}
 use Rattle.swarm_objects.specs.declared.tasks.Desired.TheVariants as desired
 use Rattle.swarm_objects.specs.declared.tasks.Desired.{Desired}
 use Rattle.swarm_objects.specs.declared.tasks.Task.{Task}
@@ -85,7 +82,7 @@ pub agent-of : (w : World) → Calm w → (n : Node) → Has w.tables.nodes n �
 agent-of w is n h inside =
     let number : Has (inside_numbers w.tables.nodes) n.id =
     Has-map node_id (filter is_inside w.tables.nodes) n
-    (Has-filter is_inside w.tables.nodes n h (is-not n.remote inside)) in
+    (Has-filter is_inside w.tables.nodes n h (not_from_false n.remote inside)) in
     let from = Has-map_cases agent_node w.agents n.id (subst (λ (ks : List ℕ). Has ks n.id) (sym is.owners) number) in (
       from.0,
       found agent_node w.tables.next_id n.id w.agents (λ b. ⊤) is.known.orderly.agents
@@ -149,9 +146,9 @@ pub placed-at : (w : World) → Calm w → (x : Task) → Has w.tables.tasks x �
 placed-at w is x h placed =
     let at = (is.known.home x h).placed placed in
     let low =
-    and-left (nat_le (rank state.Assigned) (rank x.state)) (nat_le (rank x.state) (rank state.Running)) placed in
+    first_so (nat_le (rank state.Assigned) (rank x.state)) (nat_le (rank x.state) (rank state.Running)) placed in
     let high =
-    and-right (nat_le (rank state.Assigned) (rank x.state)) (nat_le (rank x.state) (rank state.Running)) placed in
+    second_so (nat_le (rank state.Assigned) (rank x.state)) (nat_le (rank x.state) (rank state.Running)) placed in
     record {
       node = at.0;
       there = at.1;
@@ -159,21 +156,12 @@ placed-at w is x h placed =
       high = grind (arith, nat_tests, high);
     }
 
--- a session that is live has a deadline
-no-deadline : (w : World) (id : ℕ) → is_session_live w.tables id ≡ true → ¬ (deadline_of w.tables id ≡ None)
-no-deadline w id live none = go (session_of w.tables id) live none
-  where
-    go : (o : Option NodeSession) → is_before_deadline w.tables.clock o ≡ true →
-        ¬ (option_map (λ (s : NodeSession). s.session.deadline) o ≡ None)
-    go None live none = absurd cc
-    go (Some s) live none = absurd cc
-
 -- of a READY remote node nothing is awaited
 not-behind : (w : World) → Calm w → (n : Node) (x : Task) → Has w.tables.nodes n → is_ready n.state ≡ true →
     n.remote ≡ true → Has w.tables.tasks x → is_placed x ≡ true → x.node ≡ Some n.id →
     is_behind x.state x.desired ≡ false
 not-behind w is n x h ready outside there placed on =
-    refuted (is_behind x.state x.desired)
+    false_from_ne_true (is_behind x.state x.desired)
     (λ behind.
     let live = ready-live w is.quiet.0 n h ready in
     let awaited : is_awaited_there w.tables x ≡ true =
@@ -189,7 +177,7 @@ not-behind w is n x h ready outside there placed on =
     let time : deadline_of w.tables n.id ≡ None =
     ap (λ (o : Option ℕ). on_row None (deadline_of w.tables) o) (sym on)
     ∙ no-time (node_deadline w.tables x) none in
-    no-deadline w n.id live time)
+    deadline-there w n.id live time)
   where
     no-time : (o : Option ℕ) → wait_till cause.Remote x.id o ≡ [] → o ≡ None
     no-time None e = refl
@@ -215,15 +203,15 @@ stops-down w is x h unwanted p placed =
       where
         go : (b : Bool) → p.node.remote ≡ b → ⊥
         go true outside =
-            no-way (is_behind x.state x.desired)
+            never-both (is_behind x.state x.desired)
             (not-behind w is p.node x p.there ready outside h placed p.on.node)
             (unwanted-behind x.state x.desired unwanted)
         go false inside =
             let a = agent-of w is p.node p.there inside in
             let e = hosted w is p.node a.0 x p.there ready inside a.1 h p.on p.high in
             let going : nat_le (desired_rank desired.Shutdown) (desired_rank e.executor.desired) ≡ false =
-            neither-right e.executor.gone _ e.runs.0 in
-            no-way (is_unwanted x)
+            neither_right e.executor.gone _ e.runs.0 in
+            never-both (is_unwanted x)
             (subst (λ (d : Desired). nat_le (desired_rank desired.Shutdown) (desired_rank d) ≡ false) e.of.desired
             going) unwanted
 
@@ -233,30 +221,30 @@ stops-down w is x h unwanted p placed =
     down false ready true e = e
     down false ready false e =
         let known : is_known p.node ≡ true = (is.nodes x p.node.id h p.on.node).known p.node p.there refl in
-        no-way (is_known p.node)
+        never-both (is_known p.node)
         (ap (λ (b : Bool). b || is_down p.node.state) ready ∙ e) known
 
 -- what is in the way is to stop, placed, and on a valid node
 way-parts : (w : World) (y : Task) → is_in_the_way w.tables y ≡ true →
     (is_unwanted y ≡ true) × (is_placed y ≡ true) × (is_astray w.tables y ≡ false)
 way-parts w y way =
-    (and-left (is_unwanted y) (not (has_ended y || is_below_assigned y || is_astray w.tables y)) way, here, straight)
+    (first_so (is_unwanted y) (not (has_ended y || is_below_assigned y || is_astray w.tables y)) way, here, straight)
   where
     none : (has_ended y || is_below_assigned y || is_astray w.tables y) ≡ false
     none =
-        not-is (has_ended y || is_below_assigned y || is_astray w.tables y)
-        (and-right (is_unwanted y) (not (has_ended y || is_below_assigned y || is_astray w.tables y)) way)
+        not-true (has_ended y || is_below_assigned y || is_astray w.tables y)
+        (second_so (is_unwanted y) (not (has_ended y || is_below_assigned y || is_astray w.tables y)) way)
 
     two : (has_ended y || is_below_assigned y) ≡ false
-    two = neither-left (has_ended y || is_below_assigned y) (is_astray w.tables y) none
+    two = neither_left (has_ended y || is_below_assigned y) (is_astray w.tables y) none
 
     straight : is_astray w.tables y ≡ false
-    straight = neither-right (has_ended y || is_below_assigned y) (is_astray w.tables y) none
+    straight = neither_right (has_ended y || is_below_assigned y) (is_astray w.tables y) none
 
     here : is_placed y ≡ true
     here =
-        let over : has_ended y ≡ false = neither-left (has_ended y) (is_below_assigned y) two in
-        let early : is_below_assigned y ≡ false = neither-right (has_ended y) (is_below_assigned y) two in
+        let over : has_ended y ≡ false = neither_left (has_ended y) (is_below_assigned y) two in
+        let early : is_below_assigned y ≡ false = neither_right (has_ended y) (is_below_assigned y) two in
         both (nat_le (rank state.Assigned) (rank y.state)) (nat_le (rank y.state) (rank state.Running))
         (grind (arith, nat_tests, early)) (grind (arith, nat_tests, over))
 
@@ -276,8 +264,9 @@ not-in-the-way w is y h way = go (way-parts w y way)
             let off : is_valid w.tables p.node.id ≡ false =
             ap (λ (o : Option Node). is_some_and is_valid_node o) (node-found w is.known p.node p.there)
             ∙ down-invalid p.node down in
-            no-way (is_astray w.tables y) parts.2
-            (some-and (is_invalid w.tables) y.node p.node.id p.on.node (is-not (is_valid w.tables p.node.id) off))
+            never-both (is_astray w.tables y) parts.2
+            (some-and (is_invalid w.tables) y.node p.node.id p.on.node
+            (not_from_false (is_valid w.tables p.node.id) off))
 
 -- Live tasks.
 
@@ -293,8 +282,8 @@ not-waiting w is x h live waits =
           (both (is_to_wait x && not (has_ended x) && nat_le x.raise_at w.tables.clock) (is_current w.tables x)
           (both (is_to_wait x && not (has_ended x)) (nat_le x.raise_at w.tables.clock)
           (both (is_to_wait x) (not (has_ended x)) waits
-          (is-not (has_ended x) (never-ended w is.known is.quiet.0 x h live))) reached) current)
-          (is-not (is_held_up w.tables x) free);
+          (not_from_false (has_ended x) (never-ended w is.known is.quiet.0 x h live))) reached) current)
+          (not_from_false (is_held_up w.tables x) free);
     })
   where
     lives : (s : Service) × LivesIn w x s
@@ -323,11 +312,11 @@ not-waiting w is x h live waits =
 
     free : is_held_up w.tables x ≡ false
     free =
-        refuted (is_held_up w.tables x)
+        false_from_ne_true (is_held_up w.tables x)
         (λ held.
-        let y = any-cases (λ y. is_beside x y && not (y.id == x.id) && is_in_the_way w.tables y) w.tables.tasks held in
+        let y = any-has (λ y. is_beside x y && not (y.id == x.id) && is_in_the_way w.tables y) w.tables.tasks held in
         not-in-the-way w is y.0 y.1
-        (and-right (is_beside x y.0 && not (y.0.id == x.id)) (is_in_the_way w.tables y.0) y.2))
+        (second_so (is_beside x y.0 && not (y.0.id == x.id)) (is_in_the_way w.tables y.0) y.2))
 
 pub aimed-well : (w : World) → Calm w → (x : Task) → Has w.tables.tasks x → is_live x ≡ true → x.desired ≡ x.goal
 aimed-well w is x h live = go (is.goals x h).aim
@@ -338,11 +327,11 @@ aimed-well w is x h live = go (is.goals x h).aim
         (subst (λ (d : Desired). (desired_rank d == desired_rank desired.Ready) ≡ true) (sym e) refl))
     go (inr (inl e)) = e
     go (inr (inr (inl e))) =
-        no-way (is_wanted x)
+        never-both (is_wanted x)
         (subst (λ (d : Desired). nat_lt (desired_rank d) (desired_rank desired.Shutdown) ≡ false) (sym e) refl)
         (live-wanted w x is.known h live)
     go (inr (inr (inr e))) =
-        no-way (is_wanted x)
+        never-both (is_wanted x)
         (subst (λ (d : Desired). nat_lt (desired_rank d) (desired_rank desired.Shutdown) ≡ false) (sym e) refl)
         (live-wanted w x is.known h live)
 

@@ -12,15 +12,14 @@ use Rattle.swarm_matching.proofs.PlaceLists.{counts-of, place-counts, place-in, 
 use Rattle.swarm_matching.proofs.Settled.{run-done}
 use Rattle.swarm_matching.proofs.ShapeWords.{place-blank}
 use Rattle.swarm_matching.proofs.Shapes.{Closings, bare, bare_run, blank, shape}
-use Rattle.swarm_matching.proofs.Tests.{any-cases, any-has, both, is-not, no-way, or-left, proved}
 use Rattle.swarm_matching.specs.Rest.{IsSettled}
 use Rattle.swarm_model.proofs.Laws.Alone.{number-at}
 use Rattle.swarm_model.proofs.Laws.OneEach.{IsBeside}
-use Rattle.swarm_model.proofs.Moves.Duties.{and-left, and-right}
 use Rattle.swarm_model.proofs.Moves.Rows.{RisesBetween, between-filter}
 use Rattle.swarm_model.specs.Laws.Matches.{live_tasks}
 use Rattle.swarm_objects.proofs.RowLemmas.{Has-filter, Has-filter_cases, Has-map}
 use Rattle.swarm_objects.proofs.SameLemmas.{Decides-same_template}
+use Rattle.swarm_objects.proofs.Tests.{any-has, both, first_so, has-any, never-both, not_from_false, or_left, second_so, true_from_ne_false}
 use Rattle.swarm_objects.specs.Rows.{Has, task_id}
 use Rattle.swarm_objects.specs.Same.{same_template}
 use Rattle.swarm_objects.specs.Services.Words.{is_clean, is_job, is_live_dirty}
@@ -41,7 +40,7 @@ job-clean w c s x lawful h k job counts =
     lawful.templates (blank x) (Has-map blank w.tables.tasks x k) (bare s) (Has-map bare w.tables.services s h) job
     counts in
     both (same_template x.template s.spec.template) _ ((Decides-same_template x.template s.spec.template).1 template)
-    (and-right (x.service == s.id) _ counts)
+    (second_so (x.service == s.id) _ counts)
 
 -- a run of the service that came to its end left its places well
 pub ended-well : (w : World) (c : Closings) (s : Service) (p : Place) → Lawful w.entries w.entries c (shape w.tables) →
@@ -56,10 +55,10 @@ ended-well w c s p lawful h no_job done =
 dirty-there : (w : World) (s : Service) (k : ℕ) (x : Task) → Has (place_numbers w.tables s) k →
     Has (place_tasks w.tables s k) x → is_live x ≡ true → is_clean s x ≡ false → has_dirty_place w.tables s ≡ true
 dirty-there w s k x h there live dirty =
-    any-has (is_dirty_place w.tables s) (place_numbers w.tables s) k h
-    (or-left (list_any (is_live_dirty s) (place_tasks w.tables s k)) _
-    (any-has (is_live_dirty s) (place_tasks w.tables s k) x there
-    (both (is_live x) (not (is_clean s x)) live (is-not (is_clean s x) dirty))))
+    has-any (is_dirty_place w.tables s) (place_numbers w.tables s) k h
+    (or_left (list_any (is_live_dirty s) (place_tasks w.tables s k)) _
+    (has-any (is_live_dirty s) (place_tasks w.tables s k) x there
+    (both (is_live x) (not (is_clean s x)) live (not_from_false (is_clean s x) dirty))))
 
 -- the place of the task has the number of it
 pub own-place : (w : World) (s : Service) (x : Task) → Known w → Has w.tables.services s → Has w.tables.tasks x →
@@ -83,19 +82,19 @@ live-clean w c s x known lawful is h k live counts = go (is_job s.spec.mode) ref
     go : (b : Bool) → is_job s.spec.mode ≡ b → is_clean s x ≡ true
     go true job = job-clean w c s x lawful h k job counts
     go false no_job =
-        proved (is_clean s x)
+        true_from_ne_false (is_clean s x)
         (λ dirty.
         let own = own-place w s x known h k counts in
         let dirt = dirty-there w s (place_number x.place) x (task-number w.tables s x k counts) own.1 live dirty in
         let done = run-done w s known is h no_job dirt in
         let well = ended-well w c s x.place lawful h no_job done in
-        no-way (is_clean s x) dirty
+        never-both (is_clean s x) dirty
         (well.clean (blank x)
         (Has-map blank (tasks_of_place s x.place w.tables.tasks) x
         (Has-filter (is_in_place s x.place) w.tables.tasks x k (place-in s x.place x counts refl))) live))
 
 clean-template : (s : Service) (x : Task) → is_clean s x ≡ true → x.template ≡ s.spec.template
-clean-template s x e = (Decides-same_template x.template s.spec.template).0 (and-left _ _ e)
+clean-template s x e = (Decides-same_template x.template s.spec.template).0 (first_so _ _ e)
 
 -- Two live tasks of a place are one.
 
@@ -106,7 +105,7 @@ same-service-iteration w s a b known h ka kb ca cb = go (is_job s.spec.mode) ref
   where
     job-iteration : (y : Task) → counts_for s y ≡ true → is_job s.spec.mode ≡ true → y.iteration ≡ s.iteration
     job-iteration y e j =
-        by (is_job s.spec.mode) (y.iteration == s.iteration) refl j (and-right (y.service == s.id) _ e)
+        by (is_job s.spec.mode) (y.iteration == s.iteration) refl j (second_so (y.service == s.id) _ e)
       where
         by : (j now : Bool) → (y.iteration == s.iteration) ≡ now → j ≡ true → (not j || now) ≡ true →
             y.iteration ≡ s.iteration
@@ -138,7 +137,7 @@ none-beside w c s p a b known lawful is h ha hb la lb less =
     } in
     let ta = clean-template s a (live-clean w c s a known lawful is h ia.0 la ca) in
     let tb = clean-template s b (live-clean w c s b known lawful is h ib.0 lb cb) in
-    no-way (same_template a.template b.template) (known.of.one.alone a b ia.0 ib.0 less beside)
+    never-both (same_template a.template b.template) (known.of.one.alone a b ia.0 ib.0 less beside)
     ((Decides-same_template a.template b.template).1 (ta ∙ sym tb))
 
 -- the live tasks of a place with one are just one
@@ -155,7 +154,7 @@ one-live w c s k known lawful is h some =
     go : (xs : List Task) → ((x : Task) → Has xs x → Has xs x) → RisesBetween task_id 1 w.tables.next_id xs →
         live_tasks w.tables s k ≡ xs → (x : Task) × (live_tasks w.tables s k ≡ x ∷ [])
     go [] all rises e =
-        let one = any-cases is_live (place_tasks w.tables s k) some in
+        let one = any-has is_live (place_tasks w.tables s k) some in
         let there = Has-filter is_live (place_tasks w.tables s k) one.0 one.1 one.2 in
         absurd (subst (λ (ys : List Task). Has ys one.0) e there)
     go (x ∷ []) all rises e = (x, e)

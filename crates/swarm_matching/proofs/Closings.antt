@@ -5,10 +5,10 @@ use Rattle.swarm_matching.proofs.Shapes.{IsLater}
 use Rattle.std.proofs.Common.{Bool, arith, ap, cond, ◌∙◌}
 use Rattle.std.proofs.lemmas.Bool.Decides.{nat_tests}
 use Rattle.std.specs.Prelude.{◌==◌}
-use Rattle.swarm_matching.proofs.Tests.{refuted}
 use Rattle.swarm_model.proofs.Base.Histories.{IsLegalFrom-snoc, replay-snoc}
 use Rattle.swarm_model.specs.Closing.{Closing, cause_set, closing, closing_from, later}
 use Rattle.swarm_model.specs.History.{IsLegal, IsLegalFrom, may_follow, replay, replay_from, step_world}
+use Rattle.swarm_objects.proofs.Tests.{false_from_ne_true}
 use Rattle.swarm_objects.specs.World.{World, empty_world}
 use Rattle.swarm_objects.specs.declared.calls.Entry.{Entry}
 use Rattle.swarm_objects.specs.declared.tasks.Closed.{Closed}
@@ -34,7 +34,7 @@ is-later n (Some set) c d causes sets next = (
   λ id other.
       next id ∙ ap (later (c id) n) (sym (sets id))
       ∙ ap (λ (b : Bool). later (c id) n (cond b (Some set.1) None))
-      (refuted (set.0 == id) (λ e. other (sym (is set.0 id e)))),
+      (false_from_ne_true (set.0 == id) (λ e. other (sym (is set.0 id e)))),
 )
   where
     same : (k : ℕ) → (k == k) ≡ true

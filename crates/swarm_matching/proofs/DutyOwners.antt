@@ -1,6 +1,7 @@
 -- No duty makes or takes a node or an agent.
 use Rattle.std.proofs.Common.{Bool, cond, None, Option, Some, ap, refl, false, true, ℕ, ◌≡◌}
 use Rattle.std.specs.Prelude.{map}
+use Rattle.swarm_model.proofs.Moves.EachDuty.{taken-in}
 use Rattle.swarm_matching.proofs.Owners.{agents-change, numbers-change}
 use Rattle.swarm_matching.specs.Sent.{inside_numbers}
 use Rattle.swarm_objects.specs.Agents.Messages.{change_executor, message_for}
@@ -19,7 +20,6 @@ use Rattle.swarm_objects.specs.Rows.{agent_node, drop_row, executor_task, on_row
 use Rattle.swarm_objects.specs.Tasks.Places.{newest, tasks_of_place}
 use Rattle.swarm_objects.specs.World.{Tables, World}
 use Rattle.swarm_objects.specs.declared.agents.Executor.{Executor}
-use Rattle.swarm_objects.specs.declared.agents.NodeAgent.{NodeAgent}
 use Rattle.swarm_objects.specs.declared.duties.Duty.TheVariants as duty
 use Rattle.swarm_objects.specs.declared.duties.Duty.{Duty}
 use Rattle.swarm_objects.specs.declared.messages.Message.{Message}
@@ -130,10 +130,6 @@ duty-numbers n w (duty.Forget m x) = refl
 
 -- Agents.
 
-taken-node : (clock : ℕ) (o : Option Message) (a : NodeAgent) → (take_in clock o a).node ≡ a.node
-taken-node clock None a = refl
-taken-node clock (Some m) a = refl
-
 pull-agents : (w : World) (m : ℕ) (o : Option Message) →
     map agent_node (after_pull w m o).agents ≡ map agent_node w.agents
 pull-agents w m None = refl
@@ -142,7 +138,7 @@ pull-agents w m (Some message) = agents-change m (received message) w.agents (λ
 pub duty-agents : (n : ℕ) (w : World) (d : Duty) → map agent_node (effect_by n w d).agents ≡ map agent_node w.agents
 duty-agents n w (duty.Register m) = agents-change m begun w.agents (λ a. refl)
 duty-agents n w (duty.Apply m) =
-    agents-change m (λ a. take_in w.tables.clock a.inbox a) w.agents (λ a. taken-node w.tables.clock a.inbox a)
+    agents-change m (λ a. take_in w.tables.clock a.inbox a) w.agents (λ a. taken-in w.tables.clock a.inbox a)
 duty-agents n w (duty.Pull m) = pull-agents w m (message_for w m)
 duty-agents n w (duty.Exec m x) =
     agents-change m (λ a. record a { executors = change_executor x (stepped w.tables.clock) a.executors }) w.agents

@@ -5,9 +5,8 @@ use Rattle.swarm_matching.proofs.Held.{task-number}
 use Rattle.swarm_matching.proofs.Known.{Known}
 use Rattle.swarm_matching.proofs.NothingElse.{LivesIn, live-in}
 use Rattle.swarm_matching.proofs.Rest.{no-duty}
-use Rattle.swarm_matching.proofs.Tests.{both, is-not, refuted, some-and, some-and-cases}
 use Rattle.swarm_matching.specs.Rest.{IsAtRest}
-use Rattle.swarm_model.proofs.Moves.Duties.{and-left}
+use Rattle.swarm_objects.proofs.Tests.{both, false_from_ne_true, first_so, not_from_false, some-and, some-and-cases}
 use Rattle.swarm_objects.specs.Loops.Global.{may_stay}
 use Rattle.swarm_objects.specs.Loops.Restart.{is_current, is_over}
 use Rattle.swarm_objects.specs.Nodes.Words.{is_astray, is_homed, is_valid, is_valid_node}
@@ -32,7 +31,7 @@ on-global (mode.Job c n) j k e = absurd cc
 pub no-restart : (w : World) → IsAtRest w → (x : Task) → Has w.tables.tasks x → is_live x ≡ true →
     is_current w.tables x ≡ true → is_over w.tables x x.place ≡ false
 no-restart w rest x h live current =
-    refuted (is_over w.tables x x.place)
+    false_from_ne_true (is_over w.tables x x.place)
     (λ over.
     no-duty w rest (duty.Restart x.id)
     (record {
@@ -72,7 +71,7 @@ may-stay w known rest x s k h lives at = go (is_row_and node_id (may_stay s) w.t
             (
               subst (Has (place_numbers w.tables s)) kind.1 (task-number w.tables s x h lives.counts),
               both (is_held_place w.tables s k) (not (is_row_and node_id (may_stay s) w.tables.nodes k)) held
-                  (is-not (is_row_and node_id (may_stay s) w.tables.nodes k) e),
+                  (not_from_false (is_row_and node_id (may_stay s) w.tables.nodes k) e),
             ),
           );
         }))
@@ -81,7 +80,7 @@ valid-of : (w : World) (s : Service) (k : ℕ) → is_row_and node_id (may_stay 
     is_valid w.tables k ≡ true
 valid-of w s k e =
     let at = some-and-cases (may_stay s) (row_at node_id k w.tables.nodes) e in
-    some-and is_valid_node (row_at node_id k w.tables.nodes) at.0 at.1 (and-left (is_valid_node at.0) _ at.2)
+    some-and is_valid_node (row_at node_id k w.tables.nodes) at.0 at.1 (first_so (is_valid_node at.0) _ at.2)
 
 pub never-ended : (w : World) → Known w → IsAtRest w → (x : Task) → Has w.tables.tasks x → is_live x ≡ true →
     has_ended x ≡ false

@@ -7,18 +7,19 @@ use Rattle.std.specs.Prelude.{filter, map, ◌&&◌, ◌==◌, ◌||◌}
 use Rattle.swarm_matching.proofs.Goals.{Goals}
 use Rattle.swarm_matching.proofs.Held.{closes-kept, member-number, newest-left}
 use Rattle.swarm_matching.proofs.JobBounds.{Sinks, gone-sinks, other-place, raised-sinks, shut-sinks}
-use Rattle.swarm_matching.proofs.PlaceLists.{SameMaking, SamePlaces, comes-counts, comes-live, counts-of, newest-has, newest-mapped, one-service, place-counts, place-filter, place-in, place-is, place-map, place-push, same-places, touch, touch-making, untouched}
-use Rattle.swarm_matching.proofs.ServiceSteps.{alike-job, respecified-places, run-places}
+use Rattle.swarm_matching.proofs.PlaceLists.{SameMaking, SamePlaces, comes-counts, comes-live, counts-of, newest-mapped, one-service, place-counts, place-filter, place-in, place-is, place-map, place-push, same-places, touch, touch-making, untouched}
+use Rattle.swarm_matching.proofs.ServiceSteps.{respecified-places, run-places}
 use Rattle.swarm_matching.proofs.Shapes.{Base, Closings, Comes, DutyStep, IsLater, OpStep, Respecifies, Restarts, RunStep, Runs, SameButRun, begins, closes, comes, creates, drops, ends, goes, goes_back, is_done, leaves, pushed, raises, removes, renews, respecifies, runs, shuts, starts_first, stays, still, stops_first, swaps}
-use Rattle.swarm_matching.proofs.Tests.{any-cases, any-has, both, is-not, neither-left, neither-right, no-way, not-is, or-right, refuted, some-and}
 use Rattle.swarm_matching.proofs.Versions.{IsVersioned, Versions}
 use Rattle.swarm_matching.proofs.Wholes.{Wholes, at-number, closed-making, number-is, raised-making, stand-alike, wanted-making}
 use Rattle.swarm_model.proofs.Laws.Alone.{none-of-any}
 use Rattle.swarm_model.proofs.Laws.Timely.{each-changed, each-pushed}
-use Rattle.swarm_model.proofs.Moves.Duties.{and-left, and-right}
+use Rattle.swarm_model.proofs.Laws.OneEach.{job-alike}
 use Rattle.swarm_model.specs.Closing.{Closing}
 use Rattle.swarm_objects.proofs.RowLemmas.{Has-append_cases, Has-append_right, Has-filter, Has-filter_cases, Has-map, Has-map_cases}
 use Rattle.swarm_objects.proofs.SameLemmas.{Decides-same_template}
+use Rattle.swarm_objects.proofs.Tests.{any-has, both, false_from_ne_true, first_so, has-any, neither_left, neither_right, never-both, not-true, not_from_false, or_right, second_so, some-and}
+use Rattle.swarm_objects.proofs.Newest.{newest_has}
 use Rattle.swarm_objects.specs.Changes.{wanted}
 use Rattle.swarm_objects.specs.Loops.Restart.{closed_by, raised, shut}
 use Rattle.swarm_objects.specs.Rows.{Has, is_some_and, service_id, task_id}
@@ -74,7 +75,7 @@ pub not-done : (s : Service) (run : UpdateRun) → s.run ≡ Some run → is_und
 not-done s run e way done =
     let is : Some run ≡ Some done.0 = sym e ∙ done.1 in
     let same : run ≡ done.0 = cc in
-    no-way (is_under_way run) (ap is_under_way same ∙ done-open done.0.status done.2) way
+    never-both (is_under_way run) (ap is_under_way same ∙ done-open done.0.status done.2) way
 
 -- Lists.
 
@@ -113,7 +114,7 @@ ended-map c s xs f keeps alive shuts_not stay is = record {
       ∙ is.clean from.0 from.1 (alive from.0 from.1 (ap is_live from.2 ∙ live));
   closed = λ none z last e.
       let at = newest-mapped f xs z last in
-      let before = shuts_not at.0 (newest-has xs at.0 at.1) (ap closes_place at.2 ∙ e) in
+      let before = shuts_not at.0 (newest_has xs at.0 at.1) (ap closes_place at.2 ∙ e) in
       subst (IsClosedWell c s) at.2
       (closed-read c c s at.0 (f at.0) (keeps at.0) (ap c (keeps at.0).id) (is.closed (stay none) at.0 at.1 before));
 }
@@ -126,8 +127,8 @@ ended-push c s xs y all live clean = record {
   clean = λ x h alive. go x alive (Has-append_cases xs (y ∷ []) x h);
   closed = λ none z last e.
       absurd (let some : list_any is_live (xs ++ y ∷ []) ≡ true =
-      any-has is_live (xs ++ y ∷ []) y (Has-append_right xs (y ∷ []) y (inl refl)) live in
-      no-way (list_any is_live (xs ++ y ∷ [])) none some);
+      has-any is_live (xs ++ y ∷ []) y (Has-append_right xs (y ∷ []) y (inl refl)) live in
+      never-both (list_any is_live (xs ++ y ∷ [])) none some);
 }
   where
     go : (x : Task) → is_live x ≡ true → Has xs x ⊎ Has (y ∷ []) x → is_clean s x ≡ true
@@ -139,7 +140,7 @@ comes-clean : (t : Tables) (s : Service) (p : Place) (y : Task) → Comes t s p 
 comes-clean t s p y new =
     both (same_template y.template s.spec.template) _
     ((Decides-same_template y.template s.spec.template).1 new.template)
-    (or-right (not (is_job s.spec.mode)) (y.iteration == s.iteration) (grind (arith, nat_tests, new.iteration)))
+    (or_right (not (is_job s.spec.mode)) (y.iteration == s.iteration) (grind (arith, nat_tests, new.iteration)))
 
 -- Places that a touch leaves alone.
 
@@ -157,8 +158,8 @@ without-task t x v p f base h out keeps =
     untouched-place v p (λ y. task_id y == x.id) f t.tasks keeps
     (λ y k.
     let inside = Has-filter_cases (is_in_place v p) t.tasks y k in
-    refuted (task_id y == x.id)
-    (λ e. no-way (is_in_place v p x) out
+    false_from_ne_true (task_id y == x.id)
+    (λ e. never-both (is_in_place v p x) out
     (ap (is_in_place v p) (at-number t base x y h inside.0 e) ∙ inside.1)))
 
 -- Duties.
@@ -176,7 +177,7 @@ raised-ended c t x base goals h w v p is =
     (sym (place-map v p (touch at (raised 0)) t.tasks (touch-making at (raised 0) raised-making)))
     (ended-map c v xs (touch at (raised 0)) (touch-making at (raised 0) raised-making)
     (λ y k. (sinks y (there y k) (at y) refl).live) (λ y k. (sinks y (there y k) (at y) refl).closes)
-    (λ none. refuted (list_any is_live xs) (λ some. still_live none (any-cases is_live xs some))) is)
+    (λ none. false_from_ne_true (list_any is_live xs) (λ some. still_live none (any-has is_live xs some))) is)
   where
     at : Task → Bool
     at y = task_id y == x.id
@@ -199,8 +200,8 @@ raised-ended c t x base goals h w v p is =
     still_live : list_any is_live (map (touch at (raised 0)) xs) ≡ false →
         (y : Task) × Has xs y × (is_live y ≡ true) → ⊥
     still_live none one =
-        no-way _ none
-        (any-has is_live (map (touch at (raised 0)) xs) (touch at (raised 0) one.0)
+        never-both _ none
+        (has-any is_live (map (touch at (raised 0)) xs) (touch at (raised 0) one.0)
         (Has-map (touch at (raised 0)) xs one.0 one.1) (stays_live one.0 (at one.0) one.2))
 
 -- tasks of one place that are to stop, where another live one is left
@@ -232,7 +233,7 @@ stopped-ended c t test base lives v p stay is =
 still-live : (test : Task → Bool) (f : Task → Task) (xs : List Task) (y : Task) → Has xs y → is_live y ≡ true →
     test y ≡ false → list_any is_live (map (touch test f) xs) ≡ true
 still-live test f xs y h live out =
-    any-has is_live (map (touch test f) xs) (touch test f y) (Has-map (touch test f) xs y h)
+    has-any is_live (map (touch test f) xs) (touch test f y) (Has-map (touch test f) xs y h)
     (ap (λ (b : Bool). is_live (cond b (f y) y)) out ∙ live)
 
 -- the place of a task in its own service
@@ -245,7 +246,7 @@ shuts-ended : (c : Closings) (t : Tables) (x : Task) (s : Service) → Base t �
 shuts-ended c t x s base r other v p h is =
     stopped-ended c t at base
     (λ y k e. subst (λ (z : Task). is_live z ≡ true) (at-number t base x y r.there k e) r.live) v p
-    (λ none. refuted (list_any is_live xs) (λ some. let one = any-cases is_live xs some in
+    (λ none. false_from_ne_true (list_any is_live xs) (λ some. let one = any-has is_live xs some in
     go none one.0 one.1 one.2 (at one.0) refl)) is
   where
     at : Task → Bool
@@ -256,20 +257,20 @@ shuts-ended c t x s base r other v p h is =
 
     go : list_any is_live (map (touch at (wanted 0 desired.Shutdown)) xs) ≡ false → (y : Task) → Has xs y →
         is_live y ≡ true → (b : Bool) → at y ≡ b → ⊥
-    go none y k live false e = no-way _ none (still-live at (wanted 0 desired.Shutdown) xs y k live e)
+    go none y k live false e = never-both _ none (still-live at (wanted 0 desired.Shutdown) xs y k live e)
     go none y k live true e =
         let y_in = Has-filter_cases (is_in_place v p) t.tasks y k in
         let same = at-number t base x y r.there y_in.0 e in
         let x_in : is_in_place v p x ≡ true = ap (is_in_place v p) same ∙ y_in.1 in
         let another =
-        any-cases (λ z. is_live z && not (z.id == x.id)) (tasks_of_place s x.place t.tasks) other in
+        any-has (λ z. is_live z && not (z.id == x.id)) (tasks_of_place s x.place t.tasks) other in
         let z_in = Has-filter_cases (is_in_place s x.place) t.tasks another.0 another.1 in
         let inside =
         stand-alike t base s v x.place p x another.0 r.of h (own-place t x s r) z_in.1 x_in in
-        no-way _ none
+        never-both _ none
         (still-live at (wanted 0 desired.Shutdown) xs another.0
-        (Has-filter (is_in_place v p) t.tasks another.0 z_in.0 inside) (and-left (is_live another.0) _ another.2)
-        (not-is (another.0.id == x.id) (and-right (is_live another.0) _ another.2)))
+        (Has-filter (is_in_place v p) t.tasks another.0 z_in.0 inside) (first_so (is_live another.0) _ another.2)
+        (not-true (another.0.id == x.id) (second_so (is_live another.0) _ another.2)))
 
 -- live tasks stay clean
 clean-map : (c : Closings) (s : Service) (xs : List Task) (f : Task → Task) → ((x : Task) → SameMaking x (f x)) →
@@ -314,8 +315,8 @@ renews-ended c t x y s base r new v p h is =
     (λ outside.
     ended-same c c v (tasks_of_place v p t.tasks) (tasks_of_place v p (shut 0 x.id t).tasks)
     (without-task t x v p (wanted 0 desired.Shutdown) base r.there
-    (refuted (is_in_place v p x)
-    (λ x_in. no-way (is_in_place v p y) outside (beside x_in))) (wanted-making desired.Shutdown)) (λ id. refl) is)
+    (false_from_ne_true (is_in_place v p x)
+    (λ x_in. never-both (is_in_place v p y) outside (beside x_in))) (wanted-making desired.Shutdown)) (λ id. refl) is)
   where
     beside : is_in_place v p x ≡ true → is_in_place v p y ≡ true
     beside x_in =
@@ -374,16 +375,16 @@ closes-ended n c d t x y s cause base r y_last later v p h low is =
     none_live : list_any is_live (map (touch at_y g) ys) ≡ false → (w : Task) → newest ys ≡ Some w →
         at_y w ≡ false → list_any is_live xs ≡ false
     none_live none w last other =
-        refuted (list_any is_live xs)
-        (λ some. let one = any-cases is_live xs some in go one.0 one.1 one.2 (at_x one.0) refl)
+        false_from_ne_true (list_any is_live xs)
+        (λ some. let one = any-has is_live xs some in go one.0 one.1 one.2 (at_x one.0) refl)
       where
         go : (u : Task) → Has xs u → is_live u ≡ true → (b : Bool) → at_x u ≡ b → ⊥
         go u k live false e =
             let some_y : list_any is_live ys ≡ true =
             subst (λ (zs : List Task). list_any is_live zs ≡ true) (sym ys_is) (still-live at_x f xs u k live e) in
-            let one = any-cases is_live ys some_y in
-            no-way _ none
-            (any-has is_live (map (touch at_y g) ys) (touch at_y g one.0) (Has-map (touch at_y g) ys one.0 one.1)
+            let one = any-has is_live ys some_y in
+            never-both _ none
+            (has-any is_live (map (touch at_y g) ys) (touch at_y g one.0) (Has-map (touch at_y g) ys one.0 one.1)
             (lives_on one.0 (at_y one.0) one.2))
         go u k live true e =
             let u_in = Has-filter_cases (is_in_place v p) t.tasks u k in
@@ -399,7 +400,7 @@ closes-ended n c d t x y s cause base r y_last later v p h low is =
             let is_some : Some w ≡ Some y = sym last ∙ y_too in
             let is_y : w ≡ y = cc in
             let numbers : w.id ≡ y.id = ap task_id is_y in
-            no-way (at_y w) other (grind (arith, nat_tests, numbers))
+            never-both (at_y w) other (grind (arith, nat_tests, numbers))
 
     shut_well : list_any is_live (map (touch at_y g) ys) ≡ false → (z : Task) →
         newest (map (touch at_y g) ys) ≡ Some z → closes_place z ≡ true → IsClosedWell d v z
@@ -422,9 +423,9 @@ closes-ended n c d t x y s cause base r y_last later v p h low is =
             let keeps_w : SameMaking w_from.0 w = subst (SameMaking w_from.0) w_from.2 keeps in
             let old = is.closed nothing w_from.0 w_from.1
             (shut_before w_from.0 (Has-filter_cases (is_in_place v p) t.tasks w_from.0
-            (newest-has xs w_from.0 w_from.1)).0 (at_x w_from.0) refl (ap closes_place w_from.2 ∙ shuts_it)) in
+            (newest_has xs w_from.0 w_from.1)).0 (at_x w_from.0) refl (ap closes_place w_from.2 ∙ shuts_it)) in
             closed-read c d v w_from.0 w keeps_w
-            (later.1 w.id (λ same. no-way (at_y w) k (grind (arith, nat_tests, same))) ∙ ap c keeps_w.id) old
+            (later.1 w.id (λ same. never-both (at_y w) k (grind (arith, nat_tests, same))) ∙ ap c keeps_w.id) old
           where
             shut_before : (u : Task) → Has t.tasks u → (b : Bool) → at_x u ≡ b → closes_place (cond b (f u) u) ≡ true →
                 closes_place u ≡ true
@@ -442,7 +443,7 @@ other-service t s v run r done same = not-done s run r.run_is r.under_way (subst
 apart : (t : Tables) (s v : Service) (q p : Place) (x : Task) → Base t → Has t.services s → Has t.services v →
     ¬ (s ≡ v) → is_in_place v p x ≡ true → is_in_place s q x ≡ false
 apart t s v q p x base h k other inside =
-    refuted (is_in_place s q x)
+    false_from_ne_true (is_in_place s q x)
     (λ there.
     other (one-service t base s v h k
     (sym (counts-of s x (place-counts s q x there)) ∙ counts-of v x (place-counts v p x inside))))
@@ -464,7 +465,7 @@ push-apart : (c : Closings) (t : Tables) (s v : Service) (q p : Place) (xs : Lis
     IsEndedWell c v (tasks_of_place v p (xs ++ y ∷ []))
 push-apart c t s v q p xs y base h k new other is =
     place-push (IsEndedWell c v) v p xs y
-    (λ inside. no-way (is_in_place v p y) (other-place t base s v q p y h k new other) inside) (λ outside. is)
+    (λ inside. never-both (is_in_place v p y) (other-place t base s v q p y h k new other) inside) (λ outside. is)
 
 removes-ended : (c : Closings) (t : Tables) (s : Service) (k : ℕ) → Base t → Has t.services s → (v : Service)
     (p : Place) → Has t.services v → IsEndedWell c v (tasks_of_place v p t.tasks) →
@@ -501,12 +502,12 @@ removes-ended c t s k base there v p h is =
     -- where the newest one stays as it was, so do all
     all_left : (w : Task) → Has xs w → is_kept w ≡ true → gone w ≡ false → (y : Task) → Has xs y → gone y ≡ false
     all_left w w_has kept left y y_has =
-        refuted (gone y)
+        false_from_ne_true (gone y)
         (λ goes_too.
         let w_in = Has-filter_cases (is_in_place v p) t.tasks w w_has in
         let y_in = Has-filter_cases (is_in_place v p) t.tasks y y_has in
-        let inside = stand-alike t base v s p q y w h there y_in.1 w_in.1 (and-left (is_in_place s q y) _ goes_too) in
-        no-way (gone w) left (both (is_in_place s q w) (is_kept w) inside kept))
+        let inside = stand-alike t base v s p q y w h there y_in.1 w_in.1 (first_so (is_in_place s q y) _ goes_too) in
+        never-both (gone w) left (both (is_in_place s q w) (is_kept w) inside kept))
 
     shut_well : list_any is_live (map (touch gone f) xs) ≡ false → (z : Task) →
         newest (map (touch gone f) xs) ≡ Some z → closes_place z ≡ true → IsClosedWell c v z
@@ -516,10 +517,10 @@ removes-ended c t s k base there v p h is =
       where
         go : (w : Task) → newest xs ≡ Some w → (b : Bool) → gone w ≡ b → closes_place (cond b (f w) w) ≡ true →
             IsClosedWell c v (cond b (f w) w)
-        go w w_last true j shuts_it = absurd (let wrong : false ≡ true = and-right _ false shuts_it in cc)
+        go w w_last true j shuts_it = absurd (let wrong : false ≡ true = second_so _ false shuts_it in cc)
         go w w_last false j shuts_it =
             let same : map (touch gone f) xs ≡ xs =
-            untouched gone f xs (all_left w (newest-has xs w w_last) (closes-kept w shuts_it) j) in
+            untouched gone f xs (all_left w (newest_has xs w w_last) (closes-kept w shuts_it) j) in
             is.closed (ap (list_any is_live) (sym same) ∙ none) w w_last shuts_it
 
 creates-ended : (c : Closings) (t : Tables) (s : Service) (q : Place) (y : Task) → Base t → Has t.services s →
@@ -545,7 +546,7 @@ drops-ended c t x base whole there dead old v p h is =
       closed = λ none z last e.
           is.closed (none_before none) z
           (newest-left left xs z (whole v p h)
-          (λ w w_last kept. is-not (task_id w == x.id) (refuted (task_id w == x.id)
+          (λ w w_last kept. not_from_false (task_id w == x.id) (false_from_ne_true (task_id w == x.id)
           (λ same. old v p w h w_last kept (number-is w.id x.id same)))) last (closes-kept z e)) e;
     })
   where
@@ -557,16 +558,16 @@ drops-ended c t x base whole there dead old v p h is =
 
     none_before : list_any is_live (filter left xs) ≡ false → list_any is_live xs ≡ false
     none_before none =
-        refuted (list_any is_live xs)
-        (λ some. let one = any-cases is_live xs some in go one.0 one.1 one.2 (task_id one.0 == x.id) refl)
+        false_from_ne_true (list_any is_live xs)
+        (λ some. let one = any-has is_live xs some in go one.0 one.1 one.2 (task_id one.0 == x.id) refl)
       where
         go : (u : Task) → Has xs u → is_live u ≡ true → (b : Bool) → (task_id u == x.id) ≡ b → ⊥
         go u k live true e =
             let same = at-number t base x u there (Has-filter_cases (is_in_place v p) t.tasks u k).0 e in
-            no-way (is_live x) dead (ap is_live same ∙ live)
+            never-both (is_live x) dead (ap is_live same ∙ live)
         go u k live false e =
-            no-way _ none (any-has is_live (filter left xs) u
-            (Has-filter left xs u k (is-not (task_id u == x.id) e)) live)
+            never-both _ none (has-any is_live (filter left xs) u
+            (Has-filter left xs u k (not_from_false (task_id u == x.id) e)) live)
 
 -- Runs.
 
@@ -600,29 +601,29 @@ clean-ended c t s base h none p = record {
         let there : Has (place_tasks t s number.0) y =
         subst (λ (q : Place). Has (tasks_of_place s q t.tasks) y) number.1 k in
         let no_dirty =
-        neither-left (list_any (is_live_dirty s) (place_tasks t s number.0)) _ (not_dirty number.0 y there) in
+        neither_left (list_any (is_live_dirty s) (place_tasks t s number.0)) _ (not_dirty number.0 y there) in
         settled (is_live y) (is_clean s y) live
         (none-of-any (is_live_dirty s) (place_tasks t s number.0) no_dirty y there)
 
     clean_last : list_any is_live (tasks_of_place s p t.tasks) ≡ false → (z : Task) →
         newest (tasks_of_place s p t.tasks) ≡ Some z → closes_place z ≡ true → is_clean s z ≡ true
     clean_last dead z last e =
-        let number = at z (newest-has (tasks_of_place s p t.tasks) z last) in
+        let number = at z (newest_has (tasks_of_place s p t.tasks) z last) in
         let there : Has (place_tasks t s number.0) z =
         subst (λ (q : Place). Has (tasks_of_place s q t.tasks) z) number.1
-        (newest-has (tasks_of_place s p t.tasks) z last) in
+        (newest_has (tasks_of_place s p t.tasks) z last) in
         let last_too : newest (place_tasks t s number.0) ≡ Some z =
         subst (λ (q : Place). newest (tasks_of_place s q t.tasks) ≡ Some z) number.1 last in
         let dead_too : has_live t s number.0 ≡ false =
         subst (λ (q : Place). list_any is_live (tasks_of_place s q t.tasks) ≡ false) number.1 dead in
         let no_dirty =
-        neither-right (list_any (is_live_dirty s) (place_tasks t s number.0)) _ (not_dirty number.0 z there) in
+        neither_right (list_any (is_live_dirty s) (place_tasks t s number.0)) _ (not_dirty number.0 z there) in
         let parts : closes_dirty s z ≡ false =
-        refuted (closes_dirty s z)
+        false_from_ne_true (closes_dirty s z)
         (λ dirty.
-        no-way (not (has_live t s number.0) && is_some_and (closes_dirty s) (newest (place_tasks t s number.0)))
+        never-both (not (has_live t s number.0) && is_some_and (closes_dirty s) (newest (place_tasks t s number.0)))
         no_dirty
-        (both (not (has_live t s number.0)) _ (is-not (has_live t s number.0) dead_too)
+        (both (not (has_live t s number.0)) _ (not_from_false (has_live t s number.0) dead_too)
         (some-and (closes_dirty s) (newest (place_tasks t s number.0)) z last_too dirty))) in
         settled (closes_place z) (is_clean s z) e parts
 
@@ -708,7 +709,7 @@ respecified-ended n c t s v spec h versioned r is no_job done p =
   where
     s_no_job : is_job s.spec.mode ≡ false
     s_no_job =
-        sym (alike-job spec.mode s.spec.mode r.alike) ∙ ap (λ (q : ServiceSpec). is_job q.mode) (sym r.spec_is) ∙ no_job
+        sym (job-alike spec.mode s.spec.mode r.alike) ∙ ap (λ (q : ServiceSpec). is_job q.mode) (sym r.spec_is) ∙ no_job
 
     places : SamePlaces s v
     places = respecified-places (n + 1) spec s v r s_no_job
@@ -721,7 +722,7 @@ respecified-ended n c t s v spec h versioned r is no_job done p =
         ∙ ap (λ (a : Template). same_template y.template a && (not (is_job spec.mode) || y.iteration == v.iteration))
         same
         ∙ ap (λ (b : Bool). same_template y.template s.spec.template && (not b || y.iteration == v.iteration))
-        (alike-job spec.mode s.spec.mode r.alike)
+        (job-alike spec.mode s.spec.mode r.alike)
         ∙ free (is_job s.spec.mode) s_no_job
       where
         free : (b : Bool) → b ≡ false →

@@ -13,14 +13,13 @@ use Rattle.swarm_matching.proofs.PlaceLists.{place-is}
 use Rattle.swarm_matching.proofs.Replicas.{has-replicas}
 use Rattle.swarm_matching.proofs.Rest.{no-duty}
 use Rattle.swarm_matching.proofs.Shapes.{Closings, shape}
-use Rattle.swarm_matching.proofs.Tests.{all-pass, both, is-not, no-way, not-is, or-left, or-right, proved, some-and, some-and-cases}
 use Rattle.swarm_matching.specs.Laws.{HasPlaces, PlacesLaw}
 use Rattle.swarm_matching.specs.Rest.{IsAtRest}
-use Rattle.swarm_model.proofs.Moves.Duties.{and-left, and-right}
 use Rattle.swarm_model.specs.Closing.{closing}
 use Rattle.swarm_model.specs.History.{replay}
 use Rattle.swarm_model.specs.Laws.Matches.{has_right_node, matches_mode, matches_nodes, may_keep}
 use Rattle.swarm_objects.proofs.RowLemmas.{Has-filter_cases, Has-from_row_at}
+use Rattle.swarm_objects.proofs.Tests.{all-pass, both, first_so, never-both, not-true, not_from_false, or_left, or_right, second_so, some-and, some-and-cases, true_from_ne_false}
 use Rattle.swarm_objects.specs.Loops.Global.{may_stay, wants_here}
 use Rattle.swarm_objects.specs.Nodes.Words.{is_active, is_down, is_drain, is_pause, is_ready, is_valid_node, meets_all}
 use Rattle.swarm_objects.specs.Rows.{Has, is_row_and, node_id, row_at}
@@ -56,7 +55,7 @@ each-held w rest s h e n there = go (wants_here s n) refl (is_held_place w.table
               there = there;
               id_is = refl;
               fact = both (wants_here s n) (not (is_held_place w.tables s n.id)) p
-                  (is-not (is_held_place w.tables s n.id) q);
+                  (not_from_false (is_held_place w.tables s n.id) q);
             },
           );
         }))
@@ -66,7 +65,7 @@ stays-there : (w : World) → IsAtRest w → (s : Service) (k : ℕ) → Has w.t
     Has (place_numbers w.tables s) k → is_held_place w.tables s k ≡ true →
     is_row_and node_id (may_stay s) w.tables.nodes k ≡ true
 stays-there w rest s k h e number held =
-    proved (is_row_and node_id (may_stay s) w.tables.nodes k)
+    true_from_ne_false (is_row_and node_id (may_stay s) w.tables.nodes k)
     (λ off.
     no-duty w rest (duty.Leave s.id k)
     (record {
@@ -78,7 +77,7 @@ stays-there w rest s k h e number held =
         (
           number,
           both (is_held_place w.tables s k) (not (is_row_and node_id (may_stay s) w.tables.nodes k)) held
-              (is-not (is_row_and node_id (may_stay s) w.tables.nodes k) off),
+              (not_from_false (is_row_and node_id (may_stay s) w.tables.nodes k) off),
         ),
       );
     }))
@@ -86,7 +85,7 @@ stays-there w rest s k h e number held =
 -- READY, and neither DOWN nor on DRAIN
 pub known-valid : (n : Node) → is_known n ≡ true → is_valid_node n ≡ true → is_ready n.state ≡ true
 known-valid n known valid =
-    go (is_ready n.state) (is_down n.state) known (not-is (is_down n.state) (and-left _ _ valid))
+    go (is_ready n.state) (is_down n.state) known (not-true (is_down n.state) (first_so _ _ valid))
   where
     go : (a b : Bool) → (a || b) ≡ true → b ≡ false → a ≡ true
     go true b e f = refl
@@ -96,22 +95,22 @@ known-valid n known valid =
 right-node : (s : Service) (n : Node) → is_ready n.state ≡ true → may_stay s n ≡ true →
     (wants_here s n || may_keep s n) ≡ true
 right-node s n ready stays =
-    go n.availability refl (not-is (is_drain n.availability) (and-right _ _ (and-left _ _ stays)))
+    go n.availability refl (not-true (is_drain n.availability) (second_so _ _ (first_so _ _ stays)))
   where
     meets : meets_all s.spec.template.constraints n ≡ true
-    meets = and-right _ (meets_all s.spec.template.constraints n) stays
+    meets = second_so _ (meets_all s.spec.template.constraints n) stays
 
     go : (a : Availability) → n.availability ≡ a → is_drain n.availability ≡ false →
         (wants_here s n || may_keep s n) ≡ true
     go availability.Active e off =
-        or-left (wants_here s n) (may_keep s n)
+        or_left (wants_here s n) (may_keep s n)
         (both (is_ready n.state && is_active n.availability) _ (both (is_ready n.state) (is_active n.availability) ready
         (ap is_active e)) meets)
     go availability.Pause e off =
-        or-right (wants_here s n) (may_keep s n)
+        or_right (wants_here s n) (may_keep s n)
         (both (is_ready n.state && is_pause n.availability) _ (both (is_ready n.state) (is_pause n.availability) ready
         (ap is_pause e)) meets)
-    go availability.Drain e off = no-way (is_drain n.availability) off (ap is_drain e)
+    go availability.Drain e off = never-both (is_drain n.availability) off (ap is_drain e)
 
 right-place : (w : World) → Known w → KnownNodes w.tables → IsAtRest w → (s : Service) (k : ℕ) →
     Has w.tables.services s → s.spec.mode ≡ mode.Global → Has (held_places w.tables s) k →
@@ -127,7 +126,7 @@ right-place w known nodes rest s k h e held =
     let place : one.0.place ≡ On k =
     place-is s (place_at s.spec.mode k) one.0 inside.1 ∙ ap (λ (m : Mode). place_at m k) e in
     let is_there = nodes one.0 k inside.0 ((known.home one.0 inside.0).bound k place) in
-    let ready = known-valid n (is_there.known n row.0 row.1) (and-left (is_valid_node n) _ at.2) in
+    let ready = known-valid n (is_there.known n row.0 row.1) (first_so (is_valid_node n) _ at.2) in
     some-and (λ m. wants_here s m || may_keep s m) (row_at node_id k w.tables.nodes) n at.1
     (right-node s n ready at.2)
 

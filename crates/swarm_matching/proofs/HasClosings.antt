@@ -4,10 +4,10 @@ use Rattle.std.proofs.lemmas.Bool.Decides.{nat_tests}
 use Rattle.std.specs.Prelude.{map, ◌==◌}
 use Rattle.swarm_matching.proofs.PlaceLists.{each-touched, each-touched-by, touch}
 use Rattle.swarm_matching.proofs.Shapes.{Closings, Comes, DutyStep, IsLater, OpStep, closes, comes, creates, drops, goes, leaves, raises, removes, renews, respecifies, runs, shuts, starts_first, stays, still, stops_first, swaps}
-use Rattle.swarm_matching.proofs.Tests.{no-way}
 use Rattle.swarm_matching.proofs.Wholes.{number-is}
 use Rattle.swarm_model.proofs.Laws.Timely.{each-pushed}
 use Rattle.swarm_objects.proofs.RowLemmas.{Has-filter_cases}
+use Rattle.swarm_objects.proofs.Tests.{never-both}
 use Rattle.swarm_objects.specs.Changes.{wanted}
 use Rattle.swarm_objects.specs.Loops.Restart.{closed_by, raised, shut}
 use Rattle.swarm_objects.specs.Rows.{Has, task_id}
@@ -48,7 +48,7 @@ closed-now e c d y cause xs later is =
     each-touched-by (IsRecorded d) (λ x. task_id x == y.id) (closed_by 0 cause) xs
     (λ x h other why is_so.
     let old = is x h why is_so in
-    (old.0, later.1 x.id (λ same. no-way (task_id x == y.id) other (grind (arith, nat_tests, same))) ∙ old.1))
+    (old.0, later.1 x.id (λ same. never-both (task_id x == y.id) other (grind (arith, nat_tests, same))) ∙ old.1))
     (λ x h same why is_so.
     let cause_is : cause ≡ why = cc in (
       e,

@@ -7,6 +7,8 @@ use Rattle.std.specs.Prelude.{filter, flat_map, fold, is_some, map, ◌&&◌, �
 use Rattle.swarm_matching.specs.Messages.{MessageLaw, aimed_or_new, executor_after}
 use Rattle.swarm_objects.proofs.Gaps.{IsRising-with_row}
 use Rattle.swarm_objects.proofs.RowLemmas.{Has-from_row_at, RisesFrom-filter, row_at-None_below, row_at-map}
+use Rattle.swarm_objects.proofs.RowChanges.{row_at-with_row}
+use Rattle.swarm_objects.proofs.Tests.{or_false}
 use Rattle.swarm_objects.specs.Agents.Messages.{applied, apply_change, assigned_task, change_executor, change_of, changes_of, complete_message, difference_message, gone_executor, is_sent, left_out, message_with, names, new_executor, tasks_of_either, update_of}
 use Rattle.swarm_objects.specs.Rows.{IsRising, RisesFrom, change_row, executor_task, has_row, itself, on_row, row_at, with_number, with_row}
 use Rattle.swarm_objects.specs.declared.agents.Executor.{Executor}
@@ -15,20 +17,6 @@ use Rattle.swarm_objects.specs.declared.messages.AssignChange.{AssignChange}
 use Rattle.swarm_objects.specs.declared.messages.Assigned.{Assigned}
 use Rattle.swarm_objects.specs.declared.messages.Message.{Message}
 use Rattle.swarm_objects.specs.declared.messages.NodeSent.{NodeSent}
-
-pub row_at-with_row : {X : Type 0} (key : X → ℕ) (id : ℕ) (new : X) (rows : List X) →
-    row_at key id (with_row key new rows) ≡ cond (eqb (key new) id) (Some new) (row_at key id rows)
-row_at-with_row key id new [] = refl
-row_at-with_row key id new (x ∷ rows) =
-    go (ltb (key new) (key x)) (eqb (key new) (key x)) refl (row_at-with_row key id new rows)
-  where
-    go : (a b : Bool) → eqb (key new) (key x) ≡ b →
-        row_at key id (with_row key new rows) ≡ cond (eqb (key new) id) (Some new) (row_at key id rows) →
-        row_at key id (cond a (new ∷ x ∷ rows) (cond b (new ∷ rows) (x ∷ with_row key new rows)))
-        ≡ cond (eqb (key new) id) (Some new) (cond (eqb (key x) id) (Some x) (row_at key id rows))
-    go true b e ih = refl
-    go false true e ih = grind (arith, nat_tests)
-    go false false e ih = grind (arith, nat_tests, ih)
 
 either_way : {A : Type 0} (b : Bool) (x : A) → x ≡ cond b x x
 either_way true x = refl
@@ -250,10 +238,6 @@ fold-has x ks (j ∷ js) =
     turn false true c = refl
     turn false false c = refl
 
-or-false : (b : Bool) → (b || false) ≡ b
-or-false true = refl
-or-false false = refl
-
 rows-has : (x : ℕ) (rows : List Assigned) → has-number x (map assigned_task rows) ≡ has_row assigned_task x rows
 rows-has x [] = refl
 rows-has x (a ∷ rows) = go (eqb a.task x) (rows-has x rows)
@@ -278,7 +262,7 @@ either-has x (a ∷ rows) more = go (eqb a.task x) (either-has x rows more)
 pub keys-has : (x : ℕ) (sent due : List Assigned) →
     has-number x (tasks_of_either sent due) ≡ (has_row assigned_task x sent || has_row assigned_task x due)
 keys-has x sent due =
-    fold-has x [] (map assigned_task (sent ++ due)) ∙ or-false (has-number x (map assigned_task (sent ++ due)))
+    fold-has x [] (map assigned_task (sent ++ due)) ∙ or_false (has-number x (map assigned_task (sent ++ due)))
     ∙ rows-has x (sent ++ due) ∙ either-has x sent due
 
 keys-rise : (ks js : List ℕ) → IsRising itself ks → IsRising itself (fold (λ is i. with_number i is) ks js)
@@ -334,7 +318,7 @@ difference clock x s due e rises =
         let none : has_row assigned_task x due ≡ false = ap (λ (o : Option Assigned). is_some o) at in
         ap (λ (b : Bool). cond (has_row assigned_task x s.tasks || b) (hear clock x e (change_of s.tasks due x)) e) none
         ∙ ap (λ (b : Bool). cond b (hear clock x e (change_of s.tasks due x)) e)
-        (or-false (has_row assigned_task x s.tasks))
+        (or_false (has_row assigned_task x s.tasks))
         ∙ ap (λ (o : Option Executor). cond (has_row assigned_task x s.tasks) o e)
         (ap (λ (b : Bool). hear clock x e (cond (not b) (assign.Remove x ∷ []) (update_of left x))) none
         ∙ ap (λ (b : Bool). cond b (option_map gone_executor e) e) own)

@@ -1,14 +1,14 @@
 -- Which places are held and which have a live task, where tasks change.
 use Rattle.std.proofs.Common.{Bool, List, Some, [], ap, arith, cond, eqb, false, inl, inr, length, refl, subst, sym, true, ltb, ℕ, ◌+◌, ◌<◌, ◌∙◌, ◌∷◌, ◌≡◌, ◌≤◌, ◌⊎◌}
 use Rattle.std.specs.List.{list_any}
-use Rattle.std.specs.Prelude.{filter, fold, map, ◌||◌}
-use Rattle.swarm_matching.proofs.PlaceLists.{newest-filter, newest-has, newest-mapped, newest-some, place-counts, place-is}
-use Rattle.swarm_matching.proofs.Tests.{any-cases, any-has, or-cases, or-left, or-right, some-and, some-and-cases}
+use Rattle.std.specs.Prelude.{filter, map, ◌||◌}
+use Rattle.swarm_matching.proofs.PlaceLists.{newest-filter, newest-mapped, newest-some, place-counts, place-is}
 use Rattle.swarm_matching.proofs.Wholes.{IsWhole}
-use Rattle.swarm_model.proofs.Laws.Alone.{number-at}
-use Rattle.swarm_model.proofs.Moves.Duties.{and-right}
-use Rattle.swarm_objects.proofs.Gaps.{Has-with_number_keeps, Has-with_row, IsRising-filter, IsRising-with_row}
+use Rattle.swarm_model.proofs.Laws.Alone.{has-number, number-at, numbers-rise}
+use Rattle.swarm_objects.proofs.Gaps.{IsRising-filter}
 use Rattle.swarm_objects.proofs.RowLemmas.{Has-filter, Has-filter_cases, Has-map_cases, number_above}
+use Rattle.swarm_objects.proofs.Tests.{any-has, has-any, or_cases, or_left, or_right, second_so, some-and, some-and-cases}
+use Rattle.swarm_objects.proofs.Newest.{newest_has}
 use Rattle.swarm_objects.specs.Rows.{Has, IsRising, RisesFrom, is_some_and, itself, with_number}
 use Rattle.swarm_objects.specs.Tasks.Places.{closes, counts_for, has_live, held_places, is_held_place, is_in_place, live_places, newest, place_at, place_number, place_numbers, tasks_of_place}
 use Rattle.swarm_objects.specs.Tasks.Words.{is_kept, is_live}
@@ -30,37 +30,37 @@ falls-same xs = record { held = λ e. e; live = λ e. e }
 
 -- a place with a live task
 pub falls-live : (xs ys : List Task) → list_any is_live xs ≡ true → Falls xs ys
-falls-live xs ys live = record { held = λ e. or-left (list_any is_live xs) _ live; live = λ e. live }
+falls-live xs ys live = record { held = λ e. or_left (list_any is_live xs) _ live; live = λ e. live }
 
 live-before : (f : Task → Task) (xs : List Task) → ((x : Task) → Has xs x → is_live (f x) ≡ true → is_live x ≡ true) →
     list_any is_live (map f xs) ≡ true → list_any is_live xs ≡ true
 live-before f xs back e =
-    let one = any-cases is_live (map f xs) e in
+    let one = any-has is_live (map f xs) e in
     let from = Has-map_cases f xs one.0 one.1 in
-    any-has is_live xs from.0 from.1 (back from.0 from.1 (ap is_live from.2 ∙ one.2))
+    has-any is_live xs from.0 from.1 (back from.0 from.1 (ap is_live from.2 ∙ one.2))
 
 pub falls-map : (f : Task → Task) (xs : List Task) → ((x : Task) → Has xs x → is_live (f x) ≡ true → is_live x ≡ true) →
     ((x : Task) → Has xs x → closes (f x) ≡ true → closes x ≡ true) → Falls xs (map f xs)
-falls-map f xs back shut = record { held = λ e. go (or-cases _ _ e); live = live-before f xs back }
+falls-map f xs back shut = record { held = λ e. go (or_cases _ _ e); live = live-before f xs back }
   where
     go : (list_any is_live (map f xs) ≡ true) ⊎ (is_some_and closes (newest (map f xs)) ≡ true) → holds xs ≡ true
-    go (inl e) = or-left (list_any is_live xs) _ (live-before f xs back e)
+    go (inl e) = or_left (list_any is_live xs) _ (live-before f xs back e)
     go (inr e) =
         let last = some-and-cases closes (newest (map f xs)) e in
         let from = newest-mapped f xs last.0 last.1 in
-        or-right (list_any is_live xs) (is_some_and closes (newest xs))
+        or_right (list_any is_live xs) (is_some_and closes (newest xs))
         (some-and closes (newest xs) from.0 from.1
-        (shut from.0 (newest-has xs from.0 from.1) (ap closes from.2 ∙ last.2)))
+        (shut from.0 (newest_has xs from.0 from.1) (ap closes from.2 ∙ last.2)))
 
 pub closes-kept : (x : Task) → closes x ≡ true → is_kept x ≡ true
-closes-kept x e = and-right _ (is_kept x) e
+closes-kept x e = second_so _ (is_kept x) e
 
 -- the newest of those that are left, where it isn't to be removed, was the newest
 pub newest-left : (test : Task → Bool) (xs : List Task) (z : Task) → IsWhole xs →
     ((y : Task) → newest xs ≡ Some y → is_kept y ≡ true → test y ≡ true) → newest (filter test xs) ≡ Some z →
     is_kept z ≡ true → newest xs ≡ Some z
 newest-left test xs z whole passes last kept =
-    let old = Has-filter_cases test xs z (newest-has (filter test xs) z last) in
+    let old = Has-filter_cases test xs z (newest_has (filter test xs) z last) in
     let top = newest-some xs z old.0 in
     let top_kept = whole z top.0 old.0 kept top.1 in
     let left = newest-filter test xs top.0 top.1 (passes top.0 top.1 top_kept) in
@@ -69,39 +69,23 @@ newest-left test xs z whole passes last kept =
 
 pub falls-filter : (test : Task → Bool) (xs : List Task) → IsWhole xs →
     ((z : Task) → newest xs ≡ Some z → is_kept z ≡ true → test z ≡ true) → Falls xs (filter test xs)
-falls-filter test xs whole passes = record { held = λ e. go (or-cases _ _ e); live = back }
+falls-filter test xs whole passes = record { held = λ e. go (or_cases _ _ e); live = back }
   where
     back : list_any is_live (filter test xs) ≡ true → list_any is_live xs ≡ true
     back e =
-        let one = any-cases is_live (filter test xs) e in
-        any-has is_live xs one.0 (Has-filter_cases test xs one.0 one.1).0 one.2
+        let one = any-has is_live (filter test xs) e in
+        has-any is_live xs one.0 (Has-filter_cases test xs one.0 one.1).0 one.2
 
     go : (list_any is_live (filter test xs) ≡ true) ⊎ (is_some_and closes (newest (filter test xs)) ≡ true) →
         holds xs ≡ true
-    go (inl e) = or-left (list_any is_live xs) _ (back e)
+    go (inl e) = or_left (list_any is_live xs) _ (back e)
     go (inr e) =
         let last = some-and-cases closes (newest (filter test xs)) e in
-        or-right (list_any is_live xs) (is_some_and closes (newest xs))
+        or_right (list_any is_live xs) (is_some_and closes (newest xs))
         (some-and closes (newest xs) last.0
         (newest-left test xs last.0 whole passes last.1 (closes-kept last.0 last.2)) last.2)
 
 -- Numbers of places.
-
-with-keeps : (numbers : List ℕ) (xs : List Task) (k : ℕ) → Has numbers k →
-    Has (fold (λ ks t. with_number (place_number t.place) ks) numbers xs) k
-with-keeps numbers [] k h = h
-with-keeps numbers (x ∷ xs) k h =
-    with-keeps (with_number (place_number x.place) numbers) xs k
-    (Has-with_number_keeps (place_number x.place) k numbers h)
-
-has-number : (numbers : List ℕ) (xs : List Task) (x : Task) → Has xs x →
-    Has (fold (λ ks t. with_number (place_number t.place) ks) numbers xs) (place_number x.place)
-has-number numbers [] x h = absurd h
-has-number numbers (y ∷ ys) x (inl e) =
-    with-keeps (with_number (place_number y.place) numbers) ys (place_number x.place)
-    (subst (λ (z : Task). Has (with_number (place_number y.place) numbers) (place_number z.place)) e
-    (Has-with_row itself (place_number y.place) numbers))
-has-number numbers (y ∷ ys) x (inr h) = has-number (with_number (place_number y.place) numbers) ys x h
 
 -- the number of a task's place
 pub task-number : (t : Tables) (s : Service) (x : Task) → Has t.tasks x → counts_for s x ≡ true →
@@ -120,11 +104,11 @@ member-number t s k x h =
 
 -- a held place has a task
 pub held-member : (xs : List Task) → holds xs ≡ true → (x : Task) × Has xs x
-held-member xs e = go (or-cases _ _ e)
+held-member xs e = go (or_cases _ _ e)
   where
     go : (list_any is_live xs ≡ true) ⊎ (is_some_and closes (newest xs) ≡ true) → (x : Task) × Has xs x
-    go (inl k) = let one = any-cases is_live xs k in (one.0, one.1)
-    go (inr k) = let last = some-and-cases closes (newest xs) k in (last.0, newest-has xs last.0 last.1)
+    go (inl k) = let one = any-has is_live xs k in (one.0, one.1)
+    go (inr k) = let last = some-and-cases closes (newest xs) k in (last.0, newest_has xs last.0 last.1)
 
 pub held-has : (t : Tables) (s : Service) (k : ℕ) → is_held_place t s k ≡ true → Has (held_places t s) k
 held-has t s k e =
@@ -133,19 +117,8 @@ held-has t s k e =
 
 pub live-has : (t : Tables) (s : Service) (k : ℕ) → has_live t s k ≡ true → Has (live_places t s) k
 live-has t s k e =
-    let one = any-cases is_live (tasks_of_place s (place_at s.spec.mode k) t.tasks) e in
+    let one = any-has is_live (tasks_of_place s (place_at s.spec.mode k) t.tasks) e in
     Has-filter (has_live t s) (place_numbers t s) k (member-number t s k one.0 one.1) e
-
-numbers-rise : (numbers : List ℕ) (xs : List Task) → IsRising itself numbers →
-    IsRising itself (fold (λ ks t. with_number (place_number t.place) ks) numbers xs)
-numbers-rise numbers [] rises = rises
-numbers-rise numbers (x ∷ xs) rises =
-    numbers-rise (with_number (place_number x.place) numbers) xs
-    (IsRising-with_row itself (place_number x.place) numbers rises)
-
-pub held-rise : (t : Tables) (s : Service) → IsRising itself (held_places t s)
-held-rise t s =
-    IsRising-filter itself (is_held_place t s) (place_numbers t s) (numbers-rise [] (filter (counts_for s) t.tasks) tt)
 
 pub live-rise : (t : Tables) (s : Service) → IsRising itself (live_places t s)
 live-rise t s =
@@ -153,7 +126,7 @@ live-rise t s =
 
 -- Lengths of rising lists of numbers.
 
-beyond : (y k : ℕ) (ys : List ℕ) → y < k → Has (y ∷ ys) k → Has ys k
+pub beyond : (y k : ℕ) (ys : List ℕ) → y < k → Has (y ∷ ys) k → Has ys k
 beyond y k ys less (inl e) = absurd (omega (arith, less, e))
 beyond y k ys less (inr h) = h
 

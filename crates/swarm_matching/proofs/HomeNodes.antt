@@ -2,7 +2,6 @@
 use Rattle.std.proofs.Common.{Bool, List, None, Option, Some, [], ap, arith, cond, false, not, refl, subst, sym, true, ℕ, ◌++◌, ◌∙◌, ◌∷◌, ◌≡◌, ◌≤◌}
 use Rattle.std.proofs.lemmas.Bool.Decides.{nat_tests}
 use Rattle.std.specs.Prelude.{map, ◌==◌}
-use Rattle.swarm_matching.proofs.Tests.{both, is-not, no-way, refuted}
 use Rattle.swarm_model.proofs.Laws.Kept.{Keeps, Lightens}
 use Rattle.swarm_model.proofs.Laws.KeptCalls.{kept-replay}
 use Rattle.swarm_model.proofs.Laws.Timely.{each-becomes, each-changed, each-pushed}
@@ -17,6 +16,7 @@ use Rattle.swarm_model.specs.History.{IsLegal, replay}
 use Rattle.swarm_model.specs.Laws.Rises.{KeepsNode}
 use Rattle.swarm_objects.proofs.RowLemmas.{Has-append_left, Has-filter, Has-map, Has-map_cases}
 use Rattle.swarm_objects.proofs.SameLemmas.{Decides-option_eq, Decides-same_number}
+use Rattle.swarm_objects.proofs.Tests.{both, false_from_ne_true, never-both, not_from_false}
 use Rattle.swarm_objects.specs.Changes.{id_taken, in_state, placed}
 use Rattle.swarm_objects.specs.Loops.Allocator.{with_addresses}
 use Rattle.swarm_objects.specs.Nodes.BestNode.{best_node}
@@ -122,9 +122,9 @@ left-home version t id is y h =
           (let most = placed-most x p in grind (arith, nat_tests, most)) in (
             at.0,
             Has-filter (λ n. not (node_id n == id)) t.nodes at.0 at.1
-                (is-not (node_id at.0 == id)
-                (refuted (node_id at.0 == id)
-                (λ same. no-way (is_left_behind id x) e
+                (not_from_false (node_id at.0 == id)
+                (false_from_ne_true (node_id at.0 == id)
+                (λ same. never-both (is_left_behind id x) e
                 (both (is_on id x) (is_not_over x) (on x at.0.id at.2 same) over)))),
             at.2,
           );

@@ -3,8 +3,6 @@ use Rattle.std.proofs.Common.{Bool, List, None, Option, Some, [], ap, arith, con
 use Rattle.std.proofs.lemmas.Bool.Decides.{nat_tests}
 use Rattle.std.specs.Option.{option_map}
 use Rattle.std.specs.Prelude.{is_some, ◌&&◌, ◌==◌}
-use Rattle.swarm_matching.proofs.Tests.{any-cases, no-way}
-use Rattle.swarm_model.proofs.Moves.Duties.{and-left, and-right}
 use Rattle.swarm_objects.specs.Same.{same_workload}
 use Rattle.swarm_objects.specs.Values.Ranks.{desired_rank}
 use Rattle.swarm_objects.specs.declared.tasks.Desired.TheVariants as desired
@@ -14,6 +12,7 @@ use Rattle.swarm_matching.specs.Messages.{aimed_or_new, executor_after, is_sent_
 use Rattle.swarm_model.proofs.Moves.Rows.{becomes-cases, between-has}
 use Rattle.swarm_model.proofs.Moves.Worlds.{TablesMove, TaskMoves}
 use Rattle.swarm_objects.proofs.RowLemmas.{Has-from_row_at}
+use Rattle.swarm_objects.proofs.Tests.{any-has, first_so, never-both, second_so}
 use Rattle.swarm_objects.specs.Agents.Messages.{gone_executor, assigned_task, next_message, same_assigned}
 use Rattle.swarm_objects.specs.Rows.{Has, IsRising, executor_task, has_row, row_at, task_id}
 use Rattle.swarm_objects.specs.World.{Tables}
@@ -193,12 +192,12 @@ same-desired d e same = sym (desired-back d) ∙ ap desired_of same ∙ desired-
 pub same-aim : (a b : Assigned) → same_assigned a b ≡ true → (b.task ≡ a.task) × (b.desired ≡ a.desired)
 same-aim a b e =
     let one : (a.task == b.task && desired_rank a.desired == desired_rank b.desired) ≡ true =
-    and-left (a.task == b.task && desired_rank a.desired == desired_rank b.desired)
+    first_so (a.task == b.task && desired_rank a.desired == desired_rank b.desired)
     (same_workload a.workload b.workload) e in
     let first : (a.task == b.task) ≡ true =
-    and-left (a.task == b.task) (desired_rank a.desired == desired_rank b.desired) one in
+    first_so (a.task == b.task) (desired_rank a.desired == desired_rank b.desired) one in
     let second : (desired_rank a.desired == desired_rank b.desired) ≡ true =
-    and-right (a.task == b.task) (desired_rank a.desired == desired_rank b.desired) one in
+    second_so (a.task == b.task) (desired_rank a.desired == desired_rank b.desired) one in
     let number : a.task ≡ b.task = grind (arith, nat_tests, first) in
     let wanted : desired_rank a.desired ≡ desired_rank b.desired = grind (arith, nat_tests, second) in
     (sym number, same-desired b.desired a.desired (sym wanted))
@@ -223,7 +222,7 @@ item-after : (t : Tables) (sent : Option NodeSent) (due : List Assigned) (es : L
     option_map aim (cond b o (Some (aimed_or_new 0 i o))) ≡ Some (i.desired, false)
 item-after t None due es pull is i h true q o at = absurd (let wrong : false ≡ true = q in cc)
 item-after t (Some s) due es pull is i h true q o at =
-    let from = any-cases (same_assigned i) s.tasks q in
+    let from = any-has (same_assigned i) s.tasks q in
     let same = same-aim i from.0 from.2 in
     let was : aim_at es i.task ≡ Some (from.0.desired, false) =
     subst (λ (x : ℕ). aim_at es x ≡ Some (from.0.desired, false)) same.0 (is.items s from.0 refl from.1) in
@@ -244,7 +243,7 @@ other-after t sent es is x true q None at k = absurd (let wrong : false ≡ true
 other-after t sent es is x true q (Some e) at k = kept-not (aim (gone_executor e)) refl k
 other-after t None es is x false q o at k = absurd (let wrong : true ≡ false = q in cc)
 other-after t (Some s) es is x false q o at k =
-    no-way (has_row assigned_task x s.tasks) q
+    never-both (has_row assigned_task x s.tasks) q
     (is.others s x refl (subst (λ (p : Option Executor). is_kept (option_map aim p) ≡ true) (sym at) k))
 
 gone-after : (t : Tables) (sent : Option NodeSent) (due : List Assigned) (es : List Executor) → IsPull t due es →
@@ -267,7 +266,8 @@ gone-after t sent due es pull is x None due_at o at k = go (may_have sent x) o a
         record {
           below = has.0;
           away = λ y h same.
-              no-way (has_row assigned_task x due) (ap (λ (d : Option Assigned). is_some d) due_at) (has.1 y h same);
+              never-both (has_row assigned_task x due) (ap (λ (d : Option Assigned). is_some d) due_at)
+              (has.1 y h same);
         }
     go false o at k = is.gone x (subst (λ (p : Option Executor). is_gone (option_map aim p) ≡ true) (sym at) k)
 

@@ -3,18 +3,19 @@ use Rattle.std.proofs.Common.{Bool, List, Option, Some, [], ap, arith, cond, fal
 use Rattle.std.proofs.lemmas.Bool.Decides.{nat_tests}
 use Rattle.std.specs.Prelude.{filter, fold, map, ◌==◌}
 use Rattle.swarm_matching.proofs.Goals.{Goals, HasGoal}
-use Rattle.swarm_matching.proofs.Held.{Falls, falls-filter, falls-live, falls-map, falls-same, held-has, held-rise, live-has, live-rise, one-more, rising-within}
-use Rattle.swarm_matching.proofs.PlaceLists.{SameMaking, counts-of, newest-has, filter-none, one-service, place-counts, place-filter, place-in, place-is, place-map, place-push, touch, touch-making}
+use Rattle.swarm_matching.proofs.Held.{Falls, falls-filter, falls-live, falls-map, falls-same, held-has, live-has, live-rise, one-more, rising-within}
+use Rattle.swarm_matching.proofs.PlaceLists.{SameMaking, counts-of, one-service, place-counts, place-filter, place-in, place-is, place-map, place-push, touch, touch-making}
 use Rattle.swarm_matching.proofs.ServiceSteps.{respecified-none, respecified-places, run-places}
 use Rattle.swarm_matching.proofs.Shapes.{Base, Comes, DutyStep, HasRoom, OpStep, Restarts, closes, comes, creates, drops, goes, leaves, pushed, raises, removes, renews, respecifies, runs, shuts, starts_first, stays, still, stops_first, swaps}
-use Rattle.swarm_matching.proofs.Tests.{any-has, both, is-not, no-way, refuted}
 use Rattle.swarm_matching.proofs.Wholes.{Wholes, at-number, closed-making, live-is-kept, number-is, raised-making, wanted-making}
-use Rattle.swarm_model.proofs.Laws.Alone.{number-at}
+use Rattle.swarm_model.proofs.Laws.Alone.{held-rise, number-at}
 use Rattle.swarm_model.proofs.Laws.Timely.{each-changed, each-pushed}
-use Rattle.swarm_model.proofs.Moves.Duties.{and-left, and-right}
 use Rattle.swarm_model.proofs.Moves.Rows.{between-change, between-one}
 use Rattle.swarm_objects.proofs.Gaps.{Has-with_number_keeps, Has-with_row, IsRising-with_row}
 use Rattle.swarm_objects.proofs.RowLemmas.{Has-filter, Has-filter_cases}
+use Rattle.swarm_objects.proofs.Tests.{both, false_from_ne_true, first_so, has-any, never-both, not_from_false, second_so}
+use Rattle.swarm_objects.proofs.Filters.{filter_none}
+use Rattle.swarm_objects.proofs.Newest.{newest_has}
 use Rattle.swarm_objects.specs.Changes.{wanted}
 use Rattle.swarm_objects.specs.Loops.Restart.{closed_by, raised, shut}
 use Rattle.swarm_objects.specs.Loops.Update.{live_of_place}
@@ -77,19 +78,19 @@ raised-sinks x goal waits = record { live = λ e. live goal.goal; closes = λ e.
     live (inr e) = let g : desired_rank x.goal ≡ 576 = ap desired_rank e in grind (arith, nat_tests, rank_is, g)
 
     closing : closes_place (raised 0 x) ≡ true → closes_place x ≡ true
-    closing e = both _ (is_kept x) (and-left _ (is_kept (raised 0 x)) e) (grind (arith, nat_tests, rank_is))
+    closing e = both _ (is_kept x) (first_so _ (is_kept (raised 0 x)) e) (grind (arith, nat_tests, rank_is))
 
 pub shut-sinks : (x : Task) → desired_rank x.goal ≤ desired_rank desired.Complete → is_live x ≡ true →
     Sinks x (wanted 0 desired.Shutdown x)
 shut-sinks x goal live = record {
   live = λ e. live;
-  closes = λ e. both _ (is_kept x) (and-left _ true e) (live-is-kept x goal live);
+  closes = λ e. both _ (is_kept x) (first_so _ true e) (live-is-kept x goal live);
 }
 
 pub gone-sinks : (x : Task) → desired_rank x.goal ≤ desired_rank desired.Complete → Sinks x (wanted 0 desired.Remove x)
 gone-sinks x goal = record {
   live = λ e. absurd (dead e);
-  closes = λ e. absurd (let none : false ≡ true = and-right _ false e in cc);
+  closes = λ e. absurd (let none : false ≡ true = second_so _ false e in cc);
 }
   where
     dead : ¬ (is_live (wanted 0 desired.Remove x) ≡ true)
@@ -108,7 +109,7 @@ live-place : (t : Tables) (v : Service) (p : Place) (x : Task) (ys : List Task) 
     is_in_place v p x ≡ true → Falls (tasks_of_place v p t.tasks) ys
 live-place t v p x ys h live inside =
     falls-live (tasks_of_place v p t.tasks) ys
-    (any-has is_live (tasks_of_place v p t.tasks) x (Has-filter (is_in_place v p) t.tasks x h inside) live)
+    (has-any is_live (tasks_of_place v p t.tasks) x (Has-filter (is_in_place v p) t.tasks x h inside) live)
 
 -- numbers are as they were
 pub shut-one : (t : Tables) (x : Task) → Base t → (y z : Task) → Has (shut 0 x.id t).tasks y →
@@ -131,7 +132,7 @@ closed-falls t x y s cause base r last v p h = go (is_in_place v p y) refl
 
     -- y stands where x does
     y_in : Has xs y × (is_in_place s x.place y ≡ true)
-    y_in = Has-filter_cases (is_in_place s x.place) xs y (newest-has (tasks_of_place s x.place xs) y last)
+    y_in = Has-filter_cases (is_in_place s x.place) xs y (newest_has (tasks_of_place s x.place xs) y last)
 
     go : (b : Bool) → is_in_place v p y ≡ b →
         Falls (tasks_of_place v p t.tasks)
@@ -160,7 +161,7 @@ closed-falls t x y s cause base r last v p h = go (is_in_place v p y) refl
         shut_before z false at inside k = k
         shut_before z true at inside k =
             let same : y ≡ z = one-of z inside.0 (number-is z.id y.id at) in
-            no-way (is_in_place v p y) e (ap (is_in_place v p) same ∙ inside.1)
+            never-both (is_in_place v p y) e (ap (is_in_place v p) same ∙ inside.1)
           where
             one-of : (w : Task) → Has xs w → w.id ≡ y.id → y ≡ w
             one-of w k at = shut-one t x base y w y_in.0 k (sym at)
@@ -181,7 +182,7 @@ pub other-place : (t : Tables) → Base t → (s v : Service) (p q : Place) (y :
     Has t.services v →
     Comes t s p y → ¬ (s ≡ v) → is_in_place v q y ≡ false
 other-place t base s v p q y h k new other =
-    refuted (is_in_place v q y)
+    false_from_ne_true (is_in_place v q y)
     (λ inside.
     other (one-service t base s v h k (sym new.service ∙ counts-of v y (place-counts v q y inside))))
 
@@ -189,12 +190,12 @@ other-place t base s v p q y h k new other =
 outside-falls : (s : Service) (p : Place) (xs : List Task) (y : Task) → is_in_place s p y ≡ false →
     Falls (tasks_of_place s p xs) (tasks_of_place s p (xs ++ y ∷ []))
 outside-falls s p xs y out =
-    place-push (λ (ys : List Task). Falls (tasks_of_place s p xs) ys) s p xs y (λ inside. no-way _ out inside)
+    place-push (λ (ys : List Task). Falls (tasks_of_place s p xs) ys) s p xs y (λ inside. never-both _ out inside)
     (λ outside. falls-same (tasks_of_place s p xs))
 
 job-other : (t : Tables) (s v : Service) → is_job s.spec.mode ≡ false → is_job v.spec.mode ≡ true → ¬ (s ≡ v)
 job-other t s v no_job job same =
-    no-way (is_job s.spec.mode) no_job (ap (λ (z : Service). is_job z.spec.mode) same ∙ job)
+    never-both (is_job s.spec.mode) no_job (ap (λ (z : Service). is_job z.spec.mode) same ∙ job)
 
 abbrev AllFall : Tables → Tables → Type 0
 AllFall t u = (v : Service) (p : Place) → Has t.services v → is_job v.spec.mode ≡ true → FallsIn t u v p
@@ -230,7 +231,7 @@ falls-duty e t u set base goals whole (closes x y s cause r none last) =
 falls-duty e t u set base goals whole (swaps s run k r) =
     inl (λ v p h job.
     touched-falls v p t.tasks _ (wanted 0 desired.Shutdown) (wanted-making desired.Shutdown)
-    (λ x there c. shut-sinks x (base.goal x there) (and-left (is_live x) _ (and-right _ (is_live_dirty s x) c))))
+    (λ x there c. shut-sinks x (base.goal x there) (first_so (is_live x) _ (second_so _ (is_live_dirty s x) c))))
 falls-duty e t u set base goals whole (removes s k h) =
     inl (λ v p there job.
     touched-falls v p t.tasks _ (wanted 0 desired.Remove) (wanted-making desired.Remove)
@@ -242,13 +243,13 @@ falls-duty e t u set base goals whole (drops x h dead old) =
     subst (λ (ys : List Task). Falls (tasks_of_place v p t.tasks) ys)
     (sym (place-filter v p (λ y. not (task_id y == x.id)) t.tasks))
     (falls-filter (λ y. not (task_id y == x.id)) (tasks_of_place v p t.tasks) (whole v p there)
-    (λ z last kept. is-not (task_id z == x.id) (refuted (task_id z == x.id)
+    (λ z last kept. not_from_false (task_id z == x.id) (false_from_ne_true (task_id z == x.id)
     (λ same. old v p z there last kept (number-is z.id x.id same))))))
 falls-duty e t u set base goals whole (stops_first s run k y r new) =
     inl (λ v p h job.
     falls-then _ _ _
     (touched-falls v p t.tasks (live_of_place s k) (wanted 0 desired.Shutdown) (wanted-making desired.Shutdown)
-    (λ x there c. shut-sinks x (base.goal x there) (and-right _ (is_live x) c)))
+    (λ x there c. shut-sinks x (base.goal x there) (second_so _ (is_live x) c)))
     (outside-falls v p _ y
     (other-place t base s v _ p y r.of h new (job-other t s v r.no_job job))))
 falls-duty e t u set base goals whole (starts_first s run k y r new) =
@@ -298,11 +299,11 @@ created-bounds t u base made c n e = (
         subst (λ (xs : List Task). Falls (tasks_of_place s (place_at s.spec.mode j) t.tasks)
         (tasks_of_place s (place_at s.spec.mode j) xs)) (sym made.tasks)
         (outside-falls s (place_at s.spec.mode j) t.tasks made.task
-        (refuted (is_in_place s (place_at s.spec.mode j) made.task)
+        (false_from_ne_true (is_in_place s (place_at s.spec.mode j) made.task)
         (λ inside.
         let at = sym (place-is s (place_at s.spec.mode j) made.task inside) ∙ made.comes.place in
         let same : j ≡ k = sym (number-at s.spec.mode j) ∙ ap place_number at ∙ number-at s.spec.mode k in
-        no-way (j == k) other (grind (arith, nat_tests, same)))))
+        never-both (j == k) other (grind (arith, nat_tests, same)))))
 
     held_or : (j : ℕ) → is_held_place u s j ≡ true → (b : Bool) → (j == k) ≡ b → Has (with_number k (held_places t s)) j
     held_or j held true at =
@@ -328,7 +329,7 @@ made-bounds t u base made v h is = go (counts_for v made.task) refl
         fallen-bounds t u v
         (λ p. subst (λ (xs : List Task). Falls (tasks_of_place v p t.tasks) (tasks_of_place v p xs)) (sym made.tasks)
         (outside-falls v p t.tasks made.task
-        (refuted (is_in_place v p made.task) (λ inside. no-way (counts_for v made.task) e
+        (false_from_ne_true (is_in_place v p made.task) (λ inside. never-both (counts_for v made.task) e
         (place-counts v p made.task inside))))) is
 
 bounds-by : (t u : Tables) → Base t → u.services ≡ t.services → AllFall t u ⊎ Creation t u → JobBounds t → JobBounds u
@@ -340,7 +341,7 @@ bounds-by t u base services (inr made) is v h =
     made-bounds t u base made v there (is v there)
 
 no-bounds : (t : Tables) (s : Service) → is_job s.spec.mode ≡ false → IsBounded t s
-no-bounds t s no_job c n e = no-way (is_job s.spec.mode) no_job (is-job s.spec.mode c n e)
+no-bounds t s no_job c n e = never-both (is_job s.spec.mode) no_job (is-job s.spec.mode c n e)
 
 pub bounds-duty : (e : ℕ) (t u : Tables) (set : Option (ℕ × Closed)) → Base t → Goals t → Wholes t →
     DutyStep e t set u → JobBounds t → JobBounds u
@@ -376,7 +377,7 @@ empty-bounds : (t : Tables) (s : Service) → ((x : Task) → Has t.tasks x → 
 empty-bounds t s none c n e =
     let no_number : place_numbers t s ≡ [] =
     ap (λ (xs : List Task). fold (λ ks x. with_number (place_number x.place) ks) [] xs)
-    (filter-none (counts_for s) t.tasks none) in
+    (filter_none (counts_for s) t.tasks none) in
     let held : length (held_places t s) ≡ 0 = ap (λ (ks : List ℕ). length (filter (is_held_place t s) ks)) no_number in
     let live : length (live_places t s) ≡ 0 = ap (λ (ks : List ℕ). length (filter (has_live t s) ks)) no_number in
     (omega (arith, held), omega (arith, live))
@@ -391,5 +392,5 @@ bounds-op e t u base (respecifies s v spec h r) is =
     go false job = no-bounds t v ((respecified-places e spec s v r job).job ∙ job)
 bounds-op e t u base (comes s none run at) is =
     each-pushed (IsBounded t) t.services s is
-    (empty-bounds t s (λ x h. refuted (counts_for s x) (λ c. none x h (counts-of s x c))))
+    (empty-bounds t s (λ x h. false_from_ne_true (counts_for s x) (λ c. none x h (counts-of s x c))))
 bounds-op e t u base (leaves id) is = λ s h. is s (Has-filter_cases _ t.services s h).0

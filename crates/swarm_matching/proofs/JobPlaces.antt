@@ -8,12 +8,11 @@ use Rattle.swarm_matching.proofs.Rest.{no-duty}
 use Rattle.swarm_matching.proofs.ShapeDuties.{found}
 use Rattle.swarm_matching.proofs.ShapeWords.{held-places-blank, live-places-blank}
 use Rattle.swarm_matching.proofs.Shapes.{Closings, bare, shape}
-use Rattle.swarm_matching.proofs.Tests.{any-cases, both, or-left, or-right, refuted, some-and}
 use Rattle.swarm_matching.proofs.Wholes.{number-is}
 use Rattle.swarm_model.specs.Laws.Matches.{matches_mode}
 use Rattle.swarm_matching.specs.Rest.{IsAtRest}
-use Rattle.swarm_model.proofs.Moves.Duties.{and-left, and-right}
 use Rattle.swarm_objects.proofs.RowLemmas.{Has-map}
+use Rattle.swarm_objects.proofs.Tests.{any-has, both, false_from_ne_true, first_so, or_left, or_right, second_so, some-and}
 use Rattle.swarm_objects.specs.Loops.Jobs.{has_old, is_old_of}
 use Rattle.swarm_objects.specs.Rows.{Has, first_gap, row_at, service_id}
 use Rattle.swarm_objects.specs.Tasks.Places.{held_places, live_places}
@@ -38,18 +37,18 @@ service-found w known s k h e =
 
 none-old : (w : World) → Known w → IsAtRest w → (s : Service) → Has w.tables.services s → has_old w.tables s ≡ false
 none-old w known rest s h =
-    refuted (has_old w.tables s)
+    false_from_ne_true (has_old w.tables s)
     (λ some.
-    let one = any-cases (λ x. is_of s.id x && is_old_of x s) w.tables.tasks some in
+    let one = any-has (λ x. is_of s.id x && is_old_of x s) w.tables.tasks some in
     let x = one.0 in
-    let of = number-is x.service s.id (and-left (is_of s.id x) (is_old_of x s) one.2) in
+    let of = number-is x.service s.id (first_so (is_of s.id x) (is_old_of x s) one.2) in
     no-duty w rest (duty.Old x.id)
     (record {
       row = x;
       there = one.1;
       id_is = refl;
       fact = some-and (is_old_of x) (row_at service_id x.service w.tables.services) s
-          (service-found w known s x.service h (sym of)) (and-right (is_of s.id x) (is_old_of x s) one.2);
+          (service-found w known s x.service h (sym of)) (second_so (is_of s.id x) (is_old_of x s) one.2);
     }))
 
 -- one of the two numbers is reached
@@ -57,7 +56,7 @@ one-reached : (w : World) → Known w → IsAtRest w → (s : Service) (c n : �
     s.spec.mode ≡ mode.Job c n →
     (nat_lt (length (live_places w.tables s)) c && nat_lt (length (held_places w.tables s)) n) ≡ false
 one-reached w known rest s c n h e =
-    refuted _
+    false_from_ne_true _
     (λ fewer.
     no-duty w rest (duty.JobCreate s.id (first_gap 0 (held_places w.tables s)))
     (record {
@@ -68,8 +67,8 @@ one-reached w known rest s c n h e =
         c,
         n,
         e,
-        and-left (nat_lt (length (live_places w.tables s)) c) _ fewer,
-        and-right _ (nat_lt (length (held_places w.tables s)) n) fewer,
+        first_so (nat_lt (length (live_places w.tables s)) c) _ fewer,
+        second_so _ (nat_lt (length (held_places w.tables s)) n) fewer,
         none-old w known rest s h,
         refl,
       );
@@ -101,8 +100,8 @@ has-job-places w closings known lawful rest s c n h e =
         (held == n || live == c) ≡ true
     reached true p true q k = absurd cc
     reached true p false q k =
-        or-left (held == n) (live == c) (let is : held ≡ n = (let up : n ≤ held = grind (arith, nat_tests, q) in
+        or_left (held == n) (live == c) (let is : held ≡ n = (let up : n ≤ held = grind (arith, nat_tests, q) in
         omega (arith, up, most)) in grind (arith, nat_tests, is))
     reached false p b q k =
-        or-right (held == n) (live == c) (let is : live ≡ c = (let up : c ≤ live = grind (arith, nat_tests, p) in
+        or_right (held == n) (live == c) (let is : live ≡ c = (let up : c ≤ live = grind (arith, nat_tests, p) in
         omega (arith, up, at_once)) in grind (arith, nat_tests, is))

@@ -4,9 +4,9 @@ use Rattle.std.specs.Prelude.{map}
 use Rattle.swarm_matching.proofs.PlaceLists.{touch, counts-of, each-touched, one-service}
 use Rattle.swarm_matching.proofs.ServiceSteps.{respecified-none, respecified-places, run-places}
 use Rattle.swarm_matching.proofs.Shapes.{Base, Comes, DutyStep, OpStep, closes, comes, creates, drops, goes, leaves, raises, removes, renews, respecifies, runs, shuts, starts_first, stays, still, stops_first, swaps}
-use Rattle.swarm_matching.proofs.Tests.{no-way}
 use Rattle.swarm_model.proofs.Laws.Timely.{each-changed, each-pushed}
 use Rattle.swarm_objects.proofs.RowLemmas.{Has-filter_cases}
+use Rattle.swarm_objects.proofs.Tests.{never-both}
 use Rattle.swarm_objects.specs.Changes.{wanted}
 use Rattle.swarm_objects.specs.Loops.Restart.{closed_by, raised}
 use Rattle.swarm_objects.specs.Rows.{Has, service_id}
@@ -65,7 +65,7 @@ templates-duty e t u set base (starts_first s run k y r new) is =
 templates-duty e t u set base (runs s v h no_job step) is = λ x k.
     each-changed (λ (z : Service). is_job z.spec.mode ≡ true → counts_for z x ≡ true → x.template ≡ z.spec.template)
     service_id s.id (λ old. v) t.services (is x k)
-    (λ z there same job counts. no-way (is_job v.spec.mode) ((run-places e t s v step).job ∙ no_job) job)
+    (λ z there same job counts. never-both (is_job v.spec.mode) ((run-places e t s v step).job ∙ no_job) job)
 
 pub templates-op : (e : ℕ) (t u : Tables) → Base t → OpStep e t u → JobTemplates t → JobTemplates u
 templates-op e t u base still is = is
@@ -77,9 +77,9 @@ templates-op e t u base (respecifies s v spec h r) is = λ x k.
     go : (x : Task) → Has t.tasks x → is_job v.spec.mode ≡ true → counts_for v x ≡ true → (b : Bool) →
         is_job s.spec.mode ≡ b → x.template ≡ v.spec.template
     go x k job counts true old =
-        no-way (counts_for v x) (respecified-none e t spec s v base h r old x k) counts
+        never-both (counts_for v x) (respecified-none e t spec s v base h r old x k) counts
     go x k job counts false old =
-        no-way (is_job v.spec.mode) ((respecified-places e spec s v r old).job ∙ old) job
+        never-both (is_job v.spec.mode) ((respecified-places e spec s v r old).job ∙ old) job
 templates-op e t u base (comes s none run at) is = λ x k.
     each-pushed (λ (z : Service). is_job z.spec.mode ≡ true → counts_for z x ≡ true → x.template ≡ z.spec.template)
     t.services s (is x k) (λ job counts. absurd (none x k (counts-of s x counts)))

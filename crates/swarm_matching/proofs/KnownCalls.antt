@@ -54,7 +54,6 @@ use Rattle.swarm_objects.specs.declared.watches.Event.{Event}
 use Rattle.swarm_objects.specs.declared.watches.Watcher.{Watcher}
 use Rattle.std.proofs.Common.{ap, ◌++◌, ◌∙◌, ◌∷◌}
 use Rattle.std.specs.Prelude.{fold, map}
-use Rattle.swarm_model.proofs.Laws.Within.{regroup}
 use Rattle.swarm_model.specs.Calls.Nodes.{is_left_behind}
 use Rattle.swarm_model.specs.Calls.Remote.{Kept, begun_tables, fits_in, keep_task, keep_other}
 use Rattle.swarm_objects.specs.Changes.{in_state, raised_to}
@@ -66,6 +65,7 @@ use Rattle.swarm_matching.proofs.PlaceLists.{each-touched}
 use Rattle.swarm_matching.proofs.ShapeDuties.{map-push}
 use Rattle.swarm_matching.proofs.PlaceLists.{append-none}
 use Rattle.swarm_model.proofs.Base.Histories.{replay-snoc}
+use Rattle.swarm_model.proofs.Moves.Opening.{regroup}
 use Rattle.swarm_model.specs.Calls.Remote.{with_resources}
 use Rattle.swarm_objects.proofs.RowLemmas.{Has-append_cases, Has-map_cases}
 use Rattle.std.proofs.Common.{inr}

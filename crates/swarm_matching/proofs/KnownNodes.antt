@@ -3,16 +3,16 @@ use Rattle.std.proofs.Common.{Bool, List, None, Option, Some, [], ap, arith, con
 use Rattle.std.specs.List.{list_any}
 use Rattle.std.specs.Prelude.{find, is_none, map, ◌&&◌, ◌==◌, ◌||◌}
 use Rattle.swarm_matching.proofs.HomeNodes.{HomeNodes}
-use Rattle.swarm_matching.proofs.PlaceLists.{each-touched, newest-has, place-is, touch}
+use Rattle.swarm_matching.proofs.PlaceLists.{each-touched, place-is, touch}
 use Rattle.swarm_matching.proofs.ShapeDuties.{found}
-use Rattle.swarm_matching.proofs.Tests.{any-cases, no-way, or-cases, or-left, some-and-cases}
 use Rattle.swarm_model.proofs.Base.IsDuty.{IsDuty, OfRow}
 use Rattle.swarm_model.proofs.Laws.Timely.{each-changed, each-pushed}
-use Rattle.swarm_model.proofs.Moves.Duties.{and-left, and-right}
 use Rattle.swarm_model.proofs.Moves.Placing.{best-is}
 use Rattle.swarm_model.proofs.Moves.Rows.{between-has, between-one}
 use Rattle.swarm_model.proofs.Moves.Worlds.{IsOrderly}
 use Rattle.swarm_objects.proofs.RowLemmas.{Has-filter_cases, Has-from_row_at}
+use Rattle.swarm_objects.proofs.Tests.{any-has, first_so, never-both, or_cases, or_left, second_so, some-and-cases}
+use Rattle.swarm_objects.proofs.Newest.{newest_has}
 use Rattle.swarm_objects.specs.Agents.Messages.{message_for}
 use Rattle.swarm_objects.specs.Changes.{change_node, change_service, change_task, change_where, in_state, noted, on_service, on_task, placed, raised_to, wanted, with_new}
 use Rattle.swarm_objects.specs.Duties.{effect_by}
@@ -220,7 +220,7 @@ new-step n t s k d known =
 -- a dirty place has a task
 dirty-has : (t : Tables) (s : Service) (k : ℕ) → is_dirty_place t s k ≡ true → (x : Task) × Has t.tasks x ×
     (x.place ≡ place_at s.spec.mode k)
-dirty-has t s k e = go (or-cases _ _ e)
+dirty-has t s k e = go (or_cases _ _ e)
   where
     at : (x : Task) → Has (place_tasks t s k) x → (y : Task) × Has t.tasks y × (y.place ≡ place_at s.spec.mode k)
     at x h =
@@ -230,10 +230,10 @@ dirty-has t s k e = go (or-cases _ _ e)
     go : (list_any (is_live_dirty s) (place_tasks t s k) ≡ true) ⊎
         ((not (has_live t s k) && is_some_and (closes_dirty s) (newest (place_tasks t s k))) ≡ true) →
         (x : Task) × Has t.tasks x × (x.place ≡ place_at s.spec.mode k)
-    go (inl a) = let one = any-cases (is_live_dirty s) (place_tasks t s k) a in at one.0 one.1
+    go (inl a) = let one = any-has (is_live_dirty s) (place_tasks t s k) a in at one.0 one.1
     go (inr b) =
-        let last = some-and-cases (closes_dirty s) (newest (place_tasks t s k)) (and-right _ _ b) in
-        at last.0 (newest-has (place_tasks t s k) last.0 last.1)
+        let last = some-and-cases (closes_dirty s) (newest (place_tasks t s k)) (second_so _ _ b) in
+        at last.0 (newest_has (place_tasks t s k) last.0 last.1)
 
 replace-step : (n : ℕ) (t : Tables) (s : Service) (k : ℕ) → HomeNodes t → is_dirty_place t s k ≡ true →
     NodeStep t (replace_place n t k s)
@@ -258,7 +258,7 @@ replace-step n t s k home dirty = go s.spec.update.order
         (push-from t t.tasks _ (λ x h. task-from t x h) (fresh t (goal_of s.spec.mode))) refl (omega arith)
 
 ready-known : (n : Node) → is_ready n.state ≡ true → is_known n ≡ true
-ready-known n e = or-left (is_ready n.state) (is_down n.state) e
+ready-known n e = or_left (is_ready n.state) (is_down n.state) e
 
 ready-number : (w : World) (m : Node) → IsOrderly w → Has w.tables.nodes m → is_ready m.state ≡ true →
     IsKnownNumber w.tables m.id
@@ -274,12 +274,12 @@ admitted-ready : (t : Tables) (x : Task) (m : Node) → admits t x m ≡ true �
 admitted-ready t x m e = go (takes_tasks t m) refl
   where
     go : (b : Bool) → takes_tasks t m ≡ b → is_ready m.state ≡ true
-    go true k = and-left _ _ (and-left _ _ k)
+    go true k = first_so _ _ (first_so _ _ k)
     go false k =
         let first : passes t x m 0 ≡ false = k in
         let refused : refused_by t x m ≡ Some 0 =
         ap (λ (b : Bool). cond (not b) (Some 0) (find (λ j. not (passes t x m j)) (1 ∷ 2 ∷ 3 ∷ 4 ∷ 5 ∷ []))) first in
-        absurd (let wrong : admits t x m ≡ false = ap is_none refused in no-way (admits t x m) wrong e)
+        absurd (let wrong : admits t x m ≡ false = ap is_none refused in never-both (admits t x m) wrong e)
 
 place-step : (n : ℕ) (w : World) (x : Task) (m : Node) → IsOrderly w → best_node w.tables x ≡ Some m →
     NodeStep w.tables (change_task x.id (placed n w.tables.clock m.id) w.tables)
@@ -359,7 +359,7 @@ duty-nodes n w (duty.Swap s k) is home of =
     on-service w.tables s _ (λ v. touch-step w.tables _ (wanted n desired.Shutdown) (λ x. refl))
 duty-nodes n w (duty.Replace s k) is home of =
     fact-service w s _ _ is of
-    (λ v h fact. replace-step n w.tables v k home (and-left (is_dirty_place w.tables v k) _ fact.1.3.1.1))
+    (λ v h fact. replace-step n w.tables v k home (first_so (is_dirty_place w.tables v k) _ fact.1.3.1.1))
 duty-nodes n w (duty.Finish s) is home of = on-service w.tables s _ (λ v. same-step w.tables _ refl refl (omega arith))
 duty-nodes n w (duty.Gone x) is home of = change-step w.tables x _ (λ y. refl)
 duty-nodes n w (duty.Down s k) is home of =
@@ -375,7 +375,7 @@ duty-nodes n w (duty.GlobalCreate s k) is home of =
     (λ v h fact. new-step n w.tables v k desired.Running
     (λ e. subst (IsKnownNumber w.tables) fact.1.id_is
     (ready-number w fact.1.row is fact.1.there
-    (and-left _ _ (and-left _ _ (and-left _ _ fact.1.fact))))))
+    (first_so _ _ (first_so _ _ (first_so _ _ fact.1.fact))))))
 duty-nodes n w (duty.Old x) is home of = change-step w.tables x _ (λ y. refl)
 duty-nodes n w (duty.JobCreate s k) is home of =
     fact-service w s _ _ is of

@@ -39,7 +39,6 @@ pub mod ShapeDuties
 pub mod ShapeLoops
 pub mod ShapeWords
 pub mod Shapes
-pub mod Tests
 pub mod Together
 pub mod TogetherCalls
 pub mod Unmet

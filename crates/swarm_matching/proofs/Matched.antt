@@ -1,11 +1,9 @@
 -- Settled means matched: each service, each task, each node and each closed place is as a match wants it.
-use Rattle.std.proofs.Common.{Bool, List, Option, Some, [], ap, arith, cond, eqb, false, inl, inr, not, refl, subst, sym, true, ℕ, ◌+◌, ◌<◌, ◌∙◌, ◌∷◌, ◌≡◌, ◌≤◌, ◌⊎◌}
+use Rattle.std.proofs.Common.{Bool, List, Option, Some, [], ap, arith, cond, false, inl, inr, not, refl, subst, sym, true, ℕ, ◌+◌, ◌<◌, ◌∙◌, ◌∷◌, ◌≡◌, ◌≤◌, ◌⊎◌}
 use Rattle.std.proofs.lemmas.Bool.Decides.{nat_tests}
 use Rattle.std.specs.Cmp.Lexicographic.{pointwise}
 use Rattle.std.specs.List.{list_all}
-use Rattle.std.specs.Option.{option_eq}
 use Rattle.std.specs.Prelude.{⊤}
-use Rattle.swarm_matching.proofs.Served.{on-node}
 use Rattle.swarm_matching.proofs.ShapeDuties.{found}
 use Rattle.std.specs.Prelude.{filter, map, nat_le, ◌&&◌, ◌==◌, ◌||◌}
 use Rattle.swarm_matching.proofs.Calm.{Calm, IsHosted, IsPlacedAt, agent-of, aimed-well, calm, hosted, live-ready, placed-at, runs-on, runs-well}
@@ -17,18 +15,20 @@ use Rattle.swarm_matching.proofs.NothingElse.{nothing-else}
 use Rattle.swarm_matching.proofs.PlaceLists.{counts-of, place-counts}
 use Rattle.swarm_matching.proofs.Settled.{settled-rests}
 use Rattle.swarm_matching.proofs.Rest.{settled-quiet}
-use Rattle.swarm_matching.proofs.Tests.{all-pass, both, is-not, neither-left, neither-right, no-way, or-left, or-right, some-and}
 use Rattle.swarm_matching.proofs.Unmet.{unmet}
 use Rattle.swarm_matching.proofs.WellPlaced.{node-found, one-live-task}
+use Rattle.swarm_matching.proofs.Held.{beyond}
 use Rattle.swarm_matching.specs.Laws.{AreAlone, HasPlaces, NothingElse, SayWhy, StandsWell, is_good_for}
 use Rattle.swarm_matching.specs.Matched.{IsMatched}
-use Rattle.swarm_model.proofs.Moves.Duties.{and-left, and-right}
 use Rattle.swarm_model.proofs.Moves.Rows.{RisesBetween}
+use Rattle.swarm_model.proofs.Laws.GivesOut.{on-is}
+use Rattle.swarm_model.proofs.Laws.Room.{is-on-same}
 use Rattle.swarm_model.specs.History.{replay}
 use Rattle.swarm_model.specs.Laws.Matches.{are_closings_right, is_aimed, is_executed, is_executor_running, is_in_hand, is_matched_node, is_matched_service, is_one_well, is_place_well, is_run_on, is_unplaceable, is_unprovided, is_well, live_tasks, matches_agent, matches_mode, matches_world, runs_task, runs_well, runs_well_on, stands_somewhere, tasks_in_hand, tasks_run_on}
 use Rattle.swarm_model.specs.Laws.Reconciliation.{ReconciliationLaw}
 use Rattle.swarm_model.specs.Settle.{settle_answer}
 use Rattle.swarm_objects.proofs.RowLemmas.{Has-filter, Has-filter_cases, Has-from_row_at, Has-map, Has-map_cases, number_above}
+use Rattle.swarm_objects.proofs.Tests.{all-pass, both, first_so, neither_left, neither_right, never-both, not_from_false, or_left, or_right, second_so, some-and}
 use Rattle.swarm_objects.specs.Nodes.Words.{is_node_and, is_ready}
 use Rattle.swarm_objects.specs.Rows.{Has, RisesFrom, agent_node, executor_task, is_row_and, is_some_and, itself, node_id, row_at, service_id, task_id}
 use Rattle.swarm_objects.specs.Same.{same_number}
@@ -50,11 +50,6 @@ use Rattle.swarm_objects.specs.declared.tasks.TaskState.{TaskState}
 
 -- Rising lists with the same members are equal.
 
--- a member of the longer list above the least number is one of the rest
-later : (x k : ℕ) (xs : List ℕ) → x < k → Has (x ∷ xs) k → Has xs k
-later x k xs above (inl e) = absurd (omega (arith, above, e))
-later x k xs above (inr h) = h
-
 same-from : (n : ℕ) (xs ys : List ℕ) → RisesFrom itself n xs → RisesFrom itself n ys →
     ((k : ℕ) → Has xs k → Has ys k) → ((k : ℕ) → Has ys k → Has xs k) → xs ≡ ys
 same-from n [] [] rx ry to from = refl
@@ -64,8 +59,8 @@ same-from n (x ∷ xs) (y ∷ ys) rx ry to from =
     go (to x (inl refl)) (from y (inl refl))
     (λ e.
     same-from x xs ys rx.1 (subst (λ (k : ℕ). RisesFrom itself k ys) (sym e) ry.1)
-    (λ k h. later y k ys (let up = number_above itself x xs k rx.1 h in omega (arith, up, e)) (to k (inr h)))
-    (λ k h. later x k xs (let up = number_above itself y ys k ry.1 h in omega (arith, up, e)) (from k (inr h))))
+    (λ k h. beyond y k ys (let up = number_above itself x xs k rx.1 h in omega (arith, up, e)) (to k (inr h)))
+    (λ k h. beyond x k xs (let up = number_above itself y ys k ry.1 h in omega (arith, up, e)) (from k (inr h))))
   where
     go : Has (y ∷ ys) x → Has (x ∷ xs) y → (x ≡ y → xs ≡ ys) → x ∷ xs ≡ y ∷ ys
     go (inl e) q rest = ap (λ (k : ℕ). k ∷ xs) (sym e) ∙ ap (λ (ks : List ℕ). y ∷ ks) (rest (sym e))
@@ -115,10 +110,10 @@ live-by x is off = go is.aim is.goal
     go (inr (inl e)) g =
         up-to x.desired x.goal (subst (λ (d : Desired). desired_rank x.desired ≤ desired_rank d) e (omega arith))
     go (inr (inr (inl e))) g =
-        no-way (is_unwanted x) off
+        never-both (is_unwanted x) off
         (subst (λ (d : Desired). nat_le (desired_rank desired.Shutdown) (desired_rank d) ≡ true) (sym e) refl)
     go (inr (inr (inr e))) g =
-        no-way (is_unwanted x) off
+        never-both (is_unwanted x) off
         (subst (λ (d : Desired). nat_le (desired_rank desired.Shutdown) (desired_rank d) ≡ true) (sym e) refl)
 
 -- an executor in hand runs, for a live task that is observed RUNNING there
@@ -129,20 +124,14 @@ pub record IsInWork (w : World) (n : Node) (e : Executor) : Type 0 where
   pub run : is_run_on n.id task ≡ true
   pub runs : e.state ≡ state.Running
 
-on-number : (o : Option ℕ) (k : ℕ) → o ≡ Some k → option_eq same_number o (Some k) ≡ true
-on-number o k e = ap (λ (o : Option ℕ). option_eq same_number o (Some k)) e ∙ own
-  where
-    own : eqb k k ≡ true
-    own = grind (arith, nat_tests)
-
 in-work : (w : World) → Calm w → (n : Node) (a : NodeAgent) → Has w.tables.nodes n → is_ready n.state ≡ true →
     n.remote ≡ false → row_at agent_node n.id w.agents ≡ Some a → (e : Executor) → Has a.executors e →
     is_in_hand e ≡ true → IsInWork w n e
 in-work w is n a h ready inside at e k hand =
     let runs = (is.agents n a h ready inside at).executors e k hand in
     let alive : e.gone ≡ false =
-    neither-left e.gone (nat_le (desired_rank desired.Shutdown) (desired_rank e.desired)) runs.0 in
-    let going = neither-right e.gone (nat_le (desired_rank desired.Shutdown) (desired_rank e.desired)) runs.0 in
+    neither_left e.gone (nat_le (desired_rank desired.Shutdown) (desired_rank e.desired)) runs.0 in
+    let going = neither_right e.gone (nat_le (desired_rank desired.Shutdown) (desired_rank e.desired)) runs.0 in
     let x = (is.served n a h ready inside at).executors e k alive in
     let off : is_unwanted x.0 ≡ false =
     subst (λ (d : Desired). nat_le (desired_rank desired.Shutdown) (desired_rank d) ≡ false) x.4.desired going in
@@ -158,7 +147,7 @@ in-work w is n a h ready inside at e k hand =
       number = x.2;
       run = both (is_live x.0 && is_running x.0) (is_on n.id x.0)
           (both (is_live x.0) (is_running x.0) live (runs-well w is x.0 x.1 live placed))
-          (on-number x.0.node n.id x.3.node);
+          (is-on-same x.0.node n.id x.3.node);
       runs = runs-on w is x.0 x.1 (aimed-well w is x.0 x.1 live) e x.4.desired runs;
     }
 
@@ -179,11 +168,11 @@ run-hosted : (w : World) → Calm w → (n : Node) (a : NodeAgent) → Has w.tab
     is_run_on n.id x ≡ true → IsHosted w a x
 run-hosted w is n a h ready inside at x there run =
     let running =
-    and-right (is_live x) (is_running x) (and-left (is_live x && is_running x) (is_on n.id x) run) in
+    second_so (is_live x) (is_running x) (first_so (is_live x && is_running x) (is_on n.id x) run) in
     let level : rank x.state ≡ rank state.Running = grind (arith, nat_tests, running) in
     hosted w is n a x h ready inside at there
     (record {
-      node = on-node x.node n.id (and-right (is_live x && is_running x) (is_on n.id x) run);
+      node = on-is x.node n.id (second_so (is_live x && is_running x) (is_on n.id x) run);
       assigned = omega (arith, level);
     })
     (omega (arith, level))
@@ -235,14 +224,14 @@ matched-node w is n h = go (is_ready n.state) refl n.remote refl
   where
     go : (b : Bool) → is_ready n.state ≡ b → (r : Bool) → n.remote ≡ r → is_matched_node w n ≡ true
     go false off r out =
-        or-left (not (is_ready n.state) || n.remote) (is_row_and agent_node (matches_agent w.tables) w.agents n.id)
-        (or-left (not (is_ready n.state)) n.remote (is-not (is_ready n.state) off))
+        or_left (not (is_ready n.state) || n.remote) (is_row_and agent_node (matches_agent w.tables) w.agents n.id)
+        (or_left (not (is_ready n.state)) n.remote (not_from_false (is_ready n.state) off))
     go true ready true out =
-        or-left (not (is_ready n.state) || n.remote) (is_row_and agent_node (matches_agent w.tables) w.agents n.id)
-        (or-right (not (is_ready n.state)) n.remote out)
+        or_left (not (is_ready n.state) || n.remote) (is_row_and agent_node (matches_agent w.tables) w.agents n.id)
+        (or_right (not (is_ready n.state)) n.remote out)
     go true ready false inside =
         let a = agent-of w is n h inside in
-        or-right (not (is_ready n.state) || n.remote) (is_row_and agent_node (matches_agent w.tables) w.agents n.id)
+        or_right (not (is_ready n.state) || n.remote) (is_row_and agent_node (matches_agent w.tables) w.agents n.id)
         (some-and (matches_agent w.tables) (row_at agent_node n.id w.agents) a.0 a.1
         (matched-agent w is n a.0 h ready inside a.1))
 
@@ -254,13 +243,13 @@ executed : (w : World) → Calm w → (x : Task) → Has w.tables.tasks x → is
 executed w is x h live p = go p.node.remote refl
   where
     go : (r : Bool) → p.node.remote ≡ r → is_executed w x p.node ≡ true
-    go true out = or-left p.node.remote (is_row_and agent_node (runs_task x.id) w.agents p.node.id) out
+    go true out = or_left p.node.remote (is_row_and agent_node (runs_task x.id) w.agents p.node.id) out
     go false inside =
         let a = agent-of w is p.node p.there inside in
         let ready = live-ready w is x h live p in
         let e = hosted w is p.node a.0 x p.there ready inside a.1 h p.on p.high in
         let runs = runs-on w is x h (aimed-well w is x h live) e.executor e.of.desired e.runs in
-        or-right p.node.remote (is_row_and agent_node (runs_task x.id) w.agents p.node.id)
+        or_right p.node.remote (is_row_and agent_node (runs_task x.id) w.agents p.node.id)
         (some-and (runs_task x.id) (row_at agent_node p.node.id w.agents) a.0 a.1
         (some-and is_executor_running (row_at executor_task x.id a.0.executors) e.executor e.at
         (running-test e.executor runs)))
@@ -303,8 +292,8 @@ well w is why s x h live of stands =
         let placed : is_placed x ≡ true =
         both (nat_le (rank state.Assigned) (rank x.state)) (nat_le (rank x.state) (rank state.Running))
         (grind (arith, nat_tests, up)) (grind (arith, nat_tests, over)) in
-        or-left (runs_well w s x || is_unplaceable w.tables x) (is_unprovided w.tables s x)
-        (or-left (runs_well w s x) (is_unplaceable w.tables x)
+        or_left (runs_well w s x || is_unplaceable w.tables x) (is_unprovided w.tables s x)
+        (or_left (runs_well w s x) (is_unplaceable w.tables x)
         (running-well w is s x h live placed (stands.node placed)))
 
 -- Services.
@@ -334,10 +323,10 @@ place-well w is why alone s k h = go (has_live w.tables s k) refl
         (well w is why s x inside.0 member.1 of one.2)
 
     go : (b : Bool) → has_live w.tables s k ≡ b → is_place_well w s k ≡ true
-    go true some = or-right (not (has_live w.tables s k)) (is_one_well w s (live_tasks w.tables s k)) (one-well some)
+    go true some = or_right (not (has_live w.tables s k)) (is_one_well w s (live_tasks w.tables s k)) (one-well some)
     go false none =
-        or-left (not (has_live w.tables s k)) (is_one_well w s (live_tasks w.tables s k))
-        (is-not (has_live w.tables s k) none)
+        or_left (not (has_live w.tables s k)) (is_one_well w s (live_tasks w.tables s k))
+        (not_from_false (has_live w.tables s k) none)
 
 matched-service : (w : World) → Calm w → SayWhy w → AreAlone w → HasPlaces w → (s : Service) →
     Has w.tables.services s → is_matched_service w s ≡ true

@@ -5,13 +5,13 @@ use Rattle.std.specs.List.{list_any}
 use Rattle.std.specs.Prelude.{is_some, nat_lt, ◌&&◌, ◌==◌, ◌||◌}
 use Rattle.swarm_matching.proofs.Known.{Known, known-replay}
 use Rattle.swarm_matching.proofs.Rest.{no-duty}
-use Rattle.swarm_matching.proofs.Tests.{all-pass, any-has, both, is-not, or-left, or-right, proved, some-and}
 use Rattle.swarm_matching.specs.Laws.{NothingElseLaw}
 use Rattle.swarm_matching.specs.Rest.{IsAtRest}
 use Rattle.swarm_model.specs.History.{replay}
 use Rattle.swarm_model.specs.Laws.Matches.{stands_in, stands_somewhere}
 use Rattle.swarm_objects.proofs.RowLemmas.{Has-filter, Has-from_row_at}
 use Rattle.swarm_objects.proofs.SameLemmas.{Decides-same_place}
+use Rattle.swarm_objects.proofs.Tests.{all-pass, both, has-any, not_from_false, or_left, or_right, some-and, true_from_ne_false}
 use Rattle.swarm_objects.specs.Loops.Jobs.{is_old_of}
 use Rattle.swarm_objects.specs.Rows.{Has, row_at, service_id}
 use Rattle.swarm_objects.specs.Same.{same_place}
@@ -53,11 +53,11 @@ live-in w x known rest h live = go (row_at service_id x.service w.tables.service
         x.service ≡ s.id → (j : Bool) → is_job s.spec.mode ≡ j → counts_for s x ≡ true
     counted s e there of false job =
         both (x.service == s.id) _ (grind (arith, nat_tests, of))
-        (or-left (not (is_job s.spec.mode)) (x.iteration == s.iteration) (is-not (is_job s.spec.mode) job))
+        (or_left (not (is_job s.spec.mode)) (x.iteration == s.iteration) (not_from_false (is_job s.spec.mode) job))
     counted s e there of true job =
         let most = (known.of.one.iterations x s h there of).most in
         let now : (x.iteration == s.iteration) ≡ true =
-        proved (x.iteration == s.iteration)
+        true_from_ne_false (x.iteration == s.iteration)
         (λ other.
         let before : nat_lt x.iteration s.iteration ≡ true = grind (arith, nat_tests, most, other) in
         no-duty w rest (duty.Old x.id)
@@ -70,7 +70,7 @@ live-in w x known rest h live = go (row_at service_id x.service w.tables.service
               (both (is_job s.spec.mode) (nat_lt x.iteration s.iteration) job before) kept);
         })) in
         both (x.service == s.id) _ (grind (arith, nat_tests, of))
-        (or-right (not (is_job s.spec.mode)) (x.iteration == s.iteration) now)
+        (or_right (not (is_job s.spec.mode)) (x.iteration == s.iteration) now)
 
     go : (o : Option Service) → row_at service_id x.service w.tables.services ≡ o → (s : Service) × LivesIn w x s
     go None e =
@@ -90,8 +90,8 @@ live-in w x known rest h live = go (row_at service_id x.service w.tables.service
             there = at.0;
             of = sym at.1;
             counts = counts;
-            held = or-left (list_any is_live (tasks_of_place s x.place w.tables.tasks)) _
-                (any-has is_live (tasks_of_place s x.place w.tables.tasks) x
+            held = or_left (list_any is_live (tasks_of_place s x.place w.tables.tasks)) _
+                (has-any is_live (tasks_of_place s x.place w.tables.tasks) x
                 (Has-filter (is_in_place s x.place) w.tables.tasks x h (place-of-its-own s x counts)) live);
           },
         )

@@ -5,12 +5,13 @@ use Rattle.std.specs.List.{last_or}
 use Rattle.std.specs.Option.{option_map}
 use Rattle.std.specs.Prelude.{filter, map, ◌&&◌, ◌==◌, ◌||◌}
 use Rattle.swarm_matching.proofs.Shapes.{Base, Comes}
-use Rattle.swarm_matching.proofs.Tests.{both, no-way, or-right}
 use Rattle.swarm_model.proofs.Laws.Alone.{is-place}
-use Rattle.swarm_model.proofs.Moves.Duties.{and-left, and-right}
 use Rattle.swarm_model.proofs.Moves.Rows.{between-one}
 use Rattle.swarm_objects.proofs.RowLemmas.{Has-map_cases}
 use Rattle.swarm_objects.proofs.SameLemmas.{Decides-same_place}
+use Rattle.swarm_objects.proofs.Tests.{both, first_so, never-both, or_right, second_so}
+use Rattle.swarm_objects.proofs.Filters.{filter_map, filter_none, filter_same}
+use Rattle.swarm_objects.proofs.Newest.{last_last}
 use Rattle.swarm_objects.specs.Rows.{Has, service_id, task_id}
 use Rattle.swarm_objects.specs.Same.{same_place}
 use Rattle.swarm_objects.specs.Services.Words.{is_job}
@@ -27,21 +28,6 @@ use Rattle.swarm_objects.specs.declared.tasks.Place.{Place}
 use Rattle.swarm_objects.specs.declared.tasks.Task.{Task}
 
 -- The last row.
-
-last-is : {X : Type 0} (o : Option X) (xs : List X) (z : X) → last_or o xs ≡ Some z → (o ≡ Some z) ⊎ Has xs z
-last-is o [] z e = inl e
-last-is o (x ∷ xs) z e = go (last-is (Some x) xs z e)
-  where
-    go : (Some x ≡ Some z) ⊎ Has xs z → (o ≡ Some z) ⊎ Has (x ∷ xs) z
-    go (inl k) = inr (inl cc)
-    go (inr h) = inr (inr h)
-
-pub newest-has : (xs : List Task) (z : Task) → newest xs ≡ Some z → Has xs z
-newest-has xs z e = go (last-is None xs z e)
-  where
-    go : (None ≡ Some z) ⊎ Has xs z → Has xs z
-    go (inl k) = absurd cc
-    go (inr h) = h
 
 last-map : {X : Type 0} (f : X → X) (o : Option X) (xs : List X) →
     last_or (option_map f o) (map f xs) ≡ option_map f (last_or o xs)
@@ -60,12 +46,8 @@ pub newest-mapped : (f : Task → Task) (xs : List Task) (z : Task) → newest (
     (x : Task) × (newest xs ≡ Some x) × (f x ≡ z)
 newest-mapped f xs z e = some-map f (newest xs) z (sym (newest-map f xs) ∙ e)
 
-last-push : {X : Type 0} (o : Option X) (xs : List X) (x : X) → last_or o (xs ++ x ∷ []) ≡ Some x
-last-push o [] x = refl
-last-push o (y ∷ xs) x = last-push (Some y) xs x
-
 pub newest-push : (xs : List Task) (x : Task) → newest (xs ++ x ∷ []) ≡ Some x
-newest-push xs x = last-push None xs x
+newest-push xs x = last_last None xs x
 
 last-filter : {X : Type 0} (test : X → Bool) (o p : Option X) (xs : List X) (z : X) → last_or o xs ≡ Some z →
     test z ≡ true → (o ≡ Some z → p ≡ Some z) → last_or p (filter test xs) ≡ Some z
@@ -79,7 +61,7 @@ last-filter test o p (x ∷ xs) z e t k =
         last_or p (cond b (x ∷ filter test xs) (filter test xs)) ≡ Some z
     go true f stays rest = stays
     go false f stays rest =
-        rest (λ (q : Some x ≡ Some z). let is : x ≡ z = cc in no-way (test z) (ap test (sym is) ∙ f) t)
+        rest (λ (q : Some x ≡ Some z). let is : x ≡ z = cc in never-both (test z) (ap test (sym is) ∙ f) t)
 
 pub newest-filter : (test : Task → Bool) (xs : List Task) (z : Task) → newest xs ≡ Some z → test z ≡ true →
     newest (filter test xs) ≡ Some z
@@ -136,30 +118,9 @@ in-place-same s p x y m =
     ∙ ap (λ (q : Place). (x.service == s.id && (not (is_job s.spec.mode) || x.iteration == s.iteration))
     && same_place q p) m.place
 
-pub filter-map : {X : Type 0} (test : X → Bool) (f : X → X) (xs : List X) → ((x : X) → test (f x) ≡ test x) →
-    filter test (map f xs) ≡ map f (filter test xs)
-filter-map test f [] same = refl
-filter-map test f (x ∷ xs) same =
-    go (test x) (test (f x)) (same x) ∙ ap (λ ys. cond (test x) (f x ∷ ys) ys) (filter-map test f xs same)
-    ∙ back (test x)
-  where
-    go : (a b : Bool) → b ≡ a →
-        cond b (f x ∷ filter test (map f xs)) (filter test (map f xs))
-        ≡ cond a (f x ∷ filter test (map f xs)) (filter test (map f xs))
-    go true true e = refl
-    go true false e = absurd cc
-    go false true e = absurd cc
-    go false false e = refl
-
-    back : (a : Bool) →
-        cond a (f x ∷ map f (filter test xs)) (map f (filter test xs))
-        ≡ map f (cond a (x ∷ filter test xs) (filter test xs))
-    back true = refl
-    back false = refl
-
 pub place-map : (s : Service) (p : Place) (f : Task → Task) (xs : List Task) → ((x : Task) → SameMaking x (f x)) →
     tasks_of_place s p (map f xs) ≡ map f (tasks_of_place s p xs)
-place-map s p f xs keeps = filter-map (is_in_place s p) f xs (λ x. in-place-same s p x (f x) (keeps x))
+place-map s p f xs keeps = filter_map (is_in_place s p) f xs (λ x. in-place-same s p x (f x) (keeps x))
 
 filter-swap : {X : Type 0} (p q : X → Bool) (xs : List X) → filter p (filter q xs) ≡ filter q (filter p xs)
 filter-swap p q [] = refl
@@ -211,13 +172,13 @@ place-push P s p xs y inside outside =
 -- Members of places.
 
 pub counts-of : (s : Service) (x : Task) → counts_for s x ≡ true → x.service ≡ s.id
-counts-of s x e = grind (arith, nat_tests, and-left (x.service == s.id) _ e)
+counts-of s x e = grind (arith, nat_tests, first_so (x.service == s.id) _ e)
 
 pub place-counts : (s : Service) (p : Place) (x : Task) → is_in_place s p x ≡ true → counts_for s x ≡ true
-place-counts s p x e = and-left (counts_for s x) (same_place x.place p) e
+place-counts s p x e = first_so (counts_for s x) (same_place x.place p) e
 
 pub place-is : (s : Service) (p : Place) (x : Task) → is_in_place s p x ≡ true → x.place ≡ p
-place-is s p x e = is-place x.place p (and-right (counts_for s x) (same_place x.place p) e)
+place-is s p x e = is-place x.place p (second_so (counts_for s x) (same_place x.place p) e)
 
 pub place-in : (s : Service) (p : Place) (x : Task) → counts_for s x ≡ true → x.place ≡ p → is_in_place s p x ≡ true
 place-in s p x e f = both (counts_for s x) (same_place x.place p) e ((Decides-same_place x.place p).1 f)
@@ -232,7 +193,7 @@ one-task t base x y h k e = between-one task_id 1 base.high t.tasks x y base.tas
 pub comes-counts : (t : Tables) (s : Service) (p : Place) (y : Task) → Comes t s p y → counts_for s y ≡ true
 comes-counts t s p y new =
     both (y.service == s.id) _ (grind (arith, nat_tests, new.service))
-    (or-right (not (is_job s.spec.mode)) (y.iteration == s.iteration) (grind (arith, nat_tests, new.iteration)))
+    (or_right (not (is_job s.spec.mode)) (y.iteration == s.iteration) (grind (arith, nat_tests, new.iteration)))
 
 pub goal-kinds : (m : Mode) → (goal_of m ≡ desired.Running) ⊎ (goal_of m ≡ desired.Complete)
 goal-kinds (mode.Replicated n) = inl refl
@@ -311,27 +272,15 @@ counts-same s v same x =
     go true now = ap (λ (k : ℕ). x.service == s.id && (not true || x.iteration == k)) (now refl)
     go false now = refl
 
-pub filter-same : {X : Type 0} (p q : X → Bool) (xs : List X) → ((x : X) → p x ≡ q x) → filter p xs ≡ filter q xs
-filter-same p q [] same = refl
-filter-same p q (x ∷ xs) same =
-    ap (λ (b : Bool). cond b (x ∷ filter p xs) (filter p xs)) (same x)
-    ∙ ap (λ ys. cond (q x) (x ∷ ys) ys) (filter-same p q xs same)
-
 pub same-places : (s v : Service) → SamePlaces s v → (p : Place) (xs : List Task) →
     tasks_of_place v p xs ≡ tasks_of_place s p xs
 same-places s v same p xs =
-    filter-same (is_in_place v p) (is_in_place s p) xs
+    filter_same (is_in_place v p) (is_in_place s p) xs
     (λ x. ap (λ (b : Bool). b && same_place x.place p) (counts-same s v same x))
-
-pub filter-none : {X : Type 0} (p : X → Bool) (xs : List X) → ((x : X) → Has xs x → p x ≡ false) → filter p xs ≡ []
-filter-none p [] none = refl
-filter-none p (x ∷ xs) none =
-    ap (λ (b : Bool). cond b (x ∷ filter p xs) (filter p xs)) (none x (inl refl))
-    ∙ filter-none p xs (λ y h. none y (inr h))
 
 -- no task counts for the service
 pub no-places : (s : Service) (p : Place) (xs : List Task) → ((x : Task) → Has xs x → counts_for s x ≡ false) →
     tasks_of_place s p xs ≡ []
 no-places s p xs none =
-    filter-none (is_in_place s p) xs
+    filter_none (is_in_place s p) xs
     (λ x h. ap (λ (b : Bool). b && same_place x.place p) (none x h))

@@ -3,14 +3,15 @@ use Rattle.std.proofs.Common.{Bool, None, Option, Some, [], ap, cond, false, inl
 use Rattle.std.specs.Option.{option_map}
 use Rattle.std.specs.Prelude.{flat_map, is_some, ◌&&◌}
 use Rattle.swarm_matching.proofs.Rest.{no-duty, no-waits}
-use Rattle.swarm_matching.proofs.Tests.{both, is-not, proved, refuted, some-and}
 use Rattle.swarm_matching.specs.Agents.{IsQuietAgent, QuietAgentsLaw, RunsOrWaits}
 use Rattle.swarm_matching.specs.Rest.{IsAtRest, IsQuiet}
+use Rattle.swarm_model.proofs.SettleLaws.{no_step}
 use Rattle.swarm_model.specs.History.{replay}
 use Rattle.swarm_model.specs.Laws.Matches.{is_in_hand}
 use Rattle.swarm_model.specs.Settle.{deadline_of, is_silent, phase_wait, wait_till}
 use Rattle.swarm_objects.proofs.Empty.{flat_map_empty}
 use Rattle.swarm_objects.proofs.RowLemmas.{Has-from_row_at}
+use Rattle.swarm_objects.proofs.Tests.{both, false_from_ne_true, not_from_false, some-and, true_from_ne_false}
 use Rattle.swarm_objects.specs.Agents.Executors.{executor_step, is_to_go, phase_time, wants_to_stop}
 use Rattle.swarm_objects.specs.Agents.Messages.{message_for}
 use Rattle.swarm_objects.specs.Loops.Agents.{has_step, is_mode_on, wants_report}
@@ -34,7 +35,7 @@ use Rattle.swarm_objects.specs.declared.tasks.TaskState.{TaskState}
 pub ready-live : (w : World) → IsAtRest w → (n : Node) → Has w.tables.nodes n → is_ready n.state ≡ true →
     is_session_live w.tables n.id ≡ true
 ready-live w rest n h ready =
-    proved (is_session_live w.tables n.id)
+    true_from_ne_false (is_session_live w.tables n.id)
     (λ dead.
     no-duty w rest (duty.Expire n.id)
     (record {
@@ -42,11 +43,11 @@ ready-live w rest n h ready =
       there = h;
       id_is = refl;
       fact = both (is_ready n.state) (not (is_session_live w.tables n.id)) ready
-          (is-not (is_session_live w.tables n.id) dead);
+          (not_from_false (is_session_live w.tables n.id) dead);
     }))
 
 -- so it has a deadline
-deadline-there : (w : World) (id : ℕ) → is_session_live w.tables id ≡ true → ¬ (deadline_of w.tables id ≡ None)
+pub deadline-there : (w : World) (id : ℕ) → is_session_live w.tables id ≡ true → ¬ (deadline_of w.tables id ≡ None)
 deadline-there w id live none = go (session_of w.tables id) live none
   where
     go : (o : Option NodeSession) → is_before_deadline w.tables.clock o ≡ true →
@@ -58,13 +59,13 @@ deadline-there w id live none = go (session_of w.tables id) live none
 agent-on : (w : World) → IsQuiet w → (n : Node) (a : NodeAgent) → Has w.tables.nodes n → is_ready n.state ≡ true →
     n.remote ≡ false → row_at agent_node n.id w.agents ≡ Some a → is_mode_on a.mode ≡ true
 agent-on w quiet n a h ready inside at =
-    proved (is_mode_on a.mode)
+    true_from_ne_false (is_mode_on a.mode)
     (λ off.
     let silent : is_silent w n ≡ true =
     both (is_ready n.state && not n.remote) _
-    (both (is_ready n.state) (not n.remote) ready (is-not n.remote inside))
+    (both (is_ready n.state) (not n.remote) ready (not_from_false n.remote inside))
     (some-and (λ (b : NodeAgent). not (is_mode_on b.mode)) (row_at agent_node n.id w.agents) a at
-    (is-not (is_mode_on a.mode) off)) in
+    (not_from_false (is_mode_on a.mode) off)) in
     let none : wait_till cause.Session n.id (deadline_of w.tables n.id) ≡ [] =
     ap (λ (b : Bool). cond b (wait_till cause.Session n.id (deadline_of w.tables n.id)) []) (sym silent)
     ∙ (no-waits w quiet.1).session n h in
@@ -131,10 +132,6 @@ still-there clock e state.Rejected o hand step phase = absurd cc
 still-there clock e state.Remove o hand step phase = absurd cc
 still-there clock e state.Orphaned o hand step phase = absurd cc
 
-no-step : (o : Option Executor) → is_some o ≡ false → o ≡ None
-no-step None e = refl
-no-step (Some x) e = absurd cc
-
 quiet-agent : (w : World) → IsQuiet w → (a : NodeAgent) → Has w.agents a → is_mode_on a.mode ≡ true →
     is_session_live w.tables a.node ≡ true → IsQuietAgent w a
 quiet-agent w quiet a h on live = record {
@@ -143,7 +140,7 @@ quiet-agent w quiet a h on live = record {
   message = unsent (message_for w a.node) refl;
   executors = λ e k hand. still-there w.tables.clock e e.state e.stopping hand (unstepped e k) (untimed e k);
   reports = λ e k.
-      refuted (wants_report w.tables e)
+      false_from_ne_true (wants_report w.tables e)
       (λ wants.
       no-duty w quiet.0 (duty.Report a.node e.task)
       (record {
@@ -176,8 +173,8 @@ quiet-agent w quiet a h on live = record {
 
     unstepped : (e : Executor) → Has a.executors e → executor_step w.tables.clock e ≡ None
     unstepped e k =
-        no-step (executor_step w.tables.clock e)
-        (refuted (has_step w.tables.clock e)
+        no_step (executor_step w.tables.clock e)
+        (false_from_ne_true (has_step w.tables.clock e)
         (λ steps.
         no-duty w quiet.0 (duty.Exec a.node e.task)
         (record {

@@ -3,8 +3,8 @@ use Rattle.std.proofs.Common.{List, None, Option, Some, ap, arith, false, length
 use Rattle.std.proofs.lemmas.Bool.Decides.{nat_tests}
 use Rattle.std.specs.Prelude.{nat_lt}
 use Rattle.swarm_matching.proofs.Rest.{least-none, no-duty}
-use Rattle.swarm_matching.proofs.Tests.{refuted}
 use Rattle.swarm_matching.specs.Rest.{IsAtRest}
+use Rattle.swarm_objects.proofs.Tests.{false_from_ne_true}
 use Rattle.swarm_objects.specs.Loops.Replicated.{down_cmp, first_to_go}
 use Rattle.swarm_objects.specs.Rows.{Has, first_gap}
 use Rattle.swarm_objects.specs.Tasks.Places.{held_places}
@@ -22,7 +22,7 @@ HasReplicas w =
 none-more : (w : World) → IsAtRest w → (s : Service) (n : ℕ) → Has w.tables.services s →
     s.spec.mode ≡ mode.Replicated n → nat_lt n (length (held_places w.tables s)) ≡ false
 none-more w rest s n h e =
-    refuted (nat_lt n (length (held_places w.tables s))) (λ more. go more (first_to_go w.tables s) refl)
+    false_from_ne_true (nat_lt n (length (held_places w.tables s))) (λ more. go more (first_to_go w.tables s) refl)
   where
     go : nat_lt n (length (held_places w.tables s)) ≡ true → (o : Option ℕ) → first_to_go w.tables s ≡ o → ⊥
     go more (Some k) first =
@@ -36,7 +36,7 @@ none-more w rest s n h e =
 none-fewer : (w : World) → IsAtRest w → (s : Service) (n : ℕ) → Has w.tables.services s →
     s.spec.mode ≡ mode.Replicated n → nat_lt (length (held_places w.tables s)) n ≡ false
 none-fewer w rest s n h e =
-    refuted (nat_lt (length (held_places w.tables s)) n)
+    false_from_ne_true (nat_lt (length (held_places w.tables s)) n)
     (λ fewer.
     no-duty w rest (duty.ReplicatedCreate s.id (first_gap 1 (held_places w.tables s)))
     (record { row = s; there = h; id_is = refl; fact = (n, e, fewer, refl) }))

@@ -1,5 +1,5 @@
 -- The settle answer taken apart: what is empty in a world at rest, in a quiet one and in a settled one.
-use Rattle.std.proofs.Common.{Bool, List, None, Option, Some, [], cond, false, inl, inr, refl, subst, true, ◌++◌, ◌∙◌, ◌∷◌, ◌≡◌}
+use Rattle.std.proofs.Common.{Bool, List, None, Option, Some, [], cond, false, inl, inr, refl, true, ◌++◌, ◌∙◌, ◌∷◌, ◌≡◌}
 use Rattle.std.specs.Option.{option_map}
 use Rattle.std.specs.Prelude.{find, flat_map, option_to_list}
 use Rattle.std.specs.declared.cmp.Ordering.{Ordering}
@@ -7,6 +7,7 @@ use Rattle.std.specs.Ordering.{is_lt}
 use Rattle.swarm_matching.specs.Rest.{IsAtRest, IsQuiet, IsSettled}
 use Rattle.swarm_model.proofs.Base.IsDuty.{IsDuty}
 use Rattle.swarm_model.proofs.Base.ToLists.{Has-IsDuty}
+use Rattle.swarm_model.proofs.SettleLaws.{nothing_first}
 use Rattle.swarm_model.specs.Settle.{Wait, executor_wait, first_wait, held_answer, held_by, idle_answer, is_holding, is_paused, paused_by, remote_wait, session_wait, start_wait, update_wait, wait_cmp, waiting_answer, waits}
 use Rattle.swarm_objects.proofs.Empty.{append_empty, empty-has, flat_map_empty}
 use Rattle.swarm_objects.proofs.RowLemmas.{Has-append_cases, Has-flat_map_cases}
@@ -40,21 +41,10 @@ has-role role.Scheduler = inr (inr (inr (inr (inr (inr (inr (inr (inl refl))))))
 has-role role.Reaper = inr (inr (inr (inr (inr (inr (inr (inr (inr (inl refl)))))))))
 has-role role.Agents = inr (inr (inr (inr (inr (inr (inr (inr (inr (inr (inl refl))))))))))
 
-nothing-first : (w : World) (rs : List Role) (r : Role) → first_duty w rs ≡ None → Has rs r → duties r w ≡ []
-nothing-first w [] r e h = absurd h
-nothing-first w (x ∷ rs) r e h = go (duties x w) refl e h (nothing-first w rs r)
-  where
-    go : (ds : List Duty) → duties x w ≡ ds →
-        ◌≡◌ {A = Option Duty} (elim (first_of ds) [ Some d ↦ Some d | None ↦ first_duty w rs ]) None → Has (x ∷ rs) r →
-        (first_duty w rs ≡ None → Has rs r → duties r w ≡ []) → duties r w ≡ []
-    go [] q n (inl k) rest = subst (λ z. duties z w ≡ []) k q
-    go [] q n (inr k) rest = rest n k
-    go (d ∷ ds) q n k rest = absurd cc
-
 -- what is a duty is none in a world at rest
 pub no-duty : (w : World) → IsAtRest w → (d : Duty) → ¬ (IsDuty w d)
 no-duty w e d is =
-    empty-has (duties (role_of d) w) d (nothing-first w roles (role_of d) e (has-role (role_of d))) (Has-IsDuty w d is)
+    empty-has (duties (role_of d) w) d (nothing_first w roles (role_of d) e (has-role (role_of d))) (Has-IsDuty w d is)
 
 -- The answer.
 

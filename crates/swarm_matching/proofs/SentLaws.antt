@@ -3,12 +3,12 @@ use Rattle.std.proofs.Common.{None, Option, Some, ap, false, is_some, refl, subs
 use Rattle.std.specs.Option.{option_map}
 use Rattle.swarm_matching.proofs.Aims.{Aim, aim, aim_at, applied-aims, is_gone, is_kept, updated-some, will}
 use Rattle.swarm_matching.proofs.InStep.{InStep}
-use Rattle.swarm_matching.proofs.Tests.{is-not, no-way, refuted}
 use Rattle.swarm_matching.proofs.TogetherCalls.{together-replay}
 use Rattle.swarm_matching.specs.Sent.{AreAsSent, HasOwners, IsAsSent, OwnersLaw, SentLaw, executor_next}
 use Rattle.swarm_model.proofs.Laws.Prefixes.{each-prefix}
 use Rattle.swarm_model.specs.History.{replay}
 use Rattle.swarm_objects.proofs.RowLemmas.{Has-from_row_at}
+use Rattle.swarm_objects.proofs.Tests.{false_from_ne_true, never-both, not_from_false}
 use Rattle.swarm_objects.specs.Agents.Messages.{sent_of}
 use Rattle.swarm_objects.specs.Loops.Agents.{take_in}
 use Rattle.swarm_objects.specs.Rows.{Has, has_row, row_at, task_id}
@@ -39,10 +39,10 @@ as-sent w a is = record {
       with-aim (executor_next clock a i.task) i.desired (next-aim clock a a.inbox i.task ∙ is.items s i at h);
   others = λ s e clock task at there alive.
       is.others s task at
-      (subst (λ (o : Option Aim). is_kept o ≡ true) (sym (aims e clock task there)) (is-not e.gone alive));
+      (subst (λ (o : Option Aim). is_kept o ≡ true) (sym (aims e clock task there)) (not_from_false e.gone alive));
   gone = λ e clock task there dead.
       let lost = is.gone task (subst (λ (o : Option Aim). is_gone o ≡ true) (sym (aims e clock task there)) dead) in
-      refuted (has_row task_id task w.tables.tasks)
+      false_from_ne_true (has_row task_id task w.tables.tasks)
       (λ has. none task (row_at task_id task w.tables.tasks) refl has lost.away);
   updates = λ m i at h.
       is.made i.task
@@ -56,7 +56,7 @@ as-sent w a is = record {
     none : (task : ℕ) (o : Option Task) → row_at task_id task w.tables.tasks ≡ o →
         is_some (row_at task_id task w.tables.tasks) ≡ true →
         ¬ ((y : Task) → Has w.tables.tasks y → ¬ (y.id ≡ task))
-    none task None at has away = no-way _ (ap is_some at) has
+    none task None at has away = never-both _ (ap is_some at) has
     none task (Some x) at has away =
         let row = Has-from_row_at task_id task w.tables.tasks x at in away x row.0 row.1
 

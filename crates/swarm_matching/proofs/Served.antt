@@ -1,8 +1,7 @@
 -- Where nothing is to be sent or reported, tasks of a node and executors of its agent are one for one.
 use Rattle.std.proofs.Common.{Bool, List, None, Option, Some, [], ap, arith, cond, eqb, false, not, refl, subst, sym, true, ℕ, ◌∙◌, ◌∷◌, ◌≡◌, ◌≤◌}
 use Rattle.std.proofs.lemmas.Bool.Decides.{nat_tests}
-use Rattle.std.specs.Option.{option_eq, option_map}
-use Rattle.swarm_objects.specs.Same.{same_number}
+use Rattle.std.specs.Option.{option_map}
 use Rattle.std.specs.Prelude.{⊤}
 use Rattle.std.specs.Prelude.{filter, is_some, nat_le, ◌&&◌, ◌||◌}
 use Rattle.swarm_matching.proofs.Ahead.{ahead-replay}
@@ -13,16 +12,16 @@ use Rattle.swarm_matching.proofs.Known.{Known, known-replay}
 use Rattle.swarm_matching.proofs.QuietAgents.{quiet-agents}
 use Rattle.swarm_matching.proofs.SentLaws.{with-aim}
 use Rattle.swarm_matching.proofs.ShapeDuties.{found}
-use Rattle.swarm_matching.proofs.Tests.{any-cases, is-not, or-left, or-right}
 use Rattle.swarm_matching.proofs.Together.{any-rising, due-rising, is-due-there}
 use Rattle.swarm_matching.proofs.TogetherCalls.{together-replay}
 use Rattle.swarm_matching.specs.Agents.{AreAhead, IsAhead, IsQuietAgent}
 use Rattle.swarm_matching.specs.Served.{IsExecutorOf, IsOnNode, ServedLaw}
-use Rattle.swarm_model.proofs.Moves.Duties.{and-left, and-right}
 use Rattle.swarm_model.proofs.Moves.Rows.{has_row-Has}
+use Rattle.swarm_model.proofs.Laws.GivesOut.{on-is}
 use Rattle.swarm_model.specs.History.{IsLegal, replay}
 use Rattle.swarm_objects.proofs.Empty.{flat_map_empty}
 use Rattle.swarm_objects.proofs.RowLemmas.{Has-filter_cases, Has-from_row_at, Has-map_cases, row_at-Some}
+use Rattle.swarm_objects.proofs.Tests.{any-has, first_so, not_from_false, or_left, or_right, second_so}
 use Rattle.swarm_objects.specs.Agents.Messages.{assigned, assigned_task, change_of, changes_of, due_set, is_assigned_on, is_sent, message_with, next_message, same_assigned, sent_of, tasks_of_either, update_of}
 use Rattle.swarm_objects.specs.Loops.Agents.{is_news, wants_report}
 use Rattle.swarm_objects.specs.Rows.{Has, IsRising, RisesFrom, agent_node, executor_task, has_row, on_row, row_at, task_id}
@@ -61,7 +60,7 @@ none-sent-first (Some s) due e = (s, refl, go (changes_of s.tasks due) refl e)
 unchanged : (sent due : List Assigned) → changes_of sent due ≡ [] → (x : ℕ) →
     (has_row assigned_task x sent || has_row assigned_task x due) ≡ true → change_of sent due x ≡ []
 unchanged sent due none x there =
-    let key = any-cases (λ k. eqb k x) (tasks_of_either sent due) (keys-has x sent due ∙ there) in
+    let key = any-has (λ k. eqb k x) (tasks_of_either sent due) (keys-has x sent due ∙ there) in
     let is : key.0 ≡ x = (let e = key.2 in grind (arith, nat_tests, e)) in
     subst (λ (k : ℕ). change_of sent due k ≡ []) is
     (flat_map_empty (change_of sent due) (tasks_of_either sent due) key.0 none key.1)
@@ -110,11 +109,11 @@ all-sent s due rises none = record {
       let at = row_at-Some assigned_task 0 due i rises h in
       still-sent s.tasks due i (any-rising 0 due rises) at
       (unchanged s.tasks due none i.task
-      (or-right (has_row assigned_task i.task s.tasks) (has_row assigned_task i.task due)
+      (or_right (has_row assigned_task i.task s.tasks) (has_row assigned_task i.task due)
       (ap (λ (o : Option Assigned). is_some o) at)));
   are_due = λ x there.
       still-due s.tasks due x
-      (unchanged s.tasks due none x (or-left (has_row assigned_task x s.tasks) (has_row assigned_task x due) there));
+      (unchanged s.tasks due none x (or_left (has_row assigned_task x s.tasks) (has_row assigned_task x due) there));
 }
 
 -- Reports.
@@ -136,7 +135,7 @@ no-further w e x ahead quiet alive h same =
     let there : has_row task_id e.task w.tables.tasks ≡ true = has_row-Has task_id w.tables.tasks x e.task h same in
     let told = not-news e.state e.reported
     (first-two (not e.gone) (has_row task_id e.task w.tables.tasks) (is_news e.state e.reported)
-    (is-not e.gone alive) there quiet) in
+    (not_from_false e.gone alive) there quiet) in
     let up = (ahead.reported told.0 told.1).1 x h same in
     omega (arith, told.2, up)
 
@@ -156,7 +155,7 @@ wanted : (w : World) (n : Node) (a : NodeAgent) (s : NodeSent) → IsAgreed w n 
     (e : Executor) × (row_at executor_task x.id a.executors ≡ Some e) × (e.desired ≡ x.desired) × (e.gone ≡ false)
 wanted w n a s is x h on =
     let sent = is.all.are_sent (assigned x) (is-due-there w.tables n.id x h on.node on.assigned) in
-    let item = any-cases (same_assigned (assigned x)) s.tasks sent in
+    let item = any-has (same_assigned (assigned x)) s.tasks sent in
     let same = same-aim (assigned x) item.0 item.2 in
     let aimed : aim_at a.executors x.id ≡ Some (item.0.desired, false) =
     subst (λ (k : ℕ). aim_at a.executors k ≡ Some (item.0.desired, false)) same.0
@@ -179,10 +178,6 @@ serve w n a s is x h on =
       },
     )
 
-pub on-node : (o : Option ℕ) (k : ℕ) → option_eq same_number o (Some k) ≡ true → o ≡ Some k
-on-node None k q = absurd cc
-on-node (Some j) k q = let is : j ≡ k = grind (arith, nat_tests, q) in ap (λ (i : ℕ). Some i) is
-
 some-row : (key : ℕ) (rows : List Assigned) → has_row assigned_task key rows ≡ true →
     (i : Assigned) × (row_at assigned_task key rows ≡ Some i)
 some-row key rows there = go (row_at assigned_task key rows) there
@@ -199,12 +194,12 @@ due-task w n k due =
     let row = Has-from_row_at assigned_task k (due_set w.tables n.id) i.0 i.1 in
     let from = Has-map_cases assigned (filter (is_assigned_on n.id) w.tables.tasks) i.0 row.0 in
     let x = Has-filter_cases (is_assigned_on n.id) w.tables.tasks from.0 from.1 in
-    let up = and-left (nat_le (rank state.Assigned) (rank from.0.state)) (is_on n.id from.0) x.1 in
-    let there = and-right (nat_le (rank state.Assigned) (rank from.0.state)) (is_on n.id from.0) x.1 in (
+    let up = first_so (nat_le (rank state.Assigned) (rank from.0.state)) (is_on n.id from.0) x.1 in
+    let there = second_so (nat_le (rank state.Assigned) (rank from.0.state)) (is_on n.id from.0) x.1 in (
       from.0,
       x.0,
       ap assigned_task from.2 ∙ row.1,
-      record { node = on-node from.0.node n.id there; assigned = grind (arith, nat_tests, up) },
+      record { node = on-is from.0.node n.id there; assigned = grind (arith, nat_tests, up) },
     )
 
 -- an executor that isn't gone is of a number that is due
@@ -214,7 +209,7 @@ due-number : (w : World) (n : Node) (a : NodeAgent) (s : NodeSent) → IsAgreed 
 due-number w n a s is e here alive =
     is.all.are_due e.task
     (is.step.others s e.task refl
-    (subst (λ (o : Option Executor). is_kept (option_map aim o) ≡ true) (sym here) (is-not e.gone alive)))
+    (subst (λ (o : Option Executor). is_kept (option_map aim o) ≡ true) (sym here) (not_from_false e.gone alive)))
 
 back : (w : World) (n : Node) (a : NodeAgent) (s : NodeSent) → IsAgreed w n a s → (e : Executor) →
     Has a.executors e → e.gone ≡ false →

@@ -4,9 +4,9 @@ use Rattle.std.proofs.lemmas.Bool.Decides.{nat_tests}
 use Rattle.std.specs.Prelude.{◌&&◌, ◌==◌, ◌||◌}
 use Rattle.swarm_matching.proofs.PlaceLists.{SamePlaces, counts-of}
 use Rattle.swarm_matching.proofs.Shapes.{Base, Respecifies, RunStep, SameButRun, begins, ends, goes_back}
-use Rattle.swarm_matching.proofs.Tests.{no-way, refuted}
-use Rattle.swarm_model.proofs.Laws.OneEach.{IsAlike}
+use Rattle.swarm_model.proofs.Laws.OneEach.{job-alike}
 use Rattle.swarm_model.specs.Calls.Services.{next_iteration}
+use Rattle.swarm_objects.proofs.Tests.{false_from_ne_true, never-both}
 use Rattle.swarm_objects.specs.Rows.{Has}
 use Rattle.swarm_objects.specs.Services.Words.{is_job}
 use Rattle.swarm_objects.specs.Tasks.Places.{counts_for}
@@ -16,17 +16,6 @@ use Rattle.swarm_objects.specs.declared.services.Mode.{Mode}
 use Rattle.swarm_objects.specs.declared.services.Service.{Service}
 use Rattle.swarm_objects.specs.declared.services.ServiceSpec.{ServiceSpec}
 use Rattle.swarm_objects.specs.declared.tasks.Task.{Task}
-
-pub alike-job : (a b : Mode) → IsAlike a b → is_job a ≡ is_job b
-alike-job (mode.Replicated a) (mode.Replicated b) e = refl
-alike-job mode.Global mode.Global e = refl
-alike-job (mode.Job a b) (mode.Job c d) e = refl
-alike-job (mode.Replicated a) mode.Global e = absurd cc
-alike-job (mode.Replicated a) (mode.Job c d) e = absurd cc
-alike-job mode.Global (mode.Replicated b) e = absurd cc
-alike-job mode.Global (mode.Job c d) e = absurd cc
-alike-job (mode.Job a b) (mode.Replicated c) e = absurd cc
-alike-job (mode.Job a b) mode.Global e = absurd cc
 
 but-run-places : (s v : Service) → SameButRun s v → SamePlaces s v
 but-run-places s v but =
@@ -38,14 +27,9 @@ run-places e t s v (begins run but at version way) = but-run-places s v but
 run-places e t s v (ends old run but at to version none) = but-run-places s v but
 run-places e t s v (goes_back spec run id previous is alike iteration template at version way) = record {
   id = id;
-  job = ap (λ (q : ServiceSpec). is_job q.mode) is ∙ alike-job spec.mode s.spec.mode alike;
+  job = ap (λ (q : ServiceSpec). is_job q.mode) is ∙ job-alike spec.mode s.spec.mode alike;
   now = λ j. iteration;
 }
-
-next-still : (m : Mode) (k : ℕ) → is_job m ≡ false → next_iteration m k ≡ k
-next-still (mode.Replicated n) k e = refl
-next-still mode.Global k e = refl
-next-still (mode.Job c n) k e = absurd cc
 
 next-more : (m : Mode) (k : ℕ) → is_job m ≡ true → next_iteration m k ≡ k + 1
 next-more (mode.Replicated n) k e = absurd cc
@@ -57,20 +41,20 @@ pub respecified-places : (e : ℕ) (spec : ServiceSpec) (s v : Service) → Resp
     is_job s.spec.mode ≡ false → SamePlaces s v
 respecified-places e spec s v r no_job = record {
   id = r.id;
-  job = ap (λ (q : ServiceSpec). is_job q.mode) r.spec_is ∙ alike-job spec.mode s.spec.mode r.alike;
-  now = λ j. no-way (is_job s.spec.mode) no_job j;
+  job = ap (λ (q : ServiceSpec). is_job q.mode) r.spec_is ∙ job-alike spec.mode s.spec.mode r.alike;
+  now = λ j. never-both (is_job s.spec.mode) no_job j;
 }
 
 -- and no task counts for a job with a new one
 pub respecified-none : (e : ℕ) (t : Tables) (spec : ServiceSpec) (s v : Service) → Base t → Has t.services s →
     Respecifies e spec s v → is_job s.spec.mode ≡ true → (x : Task) → Has t.tasks x → counts_for v x ≡ false
 respecified-none e t spec s v base there r job x h =
-    refuted (counts_for v x)
+    false_from_ne_true (counts_for v x)
     (λ counts.
     let most = base.most x s h there (counts-of v x counts ∙ r.id) in
     let later : v.iteration ≡ s.iteration + 1 = r.iteration ∙ next-more s.spec.mode s.iteration job in
     let job_too : is_job v.spec.mode ≡ true =
-    ap (λ (q : ServiceSpec). is_job q.mode) r.spec_is ∙ alike-job spec.mode s.spec.mode r.alike ∙ job in
+    ap (λ (q : ServiceSpec). is_job q.mode) r.spec_is ∙ job-alike spec.mode s.spec.mode r.alike ∙ job in
     let now : x.iteration ≡ v.iteration = iteration-of v x counts job_too in
     omega (arith, most, later, now))
   where

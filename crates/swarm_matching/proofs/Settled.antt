@@ -10,14 +10,13 @@ use Rattle.swarm_matching.proofs.EndedRuns.{IsRunDone}
 use Rattle.swarm_matching.proofs.Known.{Known}
 use Rattle.swarm_matching.proofs.Rest.{NoWaits, least-none, no-duty, no-waits, none-held, none-paused, settled-quiet}
 use Rattle.swarm_matching.proofs.Shapes.{is_done}
-use Rattle.swarm_matching.proofs.Tests.{any-cases, any-has, both, is-not, no-way, or-cases, proved, refuted, some-and, some-and-cases}
 use Rattle.swarm_matching.proofs.Wholes.{number-is}
 use Rattle.swarm_matching.specs.Rest.{IsAtRest, IsSettled}
 use Rattle.swarm_model.proofs.Laws.Timely.{first-none}
-use Rattle.swarm_model.proofs.Moves.Duties.{and-left, and-right}
 use Rattle.swarm_model.specs.Settle.{flight_times, flight_wait, has_waiting_place, held_answer, is_holding, is_paused_status, least_time, run_wait, wait_till, watch_times, watch_wait}
 use Rattle.swarm_objects.proofs.Empty.{append_empty, empty-has, filter_empty, map_empty}
 use Rattle.swarm_objects.proofs.RowLemmas.{Has-filter, Has-filter_cases, Has-flat_map}
+use Rattle.swarm_objects.proofs.Tests.{any-has, both, false_from_ne_true, first_so, has-any, never-both, not_from_false, or_cases, second_so, some-and, some-and-cases, true_from_ne_false}
 use Rattle.swarm_objects.specs.Loops.Update.{is_to_replace, is_watched, lets_replace}
 use Rattle.swarm_objects.specs.Rows.{Has, is_some_and, on_row}
 use Rattle.swarm_objects.specs.Services.Runs.{fails, flying_tasks, has_open_run, has_room, in_flight, is_flying, is_in_flight, is_of_version, is_open, is_under_way}
@@ -79,7 +78,7 @@ record OpenRun (w : World) (s : Service) (run : UpdateRun) : Type 0 where
 
 not-failing : (w : World) (s : Service) (run : UpdateRun) → IsAtRest w → OpenRun w s run → fails w.tables s run ≡ false
 not-failing w s run rest o =
-    refuted (fails w.tables s run)
+    false_from_ne_true (fails w.tables s run)
     (λ failing.
     no-duty w rest (duty.Fail s.id)
     (record { row = s; there = o.there; id_is = refl; fact = (o.no_job, (run, o.run_is, o.way, failing)) }))
@@ -99,7 +98,7 @@ no-clean-run : (w : World) (s : Service) (run : UpdateRun) → IsSettled w → O
 no-clean-run w s run is o clean =
     let rest = settled-rests w is in
     let not_all : list_all (is_watched w.tables s) run.replaced ≡ false =
-    refuted (list_all (is_watched w.tables s) run.replaced)
+    false_from_ne_true (list_all (is_watched w.tables s) run.replaced)
     (λ all.
     no-duty w rest (duty.Finish s.id)
     (record {
@@ -115,8 +114,8 @@ no-clean-run w s run is o clean =
           both (not (has_dirty_place w.tables s) && list_all (is_watched w.tables s) run.replaced)
               (not (fails w.tables s run))
               (both (not (has_dirty_place w.tables s)) (list_all (is_watched w.tables s) run.replaced)
-              (is-not (has_dirty_place w.tables s) clean) all)
-              (is-not (fails w.tables s run) (not-failing w s run rest o)),
+              (not_from_false (has_dirty_place w.tables s) clean) all)
+              (not_from_false (fails w.tables s run) (not-failing w s run rest o)),
         ),
       );
     })) in
@@ -126,15 +125,15 @@ no-clean-run w s run is o clean =
     let none = map_empty (λ (i : Replaced). i.created + s.spec.update.monitor)
     (filter (λ i. not (is_watched w.tables s i)) run.replaced)
     (no-time cause.Update s.id (watch_times w.tables s run) waits) in
-    no-way (not (is_watched w.tables s one.0))
+    never-both (not (is_watched w.tables s one.0))
     (filter_empty (λ i. not (is_watched w.tables s i)) run.replaced one.0 none one.1)
-    (is-not (is_watched w.tables s one.0) one.2)
+    (not_from_false (is_watched w.tables s one.0) one.2)
 
 -- a clean live task of the service isn't below RUNNING
 not-holding : (w : World) (s : Service) (run : UpdateRun) (x : Task) → IsSettled w → OpenRun w s run →
     Has w.tables.tasks x → is_of s.id x ≡ true → is_live_clean s x ≡ true → is_below_running x ≡ false
 not-holding w s run x is o h of clean =
-    refuted (is_below_running x)
+    false_from_ne_true (is_below_running x)
     (λ below.
     let holding = both (is_of s.id x && is_live_clean s x) (is_below_running x)
     (both (is_of s.id x) (is_live_clean s x) of clean) below in
@@ -142,7 +141,7 @@ not-holding w s run x is o h of clean =
     let none : option_to_list (option_map (held_answer s.id) (find (is_holding s) w.tables.tasks)) ≡ [] =
     ap (λ (b : Bool). cond b (option_to_list (option_map (held_answer s.id) (find (is_holding s) w.tables.tasks))) [])
     (sym has_run) ∙ none-held w s is o.there in
-    no-way (is_holding s x)
+    never-both (is_holding s x)
     (first-none (is_holding s) w.tables.tasks x (not-found (find (is_holding s) w.tables.tasks) none) h) holding)
   where
     not-found : (q : Option Task) → option_to_list (option_map (held_answer s.id) q) ≡ [] → q ≡ None
@@ -150,19 +149,19 @@ not-holding w s run x is o h of clean =
     not-found (Some y) e = absurd cc
 
 of-place : (s : Service) (p : _) (x : Task) → is_in_place s p x ≡ true → is_of s.id x ≡ true
-of-place s p x e = and-left (is_of s.id x) _ (and-left (counts_for s x) _ e)
+of-place s p x e = first_so (is_of s.id x) _ (first_so (counts_for s x) _ e)
 
 -- a place that waits for another one's new task
 no-waiting-place : (w : World) (s : Service) (run : UpdateRun) (k : ℕ) → IsSettled w → OpenRun w s run →
     is_of_version s run ≡ true → Has (place_numbers w.tables s) k → is_to_replace w.tables s k ≡ true → ⊥
-no-waiting-place w s run k is o version h waiting = go (any-cases (is_in_flight w.tables s) run.replaced some_flying)
+no-waiting-place w s run k is o version h waiting = go (any-has (is_in_flight w.tables s) run.replaced some_flying)
   where
     rest : IsAtRest w
     rest = settled-rests w is
 
     no_room : has_room w.tables s run ≡ false
     no_room =
-        refuted (has_room w.tables s run)
+        false_from_ne_true (has_room w.tables s run)
         (λ room.
         no-duty w rest (duty.Replace s.id k)
         (record {
@@ -178,7 +177,7 @@ no-waiting-place w s run k is o version h waiting = go (any-cases (is_in_flight 
               (
                 both (is_of_version s run) (lets_replace w.tables s run) version
                     (both (has_room w.tables s run) (not (fails w.tables s run)) room
-                    (is-not (fails w.tables s run) (not-failing w s run rest o))),
+                    (not_from_false (fails w.tables s run) (not-failing w s run rest o))),
                 (h, waiting),
               ),
             ),
@@ -187,31 +186,31 @@ no-waiting-place w s run k is o version h waiting = go (any-cases (is_in_flight 
 
     some_flying : list_any (is_in_flight w.tables s) run.replaced ≡ true
     some_flying =
-        proved (list_any (is_in_flight w.tables s) run.replaced)
+        true_from_ne_false (list_any (is_in_flight w.tables s) run.replaced)
         (λ none.
         let zero_count : in_flight w.tables s run ≡ 0 = count-none (is_in_flight w.tables s) run.replaced none in
-        no-way (has_room w.tables s run) no_room
+        never-both (has_room w.tables s run) no_room
         (grind (arith, nat_tests, zero_count)))
 
     flights : flight_times w.tables s run ≡ []
     flights =
         let waits : has_waiting_place w.tables s ≡ true =
-        any-has (is_to_replace w.tables s) (place_numbers w.tables s) k h waiting in
+        has-any (is_to_replace w.tables s) (place_numbers w.tables s) k h waiting in
         let blocked = both (has_waiting_place w.tables s) (not (has_room w.tables s run)) waits
-        (is-not (has_room w.tables s run) no_room) in
+        (not_from_false (has_room w.tables s run) no_room) in
         no-time cause.Update s.id (flight_times w.tables s run)
         (ap (λ (b : Bool). cond b (wait_till cause.Update s.id (least_time (flight_times w.tables s run))) [])
         (sym blocked) ∙ (run-waits w s run is o).0)
 
     go : (i : Replaced) × Has run.replaced i × (is_in_flight w.tables s i ≡ true) → ⊥
     go one =
-        let fly = any-cases (is_flying w.tables s) (tasks_of_place s one.0.place w.tables.tasks) one.2 in
+        let fly = any-has (is_flying w.tables s) (tasks_of_place s one.0.place w.tables.tasks) one.2 in
         let x = fly.0 in
         let x_in = Has-filter_cases (is_in_place s one.0.place) w.tables.tasks x fly.1 in
-        let clean = and-left (is_live_clean s x) _ fly.2 in
+        let clean = first_so (is_live_clean s x) _ fly.2 in
         let high = not-holding w s run x is o x_in.0 (of-place s one.0.place x x_in.1) clean in
         let runs = by (is_below_running x) (is_running x) (nat_lt w.tables.clock (x.since + s.spec.update.delay))
-        (or-cases (is_below_running x) _ (and-right (is_live_clean s x) _ fly.2)) high in
+        (or_cases (is_below_running x) _ (second_so (is_live_clean s x) _ fly.2)) high in
         let flown = Has-flat_map (flying_tasks w.tables s) run.replaced one.0 x one.1
         (Has-filter (is_flying w.tables s) (tasks_of_place s one.0.place w.tables.tasks) x fly.1 fly.2) in
         let none = map_empty (λ (y : Task). y.since + s.spec.update.delay)
@@ -220,14 +219,14 @@ no-waiting-place w s run k is o version h waiting = go (any-cases (is_in_flight 
         (Has-filter is_running (flat_map (flying_tasks w.tables s) run.replaced) x flown runs)
       where
         by : (a b c : Bool) → (a ≡ true) ⊎ ((b && c) ≡ true) → a ≡ false → b ≡ true
-        by a b c (inl e) f = no-way a f e
-        by a b c (inr e) f = and-left b c e
+        by a b c (inl e) f = never-both a f e
+        by a b c (inr e) f = first_so b c e
 
 -- no run is under way
 pub no-run : (w : World) (s : Service) (run : UpdateRun) → Known w → IsSettled w → Has w.tables.services s →
     is_job s.spec.mode ≡ false → s.run ≡ Some run → is_under_way run ≡ false
 no-run w s run known is h no_job e =
-    refuted (is_under_way run)
+    false_from_ne_true (is_under_way run)
     (λ way. go (record { there = h; no_job = no_job; run_is = e; way = way }) (has_dirty_place w.tables s) refl)
   where
     rest : IsAtRest w
@@ -238,22 +237,22 @@ no-run w s run known is h no_job e =
     by_place o k version there dirty false clean =
         no-waiting-place w s run k is o version there
         (both (is_dirty_place w.tables s k) (not (has_clean w.tables s k)) dirty
-        (is-not (has_clean w.tables s k) clean))
+        (not_from_false (has_clean w.tables s k) clean))
     by_place o k version there dirty true clean =
-        let one = any-cases (is_live_clean s) (place_tasks w.tables s k) clean in
+        let one = any-has (is_live_clean s) (place_tasks w.tables s k) clean in
         let x = one.0 in
         let x_in = Has-filter_cases (is_in_place s (place_at s.spec.mode k)) w.tables.tasks x one.1 in
         let high = not-holding w s run x is o x_in.0 (of-place s (place_at s.spec.mode k) x x_in.1) one.2 in
-        let live = and-left (is_live x) (is_clean s x) one.2 in
+        let live = first_so (is_live x) (is_clean s x) one.2 in
         let over = never-ended w known rest x x_in.0 live in
         let running : is_running x ≡ true =
         (let a : 512 ≤ rank x.state = grind (arith, nat_tests, high) in
         let b : rank x.state ≤ 512 = grind (arith, nat_tests, over) in
         grind (arith, nat_tests, a, b)) in
         let runs : list_any (λ y. is_live_clean s y && is_running y) (place_tasks w.tables s k) ≡ true =
-        any-has (λ y. is_live_clean s y && is_running y) (place_tasks w.tables s k) x one.1
+        has-any (λ y. is_live_clean s y && is_running y) (place_tasks w.tables s k) x one.1
         (both (is_live_clean s x) (is_running x) one.2 running) in
-        let alive : has_live w.tables s k ≡ true = any-has is_live (place_tasks w.tables s k) x one.1 live in
+        let alive : has_live w.tables s k ≡ true = has-any is_live (place_tasks w.tables s k) x one.1 live in
         let old = dirty_live (list_any (is_live_dirty s) (place_tasks w.tables s k)) (has_live w.tables s k)
         (is_some_and (closes_dirty s) (newest (place_tasks w.tables s k))) alive dirty in
         no-duty w rest (duty.Swap s.id k)
@@ -286,9 +285,9 @@ no-run w s run known is h no_job e =
     go : (o : OpenRun w s run) (b : Bool) → has_dirty_place w.tables s ≡ b → ⊥
     go o false clean = no-clean-run w s run is o clean
     go o true dirty =
-        let at = any-cases (is_dirty_place w.tables s) (place_numbers w.tables s) dirty in
+        let at = any-has (is_dirty_place w.tables s) (place_numbers w.tables s) dirty in
         let version : is_of_version s run ≡ true =
-        proved (is_of_version s run)
+        true_from_ne_false (is_of_version s run)
         (λ other.
         no-duty w rest (duty.Start s.id)
         (record {
@@ -298,7 +297,7 @@ no-run w s run known is h no_job e =
           fact = (
             no_job,
             both (has_dirty_place w.tables s) (not (is_some_and (is_of_version s) s.run)) dirty
-                (is-not (is_some_and (is_of_version s) s.run)
+                (not_from_false (is_some_and (is_of_version s) s.run)
                 (ap (λ (q : Option UpdateRun). is_some_and (is_of_version s) q) e ∙ other)),
           );
         })) in
@@ -309,7 +308,7 @@ pub run-done : (w : World) (s : Service) → Known w → IsSettled w → Has w.t
     is_job s.spec.mode ≡ false → has_dirty_place w.tables s ≡ true → IsRunDone s
 run-done w s known is h no_job dirty =
     let version : is_some_and (is_of_version s) s.run ≡ true =
-    proved (is_some_and (is_of_version s) s.run)
+    true_from_ne_false (is_some_and (is_of_version s) s.run)
     (λ other.
     no-duty w (settled-rests w is) (duty.Start s.id)
     (record {
@@ -319,7 +318,7 @@ run-done w s known is h no_job dirty =
       fact = (
         no_job,
         both (has_dirty_place w.tables s) (not (is_some_and (is_of_version s) s.run)) dirty
-            (is-not (is_some_and (is_of_version s) s.run) other),
+            (not_from_false (is_some_and (is_of_version s) s.run) other),
       );
     })) in
     let run = some-and-cases (is_of_version s) s.run version in

@@ -3,9 +3,8 @@ use Rattle.std.proofs.Common.{Bool, Err, List, None, Ok, Option, Some, [], arith
 use Rattle.std.specs.Option.{option_map}
 use Rattle.std.specs.Prelude.{filter, find, not, ◌==◌}
 use Rattle.swarm_model.proofs.Base.Answers.{OnGiven, given-found, given-if, given-if_not, given-unless, given-unless_some, none_of, not_refused}
-use Rattle.swarm_model.proofs.Laws.Kept.{InOrder, Runs, SameRoom, node-keeps, order-of}
+use Rattle.swarm_model.proofs.Laws.Kept.{InOrder, Runs, node-keeps, order-of}
 use Rattle.swarm_model.proofs.Laws.KeptDuties.{runs-same}
-use Rattle.swarm_model.proofs.Moves.Calls.{find-has}
 use Rattle.swarm_model.proofs.Moves.Operations.{op-moves}
 use Rattle.swarm_model.proofs.Moves.Rows.{becomes-filter, between-one}
 use Rattle.swarm_model.proofs.Moves.Worlds.{IsOrderly, Moves, orderly-moves}
@@ -13,7 +12,7 @@ use Rattle.swarm_model.specs.Calls.Faults.{on_agent}
 use Rattle.swarm_model.specs.Calls.Networks.{remove_network}
 use Rattle.swarm_model.specs.Calls.Nodes.{new_node, remove_node, respecified_node, update_node}
 use Rattle.swarm_model.specs.Calls.Operations.{apply_op}
-use Rattle.swarm_model.specs.Calls.Refusals.{Done, bad_spec, conflict, found, has_name, missing_network, name_taken, network_by, node_by, node_name, port_taken, refuse, row_named, same_mode, service_by, service_name}
+use Rattle.swarm_model.specs.Calls.Refusals.{Done, bad_spec, conflict, found, missing_network, name_taken, network_by, node_by, node_name, port_taken, refuse, same_mode, service_by, service_name}
 use Rattle.swarm_model.specs.Calls.Remote.{begin_with, given_or, not_admitted, on_remote, on_session, pulled, report}
 use Rattle.swarm_model.specs.Calls.Services.{broken_draft, create_service, go_back, is_attempt_of, remove_service, rollback_service, update_service, without_service}
 use Rattle.swarm_model.specs.Calls.Views.{View, shows}
@@ -22,6 +21,7 @@ use Rattle.swarm_model.specs.Calls.{answer, viewed}
 use Rattle.swarm_model.specs.History.{step}
 use Rattle.swarm_model.specs.Outcome.{Answered}
 use Rattle.swarm_objects.proofs.RowLemmas.{Has-filter_cases, Has-map}
+use Rattle.swarm_objects.proofs.Filters.{filter_map}
 use Rattle.swarm_objects.specs.Agents.Messages.{message_for}
 use Rattle.swarm_objects.specs.Changes.{id_taken}
 use Rattle.swarm_objects.specs.Limits.{most_events}
@@ -38,9 +38,7 @@ use Rattle.swarm_objects.specs.declared.calls.Op.{Op}
 use Rattle.swarm_objects.specs.declared.ids.Kind.TheVariants as kind
 use Rattle.swarm_objects.specs.declared.messages.Message.{Message}
 use Rattle.swarm_objects.specs.declared.networks.Network.{Network}
-use Rattle.swarm_objects.specs.declared.nodes.Availability.{Availability}
 use Rattle.swarm_objects.specs.declared.nodes.Node.{Node}
-use Rattle.swarm_objects.specs.declared.nodes.NodeRole.{NodeRole}
 use Rattle.swarm_objects.specs.declared.replies.Refusal.TheVariants as refusal
 use Rattle.swarm_objects.specs.declared.replies.Reply.TheVariants as reply
 use Rattle.swarm_objects.specs.declared.replies.Reply.{Reply}
@@ -55,14 +53,15 @@ use Rattle.swarm_objects.specs.declared.watches.Event.{Event}
 use Rattle.swarm_objects.specs.declared.watches.Watcher.{Watcher}
 use Rattle.std.proofs.Common.{ap, ◌++◌, ◌∙◌, ◌∷◌}
 use Rattle.std.specs.Prelude.{fold, map, ⊤}
-use Rattle.swarm_matching.proofs.PlaceLists.{append-none, filter-map}
-use Rattle.swarm_model.proofs.Laws.Within.{regroup}
+use Rattle.swarm_matching.proofs.PlaceLists.{append-none}
 use Rattle.swarm_matching.proofs.ShapeDuties.{hidden-touch, map-push}
 use Rattle.swarm_matching.proofs.ShapeLoops.{put-service, raised-hidden}
 use Rattle.swarm_matching.proofs.ShapeWords.{each-mapped}
 use Rattle.swarm_matching.proofs.Shapes.{OpStep, Respecifies, bare, blank, comes, leaves, respecifies, shape, still}
 use Rattle.swarm_model.proofs.Laws.OfService.{OfServices, of-services-keep}
 use Rattle.swarm_model.proofs.Laws.OneEach.{alike-by, previous-kind}
+use Rattle.swarm_model.proofs.Laws.KeptCalls.{named-has, respecified-room}
+use Rattle.swarm_model.proofs.Moves.Opening.{regroup}
 use Rattle.swarm_model.specs.Calls.Nodes.{is_left_behind, tables_without_node}
 use Rattle.swarm_model.specs.Calls.Remote.{Kept, begun_tables, fits_in, keep_task, keep_other}
 use Rattle.swarm_model.specs.Calls.Services.{filled, new_service, respecified, with_service}
@@ -77,10 +76,6 @@ pub record MadeOp (n : ℕ) (w v : World) : Type 0 where
 
 abbrev IsMade : ℕ → World → Done → Type 0
 IsMade n w done = OnGiven (λ (d : World × ℕ). MadeOp n w d.0) done
-
-named-is : {X : Type 0} (name_of : X → List ℕ) (name : List ℕ) (rows : List X) (x : X) →
-    row_named name_of name rows ≡ Some x → Has rows x
-named-is name_of name rows x e = find-has (has_name name_of name) rows x e
 
 shape-step : (n : ℕ) (w : World) (t : Tables) (ss : List Service) → map bare t.services ≡ ss → t.tasks
     ≡ w.tables.tasks →
@@ -169,7 +164,7 @@ leave-made : (n : ℕ) (w : World) (s : Service) → InOrder w.tables → OfServ
     IsMade n w (remove_service w s)
 leave-made n w s is of = record {
   step = shape-step n w (without_service w.tables s.id) (drop_row service_id s.id (map bare w.tables.services))
-      (sym (filter-map (λ v. not (service_id v == s.id)) bare w.tables.services (λ v. refl))) refl (leaves s.id);
+      (sym (filter_map (λ v. not (service_id v == s.id)) bare w.tables.services (λ v. refl))) refl (leaves s.id);
   of =
       (let left = record w.tables { services = drop_row service_id s.id w.tables.services } in
       of-services-keep.attempts left (filter (λ a. not (is_attempt_of s.id a)) w.tables.attempts)
@@ -180,12 +175,6 @@ leave-made n w s is of = record {
 }
 
 -- Nodes.
-
-same-room : (version clock : ℕ) (labels : List (List ℕ × List ℕ)) (r : NodeRole) (a : Availability) (n m : Node) →
-    n ≡ m → SameRoom clock m (respecified_node version labels r a n)
-same-room version clock labels r a n m e =
-    subst (λ (z : Node). SameRoom clock z (respecified_node version labels r a n)) e
-    (record { id = refl; cpu = refl; mem = refl; down_since = inl refl })
 
 left-hidden : (version : ℕ) (t : Tables) (id : ℕ) → map blank (tables_without_node version t id).tasks
     ≡ map blank t.tasks
@@ -217,9 +206,9 @@ op-made n w (op.UpdateNode name asked labels r a) is of =
       step = still;
       of = node-keeps OfServices of-services-keep w.tables m.id (λ k. respecified_node n labels r a m)
           (order-of w is) of
-          (λ k h same. same-room n w.tables.clock labels r a m k
+          (λ k h same. respecified-room n w.tables.clock labels r a m k
           (between-one node_id 1 w.tables.next_id w.tables.nodes m k is.nodes
-          (named-is node_name name w.tables.nodes m e) h (sym same)));
+          (named-has node_name name w.tables.nodes m e) h (sym same)));
     }))
 op-made n w (op.RemoveNode name force) is of =
     given-found (λ (d : World × ℕ). MadeOp n w d.0) kind.Node (wanted_by.Name name) (node_by w.tables name)
@@ -234,7 +223,7 @@ op-made n w (op.CreateService name d) is of = create-made n w name d (order-of w
 op-made n w (op.UpdateService name asked d) is of =
     given-found (λ (d : World × ℕ). MadeOp n w d.0) kind.Service (wanted_by.Name name) (service_by w.tables name)
     (update_service n w asked d)
-    (λ (s : Service) e. update-made n w asked d s is of (named-is service_name name w.tables.services s e))
+    (λ (s : Service) e. update-made n w asked d s is of (named-has service_name name w.tables.services s e))
 op-made n w (op.RemoveService name) is of =
     given-found (λ (d : World × ℕ). MadeOp n w d.0) kind.Service (wanted_by.Name name) (service_by w.tables name)
     (remove_service w) (λ (s : Service) e. leave-made n w s (order-of w is) of)
@@ -242,7 +231,7 @@ op-made n w (op.RollbackService name asked) is of =
     given-found (λ (d : World × ℕ). MadeOp n w d.0) kind.Service (wanted_by.Name name) (service_by w.tables name)
     (rollback_service n w asked)
     (λ (s : Service) e. given-unless_some (λ (d : World × ℕ). MadeOp n w d.0) (conflict asked s.version) _
-    (λ ok. back-made n w s s.previous is of (named-is service_name name w.tables.services s e) refl))
+    (λ ok. back-made n w s s.previous is of (named-has service_name name w.tables.services s e) refl))
 op-made n w (op.CreateNetwork name base bits) is of =
     given-unless (λ (d : World × ℕ). MadeOp n w d.0) _ _
     (λ e.

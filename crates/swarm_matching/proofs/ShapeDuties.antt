@@ -2,15 +2,16 @@
 use Rattle.std.proofs.Common.{Bool, List, None, Option, Some, [], ap, arith, cond, false, inl, inr, not, refl, subst, sym, true, ℕ, ◌++◌, ◌+◌, ◌<◌, ◌∙◌, ◌∷◌, ◌≡◌, ◌⊎◌}
 use Rattle.std.specs.Option.{option_map}
 use Rattle.std.specs.Prelude.{is_some, map, ◌&&◌, ◌==◌}
-use Rattle.swarm_matching.proofs.PlaceLists.{filter-map, newest-mapped, newest-some, place-in, touch}
+use Rattle.swarm_matching.proofs.PlaceLists.{newest-mapped, newest-some, place-in, touch}
 use Rattle.swarm_matching.proofs.ShapeWords.{each-mapped, newest-blank, other-blank}
 use Rattle.swarm_matching.proofs.Shapes.{Comes, DutyStep, Restarts, bare, blank, closes, pushed, renews, shape, shuts, stays}
-use Rattle.swarm_matching.proofs.Tests.{no-way}
 use Rattle.swarm_model.proofs.Base.IsDuty.{OfRow}
 use Rattle.swarm_model.proofs.Moves.Rows.{RisesBetween, between-has, between-one, has_row-Has}
 use Rattle.swarm_model.proofs.Moves.Worlds.{IsOrderly}
 use Rattle.swarm_model.specs.Closing.{cause_set, closes_with}
 use Rattle.swarm_objects.proofs.RowLemmas.{Has-filter, Has-from_row_at, Has-map}
+use Rattle.swarm_objects.proofs.Tests.{never-both}
+use Rattle.swarm_objects.proofs.Filters.{filter_map}
 use Rattle.swarm_objects.specs.Changes.{change_task, change_where, wanted}
 use Rattle.swarm_objects.specs.Duties.{effect_by}
 use Rattle.swarm_objects.specs.Rows.{Has, change_row, is_some_and, on_row, row_at, task_id}
@@ -99,7 +100,7 @@ found key next id rows Fact rises of = go (row_at key id rows) refl
         let at = Has-from_row_at key id rows x e in
         ap (λ y. Some y) (between-one key 1 next rows x of.row rises at.0 of.there (at.1 ∙ sym of.id_is))
     go None e =
-        no-way (is_some (row_at key id rows)) (ap is_some e) (has_row-Has key rows of.row id of.there of.id_is)
+        never-both (is_some (row_at key id rows)) (ap is_some e) (has_row-Has key rows of.row id of.there of.id_is)
 
 pub one-task : (e : ℕ) (t : Tables) (id : ℕ) (f g : Task → Task) (set : Option (ℕ × Closed)) →
     ((x : Task) → blank (f x) ≡ g (blank x)) → DutyStep e (shape t) set (change_task id g (shape t)) →
@@ -197,7 +198,7 @@ newest-shut : (e id : ℕ) (t : Tables) (s : Service) (p : Place) (y : Task) →
 newest-shut e id t s p y last =
     let at =
     newest-mapped (touch (λ z. task_id z == id) (wanted e desired.Shutdown)) (tasks_of_place s p t.tasks) y
-    (ap newest (sym (filter-map (is_in_place s p) (touch (λ z. task_id z == id) (wanted e desired.Shutdown)) t.tasks
+    (ap newest (sym (filter_map (is_in_place s p) (touch (λ z. task_id z == id) (wanted e desired.Shutdown)) t.tasks
     (λ z. go z (task_id z == id)))) ∙ last) in
     (at.0, at.1, same at.0 (task_id at.0 == id) ∙ ap task_id at.2)
   where

@@ -1,24 +1,26 @@
 -- Every duty makes a step of the shape.
-use Rattle.std.proofs.Common.{Bool, List, None, Option, Some, [], ap, arith, cond, false, inl, inr, length, not, refl, subst, sym, true, ltb, ℕ, ◌+◌, ◌<◌, ◌∙◌, ◌∷◌, ◌≡◌, ◌≤◌, ◌⊎◌}
+use Rattle.std.proofs.Common.{Bool, List, None, Option, Some, [], ap, arith, cond, false, inl, inr, length, not, refl, subst, sym, true, ltb, ℕ, ◌+◌, ◌<◌, ◌∙◌, ◌≡◌, ◌≤◌, ◌⊎◌}
 use Rattle.std.proofs.lemmas.Bool.Decides.{nat_tests}
 use Rattle.std.specs.Option.{option_map}
 use Rattle.std.specs.Prelude.{count_by, filter, find, map, nat_lt, ◌&&◌, ◌==◌, ◌||◌}
-use Rattle.swarm_matching.proofs.Held.{held-has, held-rise}
-use Rattle.swarm_matching.proofs.PlaceLists.{counts-of, filter-map, newest-has, newest-mapped, place-counts, place-is, touch}
+use Rattle.swarm_matching.proofs.Held.{held-has}
+use Rattle.swarm_matching.proofs.PlaceLists.{counts-of, newest-mapped, place-counts, place-is, touch}
 use Rattle.swarm_matching.proofs.ShapeDuties.{MadeBy, comes-new, found, hidden, hidden-touch, map-map, map-same, one-more-task, one-task, restarted-made, shown, stay, where-tasks, with-tasks}
 use Rattle.swarm_matching.proofs.ShapeWords.{each-mapped, has-dirty-blank, held-blank, held-places-blank, live-places-blank, place-blank}
 use Rattle.swarm_matching.proofs.Shapes.{DutyStep, HasRoom, RunStep, Runs, SameButRun, bare, bare_run, begins, blank, creates, drops, ends, goes, goes_back, is_done, raises, removes, runs, shape, starts_first, stays, stops_first, swaps}
-use Rattle.swarm_matching.proofs.Tests.{no-way, not-is, refuted, some-and-cases}
 use Rattle.swarm_matching.proofs.Wholes.{live-is-kept, number-is}
 use Rattle.swarm_model.proofs.Base.IsDuty.{IsDuty, OfRow}
 use Rattle.swarm_model.proofs.Laws.OfService.{OfServices}
 use Rattle.swarm_model.proofs.Laws.OneEach.{previous-kind}
-use Rattle.swarm_model.proofs.Moves.Duties.{and-left, and-right}
 use Rattle.swarm_model.proofs.Moves.Rows.{between-one, has_row-Has}
 use Rattle.swarm_model.proofs.Moves.Worlds.{IsOrderly}
+use Rattle.swarm_model.proofs.Laws.Alone.{held-rise}
 use Rattle.swarm_model.specs.Closing.{cause_set, closes_with}
 use Rattle.swarm_objects.proofs.Gaps.{first_gap-free}
 use Rattle.swarm_objects.proofs.RowLemmas.{Has-filter_cases, Has-from_row_at, Has-map, Has-map_cases}
+use Rattle.swarm_objects.proofs.Tests.{false_from_ne_true, find_has, first_so, never-both, not-true, second_so, some-and-cases}
+use Rattle.swarm_objects.proofs.Filters.{filter_map}
+use Rattle.swarm_objects.proofs.Newest.{newest_has}
 use Rattle.swarm_objects.specs.Agents.Messages.{message_for}
 use Rattle.swarm_objects.specs.Changes.{change_service, change_task, change_where, in_state, noted, on_service, on_task, raised_to, wanted, with_new, without_place}
 use Rattle.swarm_objects.specs.Duties.{effect_by}
@@ -71,9 +73,9 @@ restart-made : (w : World) (id : ℕ) → IsOrderly w → OfRow w.tables.tasks t
     MadeBy w (duty.Restart id)
 restart-made w id orderly of =
     let x = of.row in
-    let live = and-left (is_live x) _ (and-left _ (is_current w.tables x) of.fact) in
+    let live = first_so (is_live x) _ (first_so _ (is_current w.tables x) of.fact) in
     let there = some-and-cases (λ s. counts_for s x) (row_at service_id x.service w.tables.services)
-    (and-right _ (is_current w.tables x) of.fact) in
+    (second_so _ (is_current w.tables x) of.fact) in
     let s = there.0 in
     let has = Has-from_row_at service_id x.service w.tables.services s there.1 in
     let made = restarted-made w x s orderly of.there has.0 live there.2 in
@@ -99,7 +101,7 @@ raise-made w id of =
     subst (λ (k : ℕ). Steps w (change_task k (raised (w.entries + 1)) w.tables)) of.id_is
     (one-task (w.entries + 1) w.tables of.row.id (raised (w.entries + 1)) (raised 0) None (λ y. refl)
     (raises (blank of.row) (Has-map blank w.tables.tasks of.row of.there)
-    (and-left (is_to_wait of.row) _ (and-left _ _ (and-left _ _ (and-left _ _ of.fact))))))
+    (first_so (is_to_wait of.row) _ (first_so _ _ (first_so _ _ (first_so _ _ of.fact))))))
 
 -- a task of no place is to be removed
 goes-made : (w : World) (x : Task) → Has w.tables.tasks x →
@@ -117,16 +119,16 @@ gone-made w id orderly of =
     subst (λ (k : ℕ). Steps w (change_task k (wanted (w.entries + 1) desired.Remove) w.tables)) of.id_is
     (goes-made w of.row of.there
     (λ s h.
-    refuted (counts_for s of.row)
+    false_from_ne_true (counts_for s of.row)
     (λ counts.
-    no-way (has_service w.tables of.row) (not-is (has_service w.tables of.row) (and-left _ _ of.fact))
+    never-both (has_service w.tables of.row) (not-true (has_service w.tables of.row) (first_so _ _ of.fact))
     (has_row-Has service_id w.tables.services s of.row.service h (sym (counts-of s of.row counts))))))
 
 old-made : (w : World) (id : ℕ) → IsOrderly w → OfRow w.tables.tasks task_id id (λ x. is_old w.tables x ≡ true) →
     Steps w (change_task id (wanted (w.entries + 1) desired.Remove) w.tables)
 old-made w id orderly of =
     subst (λ (k : ℕ). Steps w (change_task k (wanted (w.entries + 1) desired.Remove) w.tables)) of.id_is
-    (goes-made w of.row of.there (λ s h. refuted (counts_for s of.row) (λ counts. go s h counts)))
+    (goes-made w of.row of.there (λ s h. false_from_ne_true (counts_for s of.row) (λ counts. go s h counts)))
   where
     x : Task
     x = of.row
@@ -140,7 +142,7 @@ old-made w id orderly of =
         (has.1 ∙ counts-of s x counts) in
         let old : is_old_of x s ≡ true = ap (is_old_of x) (sym same) ∙ there.2 in
         earlier (is_job s.spec.mode) (nat_lt x.iteration s.iteration) (is_kept x) (x.iteration == s.iteration) refl refl
-        old (and-right (x.service == s.id) _ counts)
+        old (second_so (x.service == s.id) _ counts)
       where
         earlier : (j less kept now : Bool) → nat_lt x.iteration s.iteration ≡ less →
             (x.iteration == s.iteration) ≡ now → ((j && less) && kept) ≡ true → (not j || now) ≡ true → ⊥
@@ -173,7 +175,7 @@ newest-of t P each s p z h last kept =
 
 drop-shape : (id : ℕ) (xs : List Task) →
     map blank (filter (λ y. not (task_id y == id)) xs) ≡ filter (λ y. not (task_id y == id)) (map blank xs)
-drop-shape id xs = sym (filter-map (λ y. not (task_id y == id)) blank xs (λ y. refl))
+drop-shape id xs = sym (filter_map (λ y. not (task_id y == id)) blank xs (λ y. refl))
 
 drops-made : (w : World) (x : Task) → Has w.tables.tasks x → is_live x ≡ false →
     ((s : Service) (p : Place) (z : Task) → Has w.tables.services s →
@@ -192,27 +194,19 @@ delete-made : (w : World) (id : ℕ) → IsOrderly w → OfRow w.tables.tasks ta
 delete-made w id orderly of =
     subst (λ (k : ℕ). Steps w (without_task k w.tables)) of.id_is
     (drops-made w x of.there
-    (refuted (is_live x) (λ live. no-way (is_kept x) gone (live-is-kept x (orderly.good x of.there).goal live)))
+    (false_from_ne_true (is_live x)
+    (λ live. never-both (is_kept x) gone (live-is-kept x (orderly.good x of.there).goal live)))
     (λ s p z h last kept e.
     let z_in = Has-filter_cases (is_in_place s p) w.tables.tasks z
-    (newest-has (tasks_of_place s p w.tables.tasks) z last) in
+    (newest_has (tasks_of_place s p w.tables.tasks) z last) in
     let same = between-one task_id 1 w.tables.next_id w.tables.tasks z x orderly.tasks z_in.0 of.there e in
-    no-way (is_kept x) gone (ap is_kept (sym same) ∙ kept)))
+    never-both (is_kept x) gone (ap is_kept (sym same) ∙ kept)))
   where
     x : Task
     x = of.row
 
     gone : is_kept x ≡ false
-    gone = not-is (is_kept x) (and-left _ _ of.fact)
-
-find-is : {X : Type 0} (test : X → Bool) (xs : List X) (x : X) → find test xs ≡ Some x → Has xs x × (test x ≡ true)
-find-is test [] x e = absurd cc
-find-is test (y ∷ ys) x e = go (test y) refl e (find-is test ys x)
-  where
-    go : (b : Bool) → test y ≡ b → cond b (Some y) (find test ys) ≡ Some x →
-        (find test ys ≡ Some x → Has ys x × (test x ≡ true)) → Has (y ∷ ys) x × (test x ≡ true)
-    go true f k rest = let same : y ≡ x = cc in (inl same, ap test (sym same) ∙ f)
-    go false f k rest = let r = rest k in (inr r.0, r.1)
+    gone = not-true (is_kept x) (first_so _ _ of.fact)
 
 trim-made : (w : World) (id : ℕ) → IsOrderly w → OfRow w.tables.tasks task_id id (λ x. is_trimmed w.tables x ≡ true) →
     Steps w (without_task id w.tables)
@@ -236,7 +230,7 @@ trim-made w id orderly of =
     has = Has-from_row_at service_id x.service w.tables.services s there.1
 
     past : is_oldest_past w.tables.settings.history xs x ≡ true
-    past = and-right _ (is_oldest_past w.tables.settings.history xs x) there.2
+    past = second_so _ (is_oldest_past w.tables.settings.history xs x) there.2
 
     one : (y : Task) → Has w.tables.tasks y → y.id ≡ x.id → y ≡ x
     one y h e = between-one task_id 1 w.tables.next_id w.tables.tasks y x orderly.tasks h of.there e
@@ -246,20 +240,20 @@ trim-made w id orderly of =
         let more = nat_lt w.tables.settings.history (count_by is_past xs) in
         let oldest = is_some_and (is_task x.id) (find is_past xs) in
         let first = some-and-cases (is_task x.id) (find is_past xs)
-        (and-right more oldest (and-left (more && oldest) (not (is_some_and (is_task x.id) (newest xs))) past)) in
-        let at = find-is is_past xs first.0 first.1 in
+        (second_so more oldest (first_so (more && oldest) (not (is_some_and (is_task x.id) (newest xs))) past)) in
+        let at = find_has is_past xs first.0 first.1 in
         let same = one first.0 (Has-filter_cases (is_in_place s x.place) w.tables.tasks first.0 at.0).0
         (number-is first.0.id x.id first.2) in
         let stops : desired_rank x.desired ≡ 640 =
         number-is (desired_rank x.desired) 640
-        (and-right _ (desired_rank x.desired == 640) (ap is_past (sym same) ∙ at.1)) in
+        (second_so _ (desired_rank x.desired == 640) (ap is_past (sym same) ∙ at.1)) in
         not-live x (orderly.good x of.there).goal (omega (arith, stops))
 
     newest_not : (v : Service) (p : Place) (z : Task) → Has w.tables.services v →
         newest (tasks_of_place v p w.tables.tasks) ≡ Some z → is_kept z ≡ true → ¬ (z.id ≡ x.id)
     newest_not v p z h last kept e =
         let z_in = Has-filter_cases (is_in_place v p) w.tables.tasks z
-        (newest-has (tasks_of_place v p w.tables.tasks) z last) in
+        (newest_has (tasks_of_place v p w.tables.tasks) z last) in
         let same = one z z_in.0 e in
         let inside : is_in_place v p x ≡ true = ap (is_in_place v p) (sym same) ∙ z_in.1 in
         let service =
@@ -274,7 +268,7 @@ trim-made w id orderly of =
         let more = nat_lt w.tables.settings.history (count_by is_past xs) in
         let oldest = is_some_and (is_task x.id) (find is_past xs) in
         let last_is = is_some_and (is_task x.id) (newest xs) in
-        no-way last_is (not-is last_is (and-right (more && oldest) (not last_is) past)) is_newest
+        never-both last_is (not-true last_is (second_so (more && oldest) (not last_is) past)) is_newest
 
 -- Places.
 
@@ -319,13 +313,13 @@ creates-made w s k d orderly h unheld room aim =
 gap-unheld : (t : Tables) (s : Service) (from k : ℕ) → k ≡ first_gap from (held_places t s) → is_held_place t s k
     ≡ false
 gap-unheld t s from k e =
-    refuted (is_held_place t s k)
+    false_from_ne_true (is_held_place t s k)
     (λ held.
     first_gap-free from (held_places t s) (held-rise t s)
     (subst (Has (held_places t s)) e (held-has t s k held)))
 
 no-room-asked : (t : Tables) (s : Service) → is_job s.spec.mode ≡ false → HasRoom t s
-no-room-asked t s no_job c n e = no-way (is_job s.spec.mode) no_job (ap is_job e)
+no-room-asked t s no_job c n e = never-both (is_job s.spec.mode) no_job (ap is_job e)
 
 no-job-is : (m : Mode) (n : ℕ) → m ≡ mode.Replicated n → is_job m ≡ false
 no-job-is m n e = ap is_job e
@@ -412,10 +406,10 @@ fail-made w v run true (Some spec) orderly of h no_job e previous =
     refl (previous-kind v spec (of.one.kinds v h) previous) refl refl refl refl refl)
 fail-made w v run true None orderly of h no_job e previous =
     ended-made w v run paused_status orderly h no_job e
-    (λ done. no-way (is_done (paused_status run.status)) (paused-not-done run.status) done)
+    (λ done. never-both (is_done (paused_status run.status)) (paused-not-done run.status) done)
 fail-made w v run false o orderly of h no_job e previous =
     ended-made w v run paused_status orderly h no_job e
-    (λ done. no-way (is_done (paused_status run.status)) (paused-not-done run.status) done)
+    (λ done. never-both (is_done (paused_status run.status)) (paused-not-done run.status) done)
 
 -- the items of a run aren't shown
 replaced-hidden : (w : World) (id : ℕ) (t : Tables) (s : Service) (k : ℕ) (ss : List Service) →
@@ -571,7 +565,7 @@ duty-made w (duty.Finish s) is of d =
     no-cause w _ (λ id. refl)
     (on-row w s _ _ is d
     (λ v h fact. ended-made w v fact.1.0 finished_status is h fact.0 fact.1.1
-    (λ done. not-is (has_dirty_place w.tables v) (and-left _ _ (and-left _ _ fact.1.3)))))
+    (λ done. not-true (has_dirty_place w.tables v) (first_so _ _ (first_so _ _ fact.1.3)))))
 duty-made w (duty.Gone x) is of d = no-cause w _ (λ id. refl) (gone-made w x is d)
 duty-made w (duty.Down s k) is of d =
     no-cause w _ (λ id. refl) (on-row w s _ _ is d (λ v h fact. removes-made w v k h))
@@ -587,7 +581,7 @@ duty-made w (duty.GlobalCreate s n) is of d =
     (on-row w s _ _ is d
     (λ v h fact. creates-made w v n desired.Running is h
     (subst (λ (k : ℕ). is_held_place w.tables v k ≡ false) fact.1.id_is
-    (not-is (is_held_place w.tables v fact.1.row.id) (and-right _ _ fact.1.fact)))
+    (not-true (is_held_place w.tables v fact.1.row.id) (second_so _ _ fact.1.fact)))
     (no-room-asked w.tables v (ap is_job fact.0)) (inr (sym (ap goal_of fact.0)))))
 duty-made w (duty.Old x) is of d = no-cause w _ (λ id. refl) (old-made w x is d)
 duty-made w (duty.JobCreate s k) is of d =

@@ -3,12 +3,14 @@ use Rattle.std.proofs.Common.{Bool, List, None, Option, Some, [], ap, not, refl,
 use Rattle.std.specs.List.{list_any}
 use Rattle.std.specs.Option.{option_map}
 use Rattle.std.specs.Prelude.{filter, fold, map, ◌&&◌, ◌==◌, ◌||◌}
-use Rattle.swarm_matching.proofs.PlaceLists.{filter-map, filter-same, newest-map}
+use Rattle.swarm_matching.proofs.PlaceLists.{newest-map}
 use Rattle.swarm_matching.proofs.Shapes.{Base, bare, blank, shape}
 use Rattle.swarm_model.proofs.Laws.OfService.{OfServices}
 use Rattle.swarm_model.proofs.Moves.Rows.{between-map}
 use Rattle.swarm_model.proofs.Moves.Worlds.{IsOrderly}
 use Rattle.swarm_objects.proofs.RowLemmas.{Has-map_cases}
+use Rattle.swarm_objects.proofs.Tests.{any_map, any_same}
+use Rattle.swarm_objects.proofs.Filters.{filter_map, filter_same}
 use Rattle.swarm_objects.specs.Rows.{Has, is_some_and, service_id, task_id, with_number}
 use Rattle.swarm_objects.specs.Services.Words.{is_live_dirty}
 use Rattle.swarm_objects.specs.Tasks.Places.{closes, closes_dirty, counts_for, has_dirty_place, has_live, has_other, held_places, is_dirty_place, is_held_place, is_in_place, live_places, newest, place_at, place_number, place_numbers, place_tasks, tasks_of_place}
@@ -24,24 +26,14 @@ pub each-mapped : {X Y : Type 0} (P : Y → Type 0) (f : X → Y) (xs : List X) 
     Has (map f xs) y → P y
 each-mapped P f xs each y h = let from = Has-map_cases f xs y h in subst P from.2 (each from.0 from.1)
 
-pub any-map : {X Y : Type 0} (test : Y → Bool) (f : X → Y) (xs : List X) →
-    list_any test (map f xs) ≡ list_any (λ x. test (f x)) xs
-any-map test f [] = refl
-any-map test f (x ∷ xs) = ap (λ (b : Bool). test (f x) || b) (any-map test f xs)
-
 some-and-map : {X : Type 0} (test : X → Bool) (f : X → X) (o : Option X) →
     is_some_and test (option_map f o) ≡ is_some_and (λ x. test (f x)) o
 some-and-map test f None = refl
 some-and-map test f (Some x) = refl
 
-any-same : {X : Type 0} (p q : X → Bool) (xs : List X) → ((x : X) → p x ≡ q x) → list_any p xs ≡ list_any q xs
-any-same p q [] same = refl
-any-same p q (x ∷ xs) same =
-    ap (λ (b : Bool). b || list_any p xs) (same x) ∙ ap (λ (b : Bool). q x || b) (any-same p q xs same)
-
 pub place-blank : (s : Service) (p : Place) (xs : List Task) →
     tasks_of_place (bare s) p (map blank xs) ≡ map blank (tasks_of_place s p xs)
-place-blank s p xs = filter-map (is_in_place s p) blank xs (λ x. refl)
+place-blank s p xs = filter_map (is_in_place s p) blank xs (λ x. refl)
 
 pub newest-blank : (s : Service) (p : Place) (xs : List Task) →
     newest (tasks_of_place (bare s) p (map blank xs)) ≡ option_map blank (newest (tasks_of_place s p xs))
@@ -51,8 +43,8 @@ newest-blank s p xs = ap newest (place-blank s p xs) ∙ newest-map blank (tasks
 any-blank : (test : Task → Bool) (s : Service) (p : Place) (xs : List Task) → ((x : Task) → test (blank x) ≡ test x) →
     list_any test (tasks_of_place (bare s) p (map blank xs)) ≡ list_any test (tasks_of_place s p xs)
 any-blank test s p xs same =
-    ap (list_any test) (place-blank s p xs) ∙ any-map test blank (tasks_of_place s p xs)
-    ∙ any-same (λ x. test (blank x)) test (tasks_of_place s p xs) same
+    ap (list_any test) (place-blank s p xs) ∙ any_map test blank (tasks_of_place s p xs)
+    ∙ any_same (λ x. test (blank x)) test (tasks_of_place s p xs) same
 
 last-blank : (test : Task → Bool) (s : Service) (p : Place) (xs : List Task) → ((x : Task) → test (blank x) ≡ test x) →
     is_some_and test (newest (tasks_of_place (bare s) p (map blank xs)))
@@ -96,11 +88,11 @@ fold-blank ks (x ∷ xs) = fold-blank (with_number (place_number x.place) ks) xs
 pub numbers-blank : (t : Tables) (s : Service) → place_numbers (shape t) (bare s) ≡ place_numbers t s
 numbers-blank t s =
     ap (λ (xs : List Task). fold (λ ks x. with_number (place_number x.place) ks) [] xs)
-    (filter-map (counts_for s) blank t.tasks (λ x. refl))
+    (filter_map (counts_for s) blank t.tasks (λ x. refl))
     ∙ fold-blank [] (filter (counts_for s) t.tasks)
 
 filter-numbers : (p q : ℕ → Bool) (ks js : List ℕ) → ks ≡ js → ((k : ℕ) → p k ≡ q k) → filter p ks ≡ filter q js
-filter-numbers p q ks js e same = ap (filter p) e ∙ filter-same p q js same
+filter-numbers p q ks js e same = ap (filter p) e ∙ filter_same p q js same
 
 pub held-places-blank : (t : Tables) (s : Service) → held_places (shape t) (bare s) ≡ held_places t s
 held-places-blank t s =
@@ -113,7 +105,7 @@ live-places-blank t s =
 pub has-dirty-blank : (t : Tables) (s : Service) → has_dirty_place (shape t) (bare s) ≡ has_dirty_place t s
 has-dirty-blank t s =
     ap (list_any (is_dirty_place (shape t) (bare s))) (numbers-blank t s)
-    ∙ any-same (is_dirty_place (shape t) (bare s)) (is_dirty_place t s) (place_numbers t s) (dirty-blank t s)
+    ∙ any_same (is_dirty_place (shape t) (bare s)) (is_dirty_place t s) (place_numbers t s) (dirty-blank t s)
 
 -- What is known of the shape.
 

@@ -5,17 +5,16 @@ use Rattle.std.specs.Option.{option_map}
 use Rattle.std.specs.Prelude.{filter, map}
 use Rattle.swarm_matching.proofs.AimSteps.{aims-change, row_at-drop_other, row_at-drop_same, stepped-aim}
 use Rattle.swarm_matching.proofs.Aims.{aim, aim_at, applied-aims, is_gone}
-use Rattle.swarm_matching.proofs.Hearing.{row_at-with_row}
 use Rattle.swarm_matching.proofs.InStep.{InStep, IsPull, in-step-applied, in-step-as, in-step-begun, in-step-left, in-step-moves, in-step-pulled}
 use Rattle.swarm_matching.proofs.ShapeDuties.{found}
-use Rattle.swarm_matching.proofs.Tests.{both}
 use Rattle.swarm_model.proofs.Base.IsDuty.{IsDuty}
 use Rattle.swarm_model.proofs.Laws.GivesOut.{GivesOut}
 use Rattle.swarm_model.proofs.Laws.Timely.{each-changed}
-use Rattle.swarm_model.proofs.Moves.Duties.{and-left}
 use Rattle.swarm_model.proofs.Moves.Rows.{between-one, has_row-Has}
 use Rattle.swarm_model.proofs.Moves.Worlds.{IsOrderly, Moves, TablesMove}
 use Rattle.swarm_objects.proofs.RowLemmas.{Has-filter, Has-filter_cases, Has-from_row_at, Has-map, Has-map_cases, row_at-Some}
+use Rattle.swarm_objects.proofs.Tests.{both, first_so}
+use Rattle.swarm_objects.proofs.RowChanges.{row_at-with_row}
 use Rattle.swarm_objects.specs.Same.{same_number}
 use Rattle.std.specs.Option.{option_eq}
 use Rattle.std.specs.Prelude.{nat_le}
@@ -141,7 +140,7 @@ forget-in w m x orderly gives of is =
     gone : is_gone (aim_at of.row.executors x) ≡ true
     gone =
         subst (λ (o : Option Executor). is_gone (option_map aim o) ≡ true) (sym here)
-        (and-left of.fact.1.row.gone _ of.fact.1.fact)
+        (first_so of.fact.1.row.gone _ of.fact.1.fact)
 
     dead : (a : NodeAgent) → Has w.agents a → a.node ≡ m → is_gone (aim_at a.executors x) ≡ true
     dead a h e = subst (λ (b : NodeAgent). is_gone (aim_at b.executors x) ≡ true) (its a h e) gone

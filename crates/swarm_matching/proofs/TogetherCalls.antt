@@ -49,15 +49,12 @@ use Rattle.swarm_objects.specs.declared.watches.Event.{Event}
 use Rattle.swarm_objects.specs.declared.watches.Watcher.{Watcher}
 use Rattle.swarm_matching.proofs.Closings.{by-last}
 use Rattle.swarm_matching.proofs.Known.{Known, known-replay}
-use Rattle.swarm_matching.proofs.Tests.{no-way}
 use Rattle.std.specs.Prelude.{filter, map}
 use Rattle.swarm_matching.proofs.AimSteps.{aims-map, lost-aim, row_at-drop_other}
 use Rattle.swarm_matching.proofs.Aims.{aim_at}
 use Rattle.swarm_matching.proofs.DutyOwners.{duty-agents, duty-numbers}
-use Rattle.swarm_matching.proofs.Hearing.{row_at-with_row}
 use Rattle.swarm_matching.proofs.InStep.{InStep, in-step-new}
 use Rattle.swarm_matching.proofs.Owners.{KeepsPlace, agents-change, agents-drop, agents-push, numbers-change, numbers-drop, numbers-push, unless_remote}
-use Rattle.swarm_matching.proofs.Tests.{not-is, refuted}
 use Rattle.swarm_matching.proofs.Together.{AgentInStep, AllInStep, aims-kept, all-in-moves, duty-in}
 use Rattle.swarm_matching.specs.Sent.{HasOwners, inside_numbers, is_inside}
 use Rattle.swarm_model.proofs.Laws.Timely.{each-pushed}
@@ -73,6 +70,8 @@ use Rattle.swarm_model.specs.Calls.Nodes.{new_agent, new_node, with_agent_if, wi
 use Rattle.swarm_model.specs.Calls.Refusals.{Done, has_name, node_name}
 use Rattle.swarm_model.specs.Calls.Remote.{with_resources}
 use Rattle.swarm_objects.proofs.RowLemmas.{Has-from_row_at, Has-map, Has-map_cases}
+use Rattle.swarm_objects.proofs.Tests.{false_from_ne_true, never-both, not-true}
+use Rattle.swarm_objects.proofs.RowChanges.{row_at-with_row}
 use Rattle.swarm_objects.specs.Agents.Messages.{due_set, with_sent}
 use Rattle.swarm_objects.specs.Rows.{agent_node, itself, node_id, sent_node}
 use Rattle.swarm_objects.specs.declared.messages.NodeSent.{NodeSent}
@@ -138,7 +137,7 @@ gone-in n w id is moves = (
   λ a h.
       let at = Has-filter_cases (λ b. not (eqb (agent_node b) id)) w.agents a h in
       subst (λ (o : Option NodeSent). InStep (without_node n w id).tables o a.inbox (aim_at a.executors))
-      (sym (row_at-drop_other sent_node id a.node w.sent (not-is (eqb a.node id) at.1)))
+      (sym (row_at-drop_other sent_node id a.node w.sent (not-true (eqb a.node id) at.1)))
       (all-in-moves w.tables (without_node n w id).tables w.sent w.agents moves is.1 a at.0),
 )
 
@@ -279,19 +278,19 @@ inside-of : (ks : List Node) (k : ℕ) → Has (inside_numbers ks) k →
 inside-of ns k h =
     let from = Has-map_cases node_id (filter is_inside ns) k h in
     let at = Has-filter_cases is_inside ns from.0 from.1 in
-    (from.0, at.0, not-is from.0.remote at.1, from.2)
+    (from.0, at.0, not-true from.0.remote at.1, from.2)
 
 remote-outside : (w : World) (m : Node) → IsOrderly w → HasOwners w → Has w.tables.nodes m → m.remote ≡ true →
     IsOutside w m.id
 remote-outside w m orderly owners h remote a k =
-    refuted (eqb a.node m.id)
+    false_from_ne_true (eqb a.node m.id)
     (λ same.
     let number : a.node ≡ m.id = grind (arith, nat_tests, same) in
     let own = inside-of w.tables.nodes a.node
     (subst (λ (ks : List ℕ). Has ks a.node) owners (Has-map agent_node w.agents a k)) in
     let is : own.0 ≡ m =
     between-one node_id 1 w.tables.next_id w.tables.nodes own.0 m orderly.nodes own.1 h (own.3 ∙ number) in
-    no-way m.remote (ap (λ (n : Node). n.remote) (sym is) ∙ own.2) remote)
+    never-both m.remote (ap (λ (n : Node). n.remote) (sym is) ∙ own.2) remote)
 
 remote-in : (w : World) (name : List ℕ) (next : Node → Answered) →
     ((n : Node) → Has w.tables.nodes n → n.remote ≡ true → CallIn w (next n)) → CallIn w (on_remote w.tables name next)

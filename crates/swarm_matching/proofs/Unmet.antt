@@ -6,13 +6,13 @@ use Rattle.std.specs.Prelude.{find, is_none, is_some, ◌&&◌, ◌||◌}
 use Rattle.swarm_matching.proofs.Known.{Known, known-replay}
 use Rattle.swarm_matching.proofs.NothingElse.{LivesIn, live-in}
 use Rattle.swarm_matching.proofs.Rest.{least-none, no-duty}
-use Rattle.swarm_matching.proofs.Tests.{any-has, both, is-not, or-left, or-right, proved, refuted, some-and}
 use Rattle.swarm_matching.specs.Laws.{SayWhy, UnmetLaw}
 use Rattle.swarm_matching.specs.Rest.{IsAtRest}
 use Rattle.swarm_model.proofs.Laws.OneEach.{none-any}
 use Rattle.swarm_model.specs.History.{replay}
 use Rattle.swarm_model.specs.Laws.Matches.{is_open_of, is_unplaceable, is_unprovided, says_exhausted}
 use Rattle.swarm_objects.proofs.Empty.{filter_empty}
+use Rattle.swarm_objects.proofs.Tests.{both, false_from_ne_true, has-any, not_from_false, or_left, or_right, some-and, true_from_ne_false}
 use Rattle.swarm_objects.specs.Loops.Allocator.{exhausted, exhausted_for, exhausted_network, exhausted_port, first_note, has_free_address, has_free_port, has_numbered_ports, is_fresh, same_note}
 use Rattle.swarm_objects.specs.Loops.Scheduler.{is_to_place}
 use Rattle.swarm_objects.specs.Nodes.BestNode.{best_node, node_cmp}
@@ -64,20 +64,20 @@ unplaceable w x known rest h live pending = go (best_node w.tables x) refl
         none-any (admits w.tables x) (tested_nodes w.tables x)
         (λ n there. filter_empty (admits w.tables x) (tested_nodes w.tables x) n none there) in
         let said : same_note (note.Filters (refusal_counts w.tables x)) x.note ≡ true =
-        proved (same_note (note.Filters (refusal_counts w.tables x)) x.note)
+        true_from_ne_false (same_note (note.Filters (refusal_counts w.tables x)) x.note)
         (λ other.
         no-duty w rest (duty.Explain x.id)
         (record { row = x; there = h; id_is = refl; fact = (to, e, other) })) in
         both (is_pending x.state && not (list_any (admits w.tables x) (tested_nodes w.tables x))) _
         (both (is_pending x.state) (not (list_any (admits w.tables x) (tested_nodes w.tables x))) pending
-        (is-not (list_any (admits w.tables x) (tested_nodes w.tables x)) admitted)) said
+        (not_from_false (list_any (admits w.tables x) (tested_nodes w.tables x)) admitted)) said
 
 -- NEW.
 
 no-free : (w : World) → IsAtRest w → (s : Service) → Has w.tables.services s → (p : Port) → Has (unnumbered_ports s) p →
     has_free_port w.tables p.udp ≡ false
 no-free w rest s h p there =
-    refuted (has_free_port w.tables p.udp)
+    false_from_ne_true (has_free_port w.tables p.udp)
     (λ free.
     no-duty w rest (duty.Port s.id p.target p.udp)
     (record { row = s; there = h; id_is = refl; fact = (p, there, free, refl, refl) }))
@@ -92,7 +92,7 @@ port-said : (w : World) (x : Task) (s : Service) (p : Port) (n : Note) → Has (
     says_exhausted w.tables s x n ≡ true
 port-said w x s p (note.NoPort b) there none said =
     let same : p.udp ≡ b = decided p.udp b said in
-    let named : is_open_of s b ≡ true = any-has (λ (q : Port). same_bool q.udp b) (unnumbered_ports s) p there said in
+    let named : is_open_of s b ≡ true = has-any (λ (q : Port). same_bool q.udp b) (unnumbered_ports s) p there said in
     both (is_open_of s b) (is_none (free_port w.tables b)) named
     (none-is (free_port w.tables b) (subst (λ (u : Bool). has_free_port w.tables u ≡ false) same none))
   where
@@ -110,7 +110,7 @@ network-said : (w : World) (x : Task) (s : Service) (k : ℕ) (n : Note) → Has
 network-said w x s k (note.NoAddress m) there none said =
     let same : k ≡ m = grind (arith, nat_tests, said) in
     let named : list_any (same_number m) x.template.networks ≡ true =
-    any-has (same_number m) x.template.networks k there (grind (arith, nat_tests, same)) in
+    has-any (same_number m) x.template.networks k there (grind (arith, nat_tests, same)) in
     both (list_any (same_number m) x.template.networks) (is_none (free_address w.tables m)) named
     (none-is (free_address w.tables m) (subst (λ (j : ℕ). has_free_address w.tables j ≡ false) same none))
 network-said w x s k note.Empty there none said = absurd cc
@@ -143,7 +143,7 @@ unprovided w x s known rest h live lives new =
     -- the first exhausted thing is the note
     noted : (n : Note) → exhausted w.tables x s ≡ Some n → same_note n x.note ≡ true
     noted n e =
-        proved (same_note n x.note)
+        true_from_ne_false (same_note n x.note)
         (λ other.
         no-duty w rest (duty.Note x.id)
         (record {
@@ -153,7 +153,7 @@ unprovided w x s known rest h live lives new =
           fact = both (is_fresh w.tables x) _ fresh
               (some-and (λ (m : Note). not (same_note m x.note)) (exhausted_for w.tables x) n
               (ap (λ (o : Option Service). on_row None (exhausted w.tables x) o) lives.found ∙ e)
-              (is-not (same_note n x.note) other));
+              (not_from_false (same_note n x.note) other));
         }))
 
     go : (ps : List Port) → unnumbered_ports s ≡ ps → says_exhausted w.tables s x x.note ≡ true
@@ -167,10 +167,10 @@ unprovided w x s known rest h live lives new =
         (noted (note.NoPort p.udp) (ap (λ (o : Option Port). first_note o (exhausted_network w.tables x)) first))
     go [] e =
         let numbered : has_numbered_ports s ≡ true =
-        is-not (list_any (is_unnumbered s) s.spec.ports)
+        not_from_false (list_any (is_unnumbered s) s.spec.ports)
         (none-any (is_unnumbered s) s.spec.ports (λ p there. filter_empty (is_unnumbered s) s.spec.ports p e there)) in
         let some : list_all (has_free_address w.tables) x.template.networks ≡ false =
-        refuted (list_all (has_free_address w.tables) x.template.networks)
+        false_from_ne_true (list_all (has_free_address w.tables) x.template.networks)
         (λ all.
         no-duty w rest (duty.Address x.id)
         (record {
@@ -226,10 +226,10 @@ says-why w known rest x s h live found below = go (is_new x.state) refl (is_pend
     go : (a : Bool) → is_new x.state ≡ a → (b : Bool) → is_pending x.state ≡ b → (a || b) ≡ true →
         (is_unplaceable w.tables x || is_unprovided w.tables s x) ≡ true
     go true e b f k =
-        or-right (is_unplaceable w.tables x) (is_unprovided w.tables s x)
+        or_right (is_unplaceable w.tables x) (is_unprovided w.tables s x)
         (unprovided w x s known rest h live lives e)
     go false e true f k =
-        or-left (is_unplaceable w.tables x) (is_unprovided w.tables s x) (unplaceable w x known rest h live f)
+        or_left (is_unplaceable w.tables x) (is_unprovided w.tables s x) (unplaceable w x known rest h live f)
     go false e false f k = absurd cc
 
 pub unmet : UnmetLaw

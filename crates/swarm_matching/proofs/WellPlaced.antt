@@ -14,16 +14,15 @@ use Rattle.swarm_matching.proofs.Rest.{no-duty}
 use Rattle.swarm_matching.proofs.Settled.{no-run, settled-rests}
 use Rattle.swarm_matching.proofs.ShapeDuties.{found}
 use Rattle.swarm_matching.proofs.Shapes.{Closings, shape}
-use Rattle.swarm_matching.proofs.Tests.{both, is-not, neither-right, no-way, proved, some-and}
 use Rattle.swarm_matching.specs.Laws.{AreAlone, OneLiveLaw, UpdatesLaw, is_good_for}
 use Rattle.swarm_matching.specs.Rest.{IsAtRest, IsSettled}
-use Rattle.swarm_model.proofs.Moves.Duties.{and-left, and-right}
 use Rattle.swarm_model.proofs.Moves.Rows.{between-one}
 use Rattle.swarm_model.specs.Closing.{closing}
 use Rattle.swarm_model.specs.History.{replay}
 use Rattle.swarm_model.specs.Laws.Matches.{live_tasks}
 use Rattle.swarm_objects.proofs.RowLemmas.{Has-filter_cases}
 use Rattle.swarm_objects.proofs.SameLemmas.{Decides-same_template}
+use Rattle.swarm_objects.proofs.Tests.{both, first_so, neither_right, never-both, not_from_false, second_so, some-and, true_from_ne_false}
 use Rattle.swarm_objects.specs.Loops.Enforcer.{breaks_constraints}
 use Rattle.swarm_objects.specs.Loops.Global.{may_stay}
 use Rattle.swarm_objects.specs.Loops.Restart.{is_current, is_over}
@@ -60,12 +59,12 @@ valid-node w known rest x s n h live lives there at = go x.place refl
     go (Slot k) e =
         let over : (has_ended x || is_astray w.tables x) ≡ false =
         ap (λ (p : Place). is_over w.tables x p) (sym e) ∙ no-restart w rest x h live current in
-        let straight : is_astray w.tables x ≡ false = neither-right (has_ended x) (is_astray w.tables x) over in
+        let straight : is_astray w.tables x ≡ false = neither_right (has_ended x) (is_astray w.tables x) over in
         let valid : not (is_valid w.tables n.id) ≡ false =
         ap (λ (o : Option ℕ). is_some_and (is_invalid w.tables) o) (sym at) ∙ straight in
         let here : is_row_and node_id is_valid_node w.tables.nodes n.id ≡ true =
-        proved (is_valid w.tables n.id) (λ off. no-way (not (is_valid w.tables n.id)) valid
-        (is-not (is_valid w.tables n.id) off)) in
+        true_from_ne_false (is_valid w.tables n.id) (λ off. never-both (not (is_valid w.tables n.id)) valid
+        (not_from_false (is_valid w.tables n.id) off)) in
         ap (λ (o : Option Node). is_some_and is_valid_node o) (sym (node-found w known n there)) ∙ here
     go (On k) e =
         let held : Some n.id ≡ Some k = sym at ∙ (known.home x h).bound k e in
@@ -73,14 +72,14 @@ valid-node w known rest x s n h live lives there at = go x.place refl
         let stays = may-stay w known rest x s k h lives e in
         let stays_here : is_some_and (may_stay s) (row_at node_id n.id w.tables.nodes) ≡ true =
         subst (λ (j : ℕ). is_some_and (may_stay s) (row_at node_id j w.tables.nodes) ≡ true) (sym same) stays in
-        and-left (is_valid_node n) _
+        first_so (is_valid_node n) _
         (ap (λ (o : Option Node). is_some_and (may_stay s) o) (sym (node-found w known n there)) ∙ stays_here)
 
 -- and one that meets its constraints
 meets-own : (w : World) → Known w → IsAtRest w → (x : Task) (n : Node) → Has w.tables.tasks x → is_live x ≡ true →
     is_placed x ≡ true → Has w.tables.nodes n → x.node ≡ Some n.id → meets_all x.template.constraints n ≡ true
 meets-own w known rest x n h live placed there at =
-    proved (meets_all x.template.constraints n)
+    true_from_ne_false (meets_all x.template.constraints n)
     (λ off.
     no-duty w rest (duty.Reject x.id)
     (record {
@@ -91,7 +90,7 @@ meets-own w known rest x n h live placed there at =
           (both (is_live x) (is_placed x) live placed)
           (some-and (is_row_and node_id (breaks_constraints x) w.tables.nodes) x.node n.id at
           (some-and (breaks_constraints x) (row_at node_id n.id w.tables.nodes) n (node-found w known n there)
-          (is-not (meets_all x.template.constraints n) off)));
+          (not_from_false (meets_all x.template.constraints n) off)));
     }))
 
 good-node : (w : World) → Known w → KnownNodes w.tables → IsAtRest w → (x : Task) (s : Service) → Has w.tables.tasks x →
@@ -102,14 +101,14 @@ good-node w known nodes rest x s h live clean lives placed =
     let n = at.0 in
     let valid = valid-node w known rest x s n h live lives at.1 at.2 in
     let ready = known-valid n ((nodes x n.id h at.2).known n at.1 refl) valid in
-    let template = (Decides-same_template x.template s.spec.template).0 (and-left _ _ clean) in
+    let template = (Decides-same_template x.template s.spec.template).0 (first_so _ _ clean) in
     let meets : meets_all s.spec.template.constraints n ≡ true =
     ap (λ (t : Template). meets_all t.constraints n) (sym template)
     ∙ meets-own w known rest x n h live placed at.1 at.2 in
     some-and (is_row_and node_id (is_good_for s) w.tables.nodes) x.node n.id at.2
     (some-and (is_good_for s) (row_at node_id n.id w.tables.nodes) n (node-found w known n at.1)
     (both (is_ready n.state && not (is_drain n.availability)) _
-    (both (is_ready n.state) (not (is_drain n.availability)) ready (and-right _ _ valid)) meets))
+    (both (is_ready n.state) (not (is_drain n.availability)) ready (second_so _ _ valid)) meets))
 
 pub are-alone : (w : World) (c : Closings) → Known w → KnownNodes w.tables →
     Lawful w.entries w.entries c (shape w.tables) → IsSettled w → AreAlone w

@@ -2,13 +2,13 @@
 use Rattle.std.proofs.Common.{Bool, List, Option, Some, [], ap, arith, cond, false, not, refl, subst, sym, true, ℕ, ◌++◌, ◌∙◌, ◌∷◌, ◌≡◌, ◌≤◌}
 use Rattle.std.proofs.lemmas.Bool.Decides.{nat_tests}
 use Rattle.std.specs.Prelude.{filter, map, ◌&&◌, ◌==◌}
-use Rattle.swarm_matching.proofs.PlaceLists.{SameMaking, comes-live, counts-of, newest-filter, newest-has, newest-mapped, newest-push, newest-some, no-places, one-service, one-task, place-counts, place-filter, place-in, place-is, place-map, place-push, same-places, touch, touch-making}
+use Rattle.swarm_matching.proofs.PlaceLists.{SameMaking, comes-live, counts-of, newest-filter, newest-mapped, newest-push, newest-some, no-places, one-service, one-task, place-counts, place-filter, place-in, place-is, place-map, place-push, same-places, touch, touch-making}
 use Rattle.swarm_matching.proofs.ServiceSteps.{respecified-none, respecified-places, run-places}
 use Rattle.swarm_matching.proofs.Shapes.{Base, DutyStep, IsNowhere, OpStep, Restarts, closes, comes, creates, drops, goes, leaves, raises, removes, renews, respecifies, runs, shuts, starts_first, stays, still, stops_first, swaps}
-use Rattle.swarm_matching.proofs.Tests.{both, is-not, no-way, refuted}
 use Rattle.swarm_model.proofs.Laws.Timely.{each-changed, each-pushed}
-use Rattle.swarm_model.proofs.Moves.Duties.{and-left, and-right}
 use Rattle.swarm_objects.proofs.RowLemmas.{Has-filter_cases, Has-map_cases}
+use Rattle.swarm_objects.proofs.Tests.{both, false_from_ne_true, first_so, never-both, not_from_false, second_so}
+use Rattle.swarm_objects.proofs.Newest.{newest_has}
 use Rattle.swarm_objects.specs.Changes.{wanted}
 use Rattle.swarm_objects.specs.Loops.Restart.{closed_by, raised, shut}
 use Rattle.swarm_objects.specs.Loops.Update.{live_of_place}
@@ -37,7 +37,7 @@ whole-map f xs same is y z h kept last =
     let at = newest-mapped f xs z last in
     let old : is_kept from.0 ≡ true = sym (same from.0 from.1) ∙ ap is_kept from.2 ∙ kept in
     let new = is from.0 at.0 from.1 old at.1 in
-    ap is_kept (sym at.2) ∙ same at.0 (newest-has xs at.0 at.1) ∙ new
+    ap is_kept (sym at.2) ∙ same at.0 (newest_has xs at.0 at.1) ∙ new
 
 whole-push : (xs : List Task) (x : Task) → is_kept x ≡ true → IsWhole (xs ++ x ∷ [])
 whole-push xs x kept y z h k last =
@@ -157,7 +157,8 @@ removed-whole t s k base there is v p h =
     left x true e kept = absurd cc
     left x false e kept = (
       kept,
-      refuted (is_in_place s q x) (λ inside. no-way (gone x) e (both (is_in_place s q x) (is_kept x) inside kept)),
+      false_from_ne_true (is_in_place s q x)
+          (λ inside. never-both (gone x) e (both (is_in_place s q x) (is_kept x) inside kept)),
     )
 
     outside : (x : Task) → is_in_place s q x ≡ false → is_kept x ≡ true →
@@ -172,12 +173,12 @@ removed-whole t s k base there is v p h =
         let still_there = left from.0 (gone from.0) refl (ap is_kept from.2 ∙ kept) in
         let x_in = Has-filter_cases (is_in_place v p) t.tasks from.0 from.1 in
         let z_in =
-        Has-filter_cases (is_in_place v p) t.tasks at.0 (newest-has (tasks_of_place v p t.tasks) at.0 at.1) in
+        Has-filter_cases (is_in_place v p) t.tasks at.0 (newest_has (tasks_of_place v p t.tasks) at.0 at.1) in
         let old = is v p h from.0 at.0 from.1 still_there.0 at.1 in
         let away : is_in_place s q at.0 ≡ false =
-        refuted (is_in_place s q at.0)
+        false_from_ne_true (is_in_place s q at.0)
         (λ inside.
-        no-way (is_in_place s q from.0) still_there.1
+        never-both (is_in_place s q from.0) still_there.1
         (stand-alike t base v s p q at.0 from.0 h there z_in.1 x_in.1 inside)) in
         ap is_kept (sym at.2) ∙ outside at.0 away old
 
@@ -200,7 +201,7 @@ gone-whole t x base there nowhere is s p h =
     go y k true e =
         let inside = Has-filter_cases (is_in_place s p) t.tasks y k in
         let same = at-number t base x y there inside.0 e in
-        no-way (counts_for s x) (nowhere s h)
+        never-both (counts_for s x) (nowhere s h)
         (subst (λ (z : Task). counts_for s z ≡ true) (sym same) (place-counts s p y inside.1))
 
 pub wholes-duty : (e : ℕ) (t u : Tables) (set : Option (ℕ × Closed)) → Base t → DutyStep e t set u → Wholes t →
@@ -221,20 +222,20 @@ wholes-duty e t u set base (closes x y s cause r none last) is =
 wholes-duty e t u set base (swaps s run k r) is =
     touched-whole t (λ x. is_in_place s (place_at s.spec.mode k) x && is_live_dirty s x) (wanted 0 desired.Shutdown)
     (wanted-making desired.Shutdown)
-    (λ x h c. shut-kept x (base.goal x h) (and-left (is_live x) _ (and-right _ (is_live_dirty s x) c))) is
+    (λ x h c. shut-kept x (base.goal x h) (first_so (is_live x) _ (second_so _ (is_live_dirty s x) c))) is
 wholes-duty e t u set base (removes s k h) is = removed-whole t s k base h is
 wholes-duty e t u set base (creates s k y h unheld room new) is =
     λ v p there. pushed-whole v p t.tasks y (comes-live t s _ y new).1 (is v p there)
 wholes-duty e t u set base (drops x h dead old) is = λ v p there.
     subst IsWhole (sym (place-filter v p (λ y. not (task_id y == x.id)) t.tasks))
     (whole-filter (λ y. not (task_id y == x.id)) (tasks_of_place v p t.tasks)
-    (λ z last kept. is-not (task_id z == x.id) (refuted (task_id z == x.id)
+    (λ z last kept. not_from_false (task_id z == x.id) (false_from_ne_true (task_id z == x.id)
     (λ same. old v p z there last kept (number-is z.id x.id same))))
     (is v p there))
 wholes-duty e t u set base (stops_first s run k y r new) is =
     λ v p h. pushed-whole v p _ y (comes-live t s _ y new).1
     (touched-whole t (live_of_place s k) (wanted 0 desired.Shutdown) (wanted-making desired.Shutdown)
-    (λ x there c. shut-kept x (base.goal x there) (and-right _ (is_live x) c)) is v p h)
+    (λ x there c. shut-kept x (base.goal x there) (second_so _ (is_live x) c)) is v p h)
 wholes-duty e t u set base (starts_first s run k y r new) is =
     λ v p there. pushed-whole v p t.tasks y (comes-live t s _ y new).1 (is v p there)
 wholes-duty e t u set base (runs s v h no_job step) is = λ z p.
@@ -258,6 +259,7 @@ wholes-op e t u base (respecifies s v spec h r) is = λ z p.
         subst IsWhole (sym (same-places s v (respecified-places e spec s v r job) p t.tasks)) (is s p h)
 wholes-op e t u base (comes s none run at) is = λ z p.
     each-pushed (λ (w : Service). IsWhole (tasks_of_place w p t.tasks)) t.services s (λ w k. is w p k)
-    (subst IsWhole (sym (no-places s p t.tasks (λ x h. refuted (counts_for s x) (λ c. none x h (counts-of s x c)))))
+    (subst IsWhole
+    (sym (no-places s p t.tasks (λ x h. false_from_ne_true (counts_for s x) (λ c. none x h (counts-of s x c)))))
     none-whole) z
 wholes-op e t u base (leaves id) is = λ s p h. is s p (Has-filter_cases _ t.services s h).0

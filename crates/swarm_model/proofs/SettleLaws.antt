@@ -3,11 +3,13 @@ use Rattle.std.proofs.Common.{arith, inl, inr, subst}
 use Rattle.std.specs.Prelude.{Bool, List, None, Option, Some, [], false, filter, find, flat_map, if◌then◌else◌, is_some, nat_eq, nat_le, nat_lt, not, option_to_list, refl, true, ℕ, ◌&&◌, ◌++◌, ◌+◌, ◌<◌, ◌||◌, ◌∷◌, ◌≡◌, ◌⊎◌}
 use Rattle.std.proofs.lemmas.Bool.Decides.{nat_tests}
 use Rattle.std.specs.Option.{option_map}
-use Rattle.std.specs.Ordering.{is_lt, nat_cmp}
+use Rattle.std.specs.Ordering.{nat_cmp}
 use Rattle.std.specs.declared.cmp.Ordering.{Ordering}
+use Rattle.swarm_model.proofs.Moves.Placing.{least-has}
 use Rattle.swarm_model.specs.Settle.{Wait, deadline_of, executor_wait, first_wait, flight_times, flight_wait, has_live_session, has_waiting_place, held_answer, held_by, idle_answer, is_awaited_there, is_behind, is_holding, is_paused, is_remote, is_silent, least_time, node_deadline, paused_by, phase_wait, remote_wait, run_wait, session_wait, settle_answer, start_wait, update_wait, wait_cmp, wait_till, wait_where, waiting_answer, waits, watch_times, watch_wait}
 use Rattle.swarm_objects.proofs.Empty.{append_empty, filter_empty, flat_map_empty, map_empty}
 use Rattle.swarm_objects.proofs.RowLemmas.{Has-append_cases, Has-filter_cases, Has-flat_map_cases, Has-map_cases}
+use Rattle.swarm_objects.proofs.Tests.{both_are, not-true}
 use Rattle.swarm_objects.specs.Agents.Executors.{at_time, ending, executor_step, exit_time, exited, moved, phase_time, prepared, stopped_at, wants_to_stop}
 use Rattle.swarm_objects.specs.Duties.{duties, first_duty}
 use Rattle.swarm_objects.specs.Kinds.{roles}
@@ -17,7 +19,7 @@ use Rattle.swarm_objects.specs.Loops.Update.{is_watched}
 use Rattle.swarm_objects.specs.Loops.Words.{duty_where}
 use Rattle.swarm_objects.specs.Nodes.Sessions.{is_before_deadline, is_session_live, session_of}
 use Rattle.swarm_objects.specs.Nodes.Words.{is_node_and, is_ready}
-use Rattle.swarm_objects.specs.Rows.{Has, agent_node, first_of, is_row_and, is_some_and, keep_least, least_by, on_row}
+use Rattle.swarm_objects.specs.Rows.{Has, agent_node, first_of, is_row_and, is_some_and, least_by, on_row}
 use Rattle.swarm_objects.specs.Services.Runs.{flying_tasks, has_open_run, has_room, is_flying, is_under_way}
 use Rattle.swarm_objects.specs.Services.Words.{is_live_clean}
 use Rattle.swarm_objects.specs.Tasks.Places.{has_dirty_place, tasks_of_place}
@@ -45,19 +47,11 @@ use Rattle.swarm_objects.specs.declared.tasks.TaskState.TheVariants as state
 use Rattle.swarm_objects.specs.declared.templates.End.{End}
 use Rattle.swarm_objects.specs.declared.templates.End.TheVariants as end
 
-both : (p q : Bool) → (p && q) ≡ true → (p ≡ true) × (q ≡ true)
-both true q e = (refl, e)
-both false q e = absurd cc
-
 is_less : (m n : ℕ) → nat_lt m n ≡ true → m < n
 is_less m n e = grind (arith, nat_tests)
 
 is_more : (m n : ℕ) → nat_le m n ≡ false → n < m
 is_more m n e = grind (arith, nat_tests)
-
-is_not : (b : Bool) → not b ≡ true → b ≡ false
-is_not true e = absurd cc
-is_not false e = refl
 
 -- Nothing is due.
 
@@ -104,28 +98,9 @@ if_after : (clock : ℕ) (b : Bool) (ws : List Wait) → (b ≡ true → AllAfte
 if_after clock true ws is = is refl
 if_after clock false ws is = none_after clock
 
-kept_is : {X : Type 0} (compare : X → X → Ordering) (best : Option X) (x y : X) → keep_least compare best x ≡ Some y
-    → (best ≡ Some y) ⊎ (x ≡ y)
-kept_is compare None x y e = inr cc
-kept_is compare (Some b) x y e = go (is_lt (compare x b)) e
-  where
-    go : (l : Bool) → (if l then Some x else Some b) ≡ Some y → (Some b ≡ Some y) ⊎ (x ≡ y)
-    go true q = inr cc
-    go false q = inl q
-
--- the least of them is one of them
-least_has : {X : Type 0} (compare : X → X → Ordering) (best : Option X) (xs : List X) (y : X) → least_by compare best xs
-    ≡ Some y → (best ≡ Some y) ⊎ Has xs y
-least_has compare best [] y e = inl e
-least_has compare best (x ∷ xs) y e = go (least_has compare (keep_least compare best x) xs y e)
-  where
-    go : (keep_least compare best x ≡ Some y) ⊎ Has xs y → (best ≡ Some y) ⊎ Has (x ∷ xs) y
-    go (inl k) = elim (kept_is compare best x y k) [ inl b ↦ inl b | inr b ↦ inr (inl b) ]
-    go (inr k) = inr (inr k)
-
 least_of : {X : Type 0} (compare : X → X → Ordering) (xs : List X) (y : X) → least_by compare None xs ≡ Some y
     → Has xs y
-least_of compare xs y e = elim (least_has compare None xs y e) [ inl k ↦ absurd cc | inr k ↦ k ]
+least_of compare xs y e = elim (least-has compare None xs y e) [ inl k ↦ absurd cc | inr k ↦ k ]
 
 times_after : (clock : ℕ) (times : List ℕ) → ((t : ℕ) → Has times t → clock < t) → (t : ℕ) → least_time times ≡ Some t
     → clock < t
@@ -136,7 +111,7 @@ times_after clock times all t e = all t (least_of nat_cmp times t e)
 start_after : (t : Tables) (x : Task) → AllAfter t.clock (start_wait t x)
 start_after t x =
     where_after t.clock (is_live x && is_to_wait x && nat_lt t.clock x.raise_at) cause.Start x.id x.raise_at
-    (λ e. is_less t.clock x.raise_at (both (is_live x && is_to_wait x) (nat_lt t.clock x.raise_at) e).1)
+    (λ e. is_less t.clock x.raise_at (both_are (is_live x && is_to_wait x) (nat_lt t.clock x.raise_at) e).1)
 
 -- Updates.
 
@@ -151,12 +126,12 @@ either false q e f = e
 flying_after : (t : Tables) (s : Service) (x : Task) → is_flying t s x ≡ true → is_running x ≡ true
     → t.clock < x.since + s.spec.update.delay
 flying_after t s x e r =
-    let flies = both (is_live_clean s x)
+    let flies = both_are (is_live_clean s x)
     (is_below_running x || (is_running x && nat_lt t.clock (x.since + s.spec.update.delay))) e in
     let runs = either (is_below_running x) (is_running x && nat_lt t.clock (x.since + s.spec.update.delay)) flies.1
     (below_is_none (rank x.state) (rank state.Running) r) in
     is_less t.clock (x.since + s.spec.update.delay)
-    (both (is_running x) (nat_lt t.clock (x.since + s.spec.update.delay)) runs).1
+    (both_are (is_running x) (nat_lt t.clock (x.since + s.spec.update.delay)) runs).1
 
 flights_after : (t : Tables) (s : Service) (run : UpdateRun) (time : ℕ) → Has (flight_times t s run) time
     → t.clock < time
@@ -175,7 +150,7 @@ watches_after t s run time h =
     (filter (λ i. not (is_watched t s i)) run.replaced) time h in
     let f = Has-filter_cases (λ i. not (is_watched t s i)) run.replaced m.0 m.1 in
     subst (λ z. t.clock < z) m.2
-    (is_more (m.0.created + s.spec.update.monitor) t.clock (is_not (is_watched t s m.0) f.1))
+    (is_more (m.0.created + s.spec.update.monitor) t.clock (not-true (is_watched t s m.0) f.1))
 
 run_after : (t : Tables) (s : Service) (run : UpdateRun) → AllAfter t.clock (run_wait t s run)
 run_after t s run = if_after t.clock (is_under_way run) (flight_wait t s run ++ watch_wait t s run)
@@ -270,7 +245,7 @@ in_state_after clock e state.Orphaned o t n p = absurd (no_phase (wants_to_stop 
 pub phase_after : (clock : ℕ) (e : Executor) → PhaseAfter clock e
 phase_after clock e = in_state_after clock e e.state e.stopping
 
-no_step : (o : Option Executor) → is_some o ≡ false → o ≡ None
+pub no_step : (o : Option Executor) → is_some o ≡ false → o ≡ None
 no_step None e = refl
 no_step (Some x) e = absurd cc
 
@@ -324,8 +299,8 @@ sessions_after w n none h =
     (λ silent. till_after w.tables.clock cause.Session n.id (deadline_of w.tables n.id)
     (λ t p. live_after w.tables n.id t
     (ready_is_live (is_ready n.state) (is_session_live w.tables n.id)
-    (both (is_ready n.state) (not n.remote)
-    (both (is_ready n.state && not n.remote)
+    (both_are (is_ready n.state) (not n.remote)
+    (both_are (is_ready n.state && not n.remote)
     (is_row_and agent_node (λ a. not (is_mode_on a.mode)) w.agents n.id) silent).0).0
     (filter_empty (is_expired w.tables) w.tables.nodes n
     (map_empty (λ (x : Node). duty.Expire x.id) (filter (is_expired w.tables) w.tables.nodes)
@@ -337,8 +312,8 @@ remote_after : (t : Tables) (x : Task) → AllAfter t.clock (remote_wait t x)
 remote_after t x = if_after t.clock (is_awaited_there t x) (wait_till cause.Remote x.id (node_deadline t x))
     (λ e. till_after t.clock cause.Remote x.id (node_deadline t x)
     (λ time p. at_node x.node time
-    (both (is_placed x && is_node_and t is_remote x) (has_live_session t x)
-    (both (is_placed x && is_node_and t is_remote x && has_live_session t x)
+    (both_are (is_placed x && is_node_and t is_remote x) (has_live_session t x)
+    (both_are (is_placed x && is_node_and t is_remote x && has_live_session t x)
     (is_behind x.state x.desired) e).0).1 p))
   where
     at_node : (o : Option ℕ) (time : ℕ) → is_some_and (is_session_live t) o ≡ true → on_row None (deadline_of t) o

@@ -1,11 +1,12 @@
 -- Putting a row in the place of each with its key.
 use Rattle.std.proofs.Common.{◌≡◌, ℕ, ◌+◌, ◌<◌, Bool, true, false, cond, eqb, List, [], ◌∷◌, ◌++◌, length, set, take, drop, add-one, zero, suc, Option, Some, None, refl, sym, ap, ◌∙◌, subst, arith, ◌≤◌}
 use Rattle.std.specs.Prelude.{◌==◌, not, is_some}
-use Rattle.std.specs.List.{position, position_or_len}
+use Rattle.std.specs.List.{position}
 use Rattle.std.proofs.Math.Seq.{take-add}
 use Rattle.std.proofs.lemmas.Grind.{common_steps}
 use Rattle.std.proofs.lemmas.List.{append_assoc, drop-drop, length-drop, take-append-drop}
 use Rattle.std.proofs.lemmas.List.Quantifiers.{position-Some}
+use Rattle.swarm_objects.proofs.RowChanges.{before}
 use Rattle.swarm_objects.specs.Rows.{change_row, put_row}
 
 -- a write behind items that stay
@@ -19,10 +20,6 @@ set_behind (y ∷ ys) rest (suc at) new lt =
     ap (λ n. set (take n ys ++ rest) at new) (sym (add-one at)) ∙ set_behind ys rest at new (omega arith)
     )
     )
-
--- the number of rows before the first with the key
-abbrev before : {X : Type 0} → (X → ℕ) → ℕ → List X → ℕ
-before key k rows = position_or_len (λ row. key row == k) rows
 
 first_or_len : {X : Type 0} (key : X → ℕ) (k : ℕ) (new : X) (rows : List X) →
     let at = before key k rows in

@@ -1,5 +1,6 @@
 pub mod Addresses
 pub mod Attempts
+pub mod Holders
 pub mod New
 pub mod Places
 pub mod Policy

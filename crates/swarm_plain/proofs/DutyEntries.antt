@@ -1,5 +1,5 @@
 -- What a duty leaves of the events that wait and of the order of rows, for its entry.
-use Rattle.std.proofs.Common.{◌≡◌, ℕ, ◌+◌, List, [], ◌∷◌, refl, true, Option, Some, None}
+use Rattle.std.proofs.Common.{◌≡◌, ℕ, ◌+◌, List, [], refl, true, Option, Some, None}
 use Rattle.swarm_model.proofs.Base.FromLists.{IsDuty-due}
 use Rattle.swarm_model.proofs.Laws.Orderly.{orderly-replay}
 use Rattle.swarm_model.proofs.Laws.Sound.{rows-below, rows-rise}
@@ -7,10 +7,11 @@ use Rattle.swarm_model.proofs.Moves.EachDuty.{effect-moves}
 use Rattle.swarm_model.proofs.Moves.Worlds.{IsOrderly, orderly-moves}
 use Rattle.swarm_model.proofs.Watching.Watchers.{duty-watchers, same-sees}
 use Rattle.swarm_model.specs.History.{IsLegal, effect, replay}
+use Rattle.swarm_objects.proofs.RowChanges.{rising_from}
 use Rattle.swarm_objects.specs.Agents.Messages.{message_for}
 use Rattle.swarm_objects.specs.Duties.{effect_by, is_due}
 use Rattle.swarm_objects.specs.Loops.Agents.{after_pull}
-use Rattle.swarm_objects.specs.Rows.{IsRising, RisesFrom, network_id, node_id, service_id, task_id}
+use Rattle.swarm_objects.specs.Rows.{network_id, node_id, service_id, task_id}
 use Rattle.swarm_objects.specs.World.{World}
 use Rattle.swarm_objects.specs.declared.calls.Entry.{Entry}
 use Rattle.swarm_objects.specs.declared.duties.Duty.{Duty}
@@ -21,18 +22,14 @@ use Rattle.swarm_plain.specs.Entries.{HasOrder, entered_unseen}
 
 -- Order.
 
-rising-from : {X : Type 0} (key : X → ℕ) (least : ℕ) (rows : List X) → RisesFrom key least rows → IsRising key rows
-rising-from key least [] r = tt
-rising-from key least (x ∷ rows) r = r.1
-
 pub order-of : (w : World) → IsOrderly w → HasOrder w.tables
 order-of w is =
     let rows = rows-rise w is in
     record {
-      nodes = rising-from node_id 0 w.tables.nodes rows.nodes;
-      services = rising-from service_id 0 w.tables.services rows.services;
-      tasks = rising-from task_id 0 w.tables.tasks rows.tasks;
-      networks = rising-from network_id 0 w.tables.networks rows.networks;
+      nodes = rising_from node_id 0 w.tables.nodes rows.nodes;
+      services = rising_from service_id 0 w.tables.services rows.services;
+      tasks = rising_from task_id 0 w.tables.tasks rows.tasks;
+      networks = rising_from network_id 0 w.tables.networks rows.networks;
       below = rows-below w is;
     }
 

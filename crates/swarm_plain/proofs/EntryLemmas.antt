@@ -1,9 +1,9 @@
 -- Entries: what is kept of the events, the order of rows, and what a refusal leaves.
 use Rattle.std.proofs.Common.{◌≡◌, ℕ, ◌+◌, Bool, true, false, cond, length, nat_lt, List, [], ◌++◌, append-nil, append_assoc, refl, ap, sym, ◌∙◌, subst, arith, Option, Some, None, Ok, Err, Result, ◌⊎◌, inl, inr}
+use Rattle.std.proofs.lemmas.List.Elements.{filter-append}
 use Rattle.std.specs.Prelude.{OnOk, filter}
 use Rattle.swarm_model.proofs.Base.Answers.{OnGiven, given-is, given-unless}
 use Rattle.swarm_model.proofs.Watching.Changes.{changes-at, changes-none}
-use Rattle.swarm_model.proofs.Watching.Lists.{filter-both, filter-none}
 use Rattle.swarm_model.proofs.Watching.Waiting.{kept-is, waited-some, waits-past}
 use Rattle.swarm_model.proofs.Watching.Watchers.{Sees, answer-sees}
 use Rattle.swarm_model.specs.Calls.{answer, answered, call_outcome, entered, viewed}
@@ -12,6 +12,7 @@ use Rattle.swarm_model.specs.Calls.Views.{View, shows}
 use Rattle.swarm_model.specs.Changed.{changes_between, events_of}
 use Rattle.swarm_model.specs.Content.{same_network, same_node, same_service, same_task}
 use Rattle.swarm_model.specs.Outcome.{Answered, Gives, Meets, Outcome}
+use Rattle.swarm_objects.proofs.Filters.{filter_none}
 use Rattle.swarm_objects.specs.Limits.{most_events}
 use Rattle.swarm_objects.specs.Rows.{Has, network_id, node_id, row_at, service_id, task_id, watcher_id}
 use Rattle.swarm_objects.specs.World.{Tables, World}
@@ -48,7 +49,7 @@ kept-unseen : (w v : World) → v.events ≡ w.events →
 kept-unseen w v same none =
     ap (λ es. record v { entries = w.entries + 1; events = es })
     (kept-is w v v.watchers
-    ∙ filter-both (is_waited_for v.watchers) w.events (changes_between (w.entries + 1) w.tables v.tables)
+    ∙ filter-append (is_waited_for v.watchers) w.events (changes_between (w.entries + 1) w.tables v.tables)
     ∙ ap (λ es. filter (is_waited_for v.watchers) w.events ++ es) none
     ∙ append-nil (filter (is_waited_for v.watchers) w.events)
     ∙ ap (filter (is_waited_for v.watchers)) (sym same))
@@ -75,7 +76,7 @@ new-cursors w v none sees x h = go (sees x h)
 pub kept-unseen_by : (w v : World) → w.watchers ≡ [] → Sees w v → v.events ≡ w.events → entered w v ≡ entered_unseen (w.entries + 1) v
 kept-unseen_by w v none sees same =
     kept-unseen w v same
-    (filter-none (is_waited_for v.watchers) (changes_between (w.entries + 1) w.tables v.tables)
+    (filter_none (is_waited_for v.watchers) (changes_between (w.entries + 1) w.tables v.tables)
     (λ e h. none-waits (w.entries + 1) v.watchers e (new-cursors w v none sees) (changes-at (w.entries + 1) w.tables v.tables e h)))
 
 kept-unwatched : (w v : World) (c : Call) (r : Reply) → w.watchers ≡ [] → answer (w.entries + 1) w c ≡ Ok (r, v) →
@@ -98,8 +99,8 @@ put-kind n k key same xs ws old new os ns before after w o e put =
 four-filters : (p : Event → Bool) (a b c d : List Event) →
     filter p (a ++ b ++ c ++ d) ≡ filter p a ++ filter p b ++ filter p c ++ filter p d
 four-filters p a b c d =
-    filter-both p (a ++ b ++ c) d
-    ∙ ap (λ es. es ++ filter p d) (filter-both p (a ++ b) c ∙ ap (λ es. es ++ filter p c) (filter-both p a b))
+    filter-append p (a ++ b ++ c) d
+    ∙ ap (λ es. es ++ filter p d) (filter-append p (a ++ b) c ∙ ap (λ es. es ++ filter p c) (filter-append p a b))
 
 four-appended : (e a b c d : List Event) → (((e ++ a) ++ b) ++ c) ++ d ≡ e ++ (a ++ b ++ c ++ d)
 four-appended e a b c d =
@@ -142,7 +143,7 @@ kept-seen w v m start all is same begins put =
         put
         ∙ ap (λ es. es ++ filter (is_waited_for m.watchers) (changes_between (w.entries + 1) w.tables m.tables)) kept
         ∙ ap (λ es. filter p w.events ++ es) changes
-        ∙ sym (filter-both p w.events (changes_between (w.entries + 1) w.tables v.tables))
+        ∙ sym (filter-append p w.events (changes_between (w.entries + 1) w.tables v.tables))
         ∙ sym (kept-is w v v.watchers)
 
 -- Calls that keep the rows.

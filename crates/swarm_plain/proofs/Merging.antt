@@ -1,98 +1,19 @@
 -- The events between two lists of rows by rising id are found row by row.
 use Rattle.std.proofs.Common.{◌≡◌, ℕ, ◌+◌, ◌<◌, ◌≤◌, length, append-nil, Bool, true, false, cond, eqb, ltb, List, [], ◌∷◌, ◌++◌, refl, ap, sym, ◌∙◌, subst, Option, Some, None, ◌⊎◌, inl, inr, arith, append_assoc, min}
-use Rattle.std.specs.Prelude.{filter, flat_map, fold, map, ⊤}
+use Rattle.std.specs.Prelude.{filter, flat_map, map, ⊤}
 use Rattle.std.specs.Option.{option_map, option_to_list}
 use Rattle.std.proofs.lemmas.Bool.Decides.{nat_tests}
-use Rattle.std.proofs.lemmas.Grind.{fold-append}
 use Rattle.std.proofs.lemmas.List.{map-append}
-use Rattle.swarm_model.proofs.Watching.Lists.{filter-both}
+use Rattle.std.proofs.lemmas.List.Elements.{filter-append}
 use Rattle.swarm_model.specs.Changed.{event, events_of, row_events, verb_of}
-use Rattle.swarm_objects.proofs.RowLemmas.{Has-append_cases, Has-map_cases, number_above, row_at-None_below}
-use Rattle.swarm_objects.specs.Rows.{Has, IsRising, RisesFrom, rising, row_at, with_number}
+use Rattle.swarm_objects.proofs.RowLemmas.{row_at-None_below}
+use Rattle.swarm_objects.proofs.RowChanges.{rising_from}
+use Rattle.swarm_objects.proofs.Rising.{AllAbove, above-append, above-rising, keys-above, rising-both, rising-first, rising-second}
+use Rattle.swarm_objects.specs.Rows.{Has, IsRising, RisesFrom, rising, row_at}
 use Rattle.swarm_objects.specs.declared.ids.Kind.{Kind}
 use Rattle.swarm_objects.specs.declared.watches.Event.{Event}
 use Rattle.swarm_objects.specs.declared.watches.Verb.{Verb}
 use Rattle.swarm_plain.specs.Inside.Merging.{head_at, least_key, rest_at}
-
--- Numbers among rising ones.
-
-abbrev insert_all : List ℕ → List ℕ → List ℕ
-insert_all acc js = fold (λ ks k. with_number k ks) acc js
-
-abbrev AllAbove : ℕ → List ℕ → Type 0
-AllAbove k js = (j : ℕ) → Has js j → k < j
-
-insert-first : (k : ℕ) (acc : List ℕ) → AllAbove k acc → with_number k acc ≡ k ∷ acc
-insert-first k [] above = refl
-insert-first k (j ∷ acc) above =
-    let lt : k < j = above j (inl refl) in
-    let less : ltb k j ≡ true = grind (arith, nat_tests) in
-    rw less refl
-
-insert-again : (k : ℕ) (acc : List ℕ) → with_number k (k ∷ acc) ≡ k ∷ acc
-insert-again k acc =
-    let less : ltb k k ≡ false = grind (arith, nat_tests) in
-    let same : eqb k k ≡ true = grind (arith, nat_tests) in
-    rw (less, same) refl
-
-insert-behind : (k j : ℕ) (acc : List ℕ) → k < j → with_number j (k ∷ acc) ≡ k ∷ with_number j acc
-insert-behind k j acc lt =
-    let less : ltb j k ≡ false = grind (arith, nat_tests) in
-    let same : eqb j k ≡ false = grind (arith, nat_tests) in
-    rw (less, same) refl
-
-insert_all-behind : (k : ℕ) (js acc : List ℕ) → AllAbove k js → insert_all (k ∷ acc) js ≡ k ∷ insert_all acc js
-insert_all-behind k [] acc above = refl
-insert_all-behind k (j ∷ js) acc above =
-    ap (λ ks. insert_all ks js) (insert-behind k j acc (above j (inl refl)))
-    ∙ insert_all-behind k js (with_number j acc) (λ i h. above i (inr h))
-
-insert-cases : (k j : ℕ) (acc : List ℕ) → Has (with_number k acc) j → (k ≡ j) ⊎ Has acc j
-insert-cases k j [] (inl e) = inl e
-insert-cases k j [] (inr h) = absurd h
-insert-cases k j (i ∷ acc) h = go (ltb k i) (eqb k i) (insert-cases k j acc) h
-  where
-    go : (a b : Bool) → (Has (with_number k acc) j → (k ≡ j) ⊎ Has acc j) →
-        Has (cond a (k ∷ i ∷ acc) (cond b (k ∷ acc) (i ∷ with_number k acc))) j → (k ≡ j) ⊎ Has (i ∷ acc) j
-    go true b below (inl e) = inl e
-    go true b below (inr m) = inr m
-    go false true below (inl e) = inl e
-    go false true below (inr m) = inr (inr m)
-    go false false below (inl e) = inr (inl e)
-    go false false below (inr m) = elim (below m) [ inl e ↦ inl e | inr n ↦ inr (inr n) ]
-
-insert_all-cases : (js acc : List ℕ) (j : ℕ) → Has (insert_all acc js) j → Has acc j ⊎ Has js j
-insert_all-cases [] acc j h = inl h
-insert_all-cases (k ∷ js) acc j h = go (insert_all-cases js (with_number k acc) j h)
-  where
-    go : Has (with_number k acc) j ⊎ Has js j → Has acc j ⊎ Has (k ∷ js) j
-    go (inl m) = elim (insert-cases k j acc m) [ inl e ↦ inr (inl e) | inr n ↦ inl n ]
-    go (inr m) = inr (inr m)
-
-above-insert_all : (k : ℕ) (js : List ℕ) → AllAbove k js → AllAbove k (rising js)
-above-insert_all k js above j h = elim (insert_all-cases js [] j h) [ inl m ↦ absurd m | inr m ↦ above j m ]
-
-above-append : (k : ℕ) (is js : List ℕ) → AllAbove k is → AllAbove k js → AllAbove k (is ++ js)
-above-append k is js a b j h = elim (Has-append_cases is js j h) [ inl m ↦ a j m | inr m ↦ b j m ]
-
--- the least number comes first, whether it stands in the first list, in the second, or in both
-rising-first : (k : ℕ) (is js : List ℕ) → AllAbove k is → AllAbove k js → rising ((k ∷ is) ++ js) ≡ k ∷ rising (is ++ js)
-rising-first k is js a b = insert_all-behind k (is ++ js) [] (above-append k is js a b)
-
-rising-second : (k : ℕ) (is js : List ℕ) → AllAbove k is → AllAbove k js → rising (is ++ k ∷ js) ≡ k ∷ rising (is ++ js)
-rising-second k is js a b =
-    fold-append (λ ks j. with_number j ks) [] is (k ∷ js)
-    ∙ ap (λ ks. insert_all ks js) (insert-first k (rising is) (above-insert_all k is a))
-    ∙ insert_all-behind k js (rising is) b
-    ∙ ap (λ ks. k ∷ ks) (sym (fold-append (λ ks j. with_number j ks) [] is js))
-
-rising-both : (k : ℕ) (is js : List ℕ) → AllAbove k is → AllAbove k js → rising ((k ∷ is) ++ k ∷ js) ≡ k ∷ rising (is ++ js)
-rising-both k is js a b =
-    fold-append (λ ks j. with_number j ks) (k ∷ []) is (k ∷ js)
-    ∙ ap (λ ks. insert_all (with_number k ks) js) (insert_all-behind k is [] a)
-    ∙ ap (λ ks. insert_all ks js) (insert-again k (rising is))
-    ∙ insert_all-behind k js (rising is) b
-    ∙ ap (λ ks. k ∷ ks) (sym (fold-append (λ ks j. with_number j ks) [] is js))
 
 -- Rows without the first one, where it has the key.
 
@@ -113,22 +34,13 @@ splits key id (x ∷ rows) r le = go (eqb (key x) id) refl
     go true e = let same : key x ≡ id = grind (arith, nat_tests) in here same (subst (λ k. RisesFrom key k rows) same r)
     go false e = later (grind (arith, nat_tests), r)
 
-rising-from : {X : Type 0} (key : X → ℕ) (least : ℕ) (rows : List X) → RisesFrom key least rows → IsRising key rows
-rising-from key least [] r = tt
-rising-from key least (x ∷ rows) r = r.1
-
 rises-rest : {X : Type 0} (key : X → ℕ) (id : ℕ) (rows : List X) → IsRising key rows → IsRising key (rest_at key id rows)
 rises-rest key id [] r = tt
 rises-rest key id (x ∷ rows) r = go (eqb (key x) id)
   where
     go : (b : Bool) → IsRising key (cond b rows (x ∷ rows))
-    go true = rising-from key (key x) rows r
+    go true = rising_from key (key x) rows r
     go false = r
-
-keys-above : {X : Type 0} (key : X → ℕ) (id : ℕ) (rows : List X) → RisesFrom key id rows → AllAbove id (map key rows)
-keys-above key id rows r j h =
-    let m = Has-map_cases key rows j h in
-    subst (λ k. id < k) m.2 (number_above key id rows m.0 r m.1)
 
 rest-above : {X : Type 0} {key : X → ℕ} {id : ℕ} {rows rest : List X} → Splits X key id rows rest → AllAbove id (map key rest)
 rest-above {key = key} {id = id} (later {rows = rows} r) = keys-above key id rows r
@@ -221,7 +133,7 @@ next-split n k key same id old new olds news e s t =
 
     above : AllAbove id left
     above =
-        above-insert_all id (map key olds ++ map key news)
+        above-rising id (map key olds ++ map key news)
         (above-append id (map key olds) (map key news) (rest-above s) (rest-above t))
 
     each : (j : ℕ) → Has left j → row_events n k key same old new j ≡ row_events n k key same olds news j
@@ -297,7 +209,7 @@ told-next p n k key same id old new before after verb found olds news r q e is e
     ∙ ap (λ xs. after ++ filter p (events_of n k key same (rest_at key id old) xs)) second
     ∙ ap (λ es. es ++ filter p rest) (put ∙ ap (λ x. before ++ filter p (option_to_list x)) event_is ∙ ap (λ es. before ++ filter p es) (map-verb n k id verb ∙ ap (map (event n k id)) is))
     ∙ append_assoc before (filter p here') (filter p rest)
-    ∙ ap (λ es. before ++ es) (sym (filter-both p here' rest))
+    ∙ ap (λ es. before ++ es) (sym (filter-append p here' rest))
     ∙ ap (λ es. before ++ filter p es) (sym (next-events n k key same id old new r q e))
   where
     rest : List Event

@@ -1,14 +1,14 @@
 -- Operations one after the other.
-use Rattle.std.proofs.Common.{◌≡◌, ◌+◌, ◌<◌, ◌≤◌, ◌^◌, Bool, true, false, inl, inr, refl, ℕ, List, [], ◌∷◌, ◌++◌, Result, Ok, Err, length, drop, get_or, ap, ◌∙◌, sym, arith}
+use Rattle.std.proofs.Common.{◌≡◌, ◌+◌, ◌<◌, ◌≤◌, ◌^◌, true, ℕ, List, [], ◌∷◌, ◌++◌, Result, Ok, Err, length, drop, get_or, ap, ◌∙◌, sym, arith}
 use Rattle.std.proofs.lemmas.Bool.Decides.{nat_tests}
 use Rattle.std.proofs.lemmas.List.{length-drop}
-use Rattle.std.specs.List.{list_all}
 use Rattle.std.specs.Prelude.{◌&&◌}
 use Rattle.swarm_model.proofs.Base.Answers.{given-is}
 use Rattle.swarm_model.specs.Calls.Operations.{apply_op, apply_ops}
 use Rattle.swarm_objects.proofs.RowLemmas.{drop_next}
+use Rattle.swarm_objects.proofs.Tests.{of-all, second_so}
 use Rattle.swarm_objects.specs.Bounds.{IsSmall, is_near, is_near_service, is_near_spec, is_near_run}
-use Rattle.swarm_objects.specs.Rows.{Has, on_row}
+use Rattle.swarm_objects.specs.Rows.{on_row}
 use Rattle.swarm_objects.specs.World.{Tables, World}
 use Rattle.swarm_objects.specs.declared.calls.Op.{Op}
 use Rattle.swarm_objects.specs.declared.replies.Refusal.{Refusal}
@@ -55,25 +55,13 @@ room-rest version ops i op w v id lt done room =
 
 -- a small world has room
 
-right : (a b : Bool) → (a && b) ≡ true → b ≡ true
-right true b e = e
-right false b e = absurd cc
-
-left : (a b : Bool) → (a && b) ≡ true → a ≡ true
-left true b e = refl
-left false b e = absurd cc
-
-of-all : {X : Type 0} (test : X → Bool) (xs : List X) (x : X) → list_all test xs ≡ true → Has xs x → test x ≡ true
-of-all test [] x all h = absurd h
-of-all test (y ∷ ys) x all (inl same) = ap test (sym same) ∙ left (test y) (list_all test ys) all
-of-all test (y ∷ ys) x all (inr h) = of-all test ys x (right (test y) (list_all test ys) all) h
-
 pub room-small : (n : ℕ) (w : World) → n ≤ 200 → IsSmall w → HasRoom n w.tables
 room-small n w le small = record {
   ids = omega (arith, small.next_id, le);
   iterations = λ s h. (
       let near : is_near s.iteration ≡ true =
-      right (is_near_spec s.spec && on_row true is_near_spec s.previous && on_row true is_near_run s.run) (is_near s.iteration)
+      second_so (is_near_spec s.spec && on_row true is_near_spec s.previous && on_row true is_near_run s.run)
+      (is_near s.iteration)
       (of-all is_near_service w.tables.services s small.times.services h) in
       let lt : s.iteration < 2 ^ 60 = grind (arith, nat_tests) in
       omega (arith, lt, le)

@@ -1,9 +1,10 @@
 -- The rows that pass a test, and the last one of them.
-use Rattle.std.proofs.Common.{◌≡◌, ℕ, ◌+◌, ◌<◌, Bool, true, false, cond, List, [], ◌∷◌, ◌++◌, length, get_or, take, Option, Some, None, refl, sym, ap, subst, ◌∙◌, append-nil}
+use Rattle.std.proofs.Common.{◌≡◌, ℕ, ◌+◌, ◌<◌, Bool, true, false, cond, List, [], ◌∷◌, ◌++◌, length, get_or, take, Some, None, refl, sym, ap, subst, ◌∙◌, append-nil}
 use Rattle.std.proofs.lemmas.List.Elements.{filter_more}
 use Rattle.std.proofs.lemmas.List.{map_more}
 use Rattle.std.specs.List.{last_or, list_any}
 use Rattle.std.specs.Prelude.{◌&&◌, ◌||◌, filter, map}
+use Rattle.swarm_objects.proofs.Newest.{last_last}
 
 -- both tests at once
 pub any_both : {X : Type 0} (p test : X → Bool) (xs : List X) →
@@ -16,10 +17,6 @@ any_both p test (x ∷ xs) = go (p x) (any_both p test xs)
         list_any test (cond b (x ∷ filter p xs) (filter p xs))
     go true e = ap (λ c. test x || c) e
     go false e = e
-
-pub last_last : {X : Type 0} (o : Option X) (xs : List X) (x : X) → last_or o (xs ++ x ∷ []) ≡ Some x
-last_last o [] x = refl
-last_last o (y ∷ ys) x = last_last (Some y) ys x
 
 -- the row at a loop's index passes, so it is the last one so far
 pub last_passed : {X : Type 0} (p : X → Bool) (xs : List X) (i : ℕ) (x : X) → i < length xs → x ≡ get_or xs i x →

@@ -6,6 +6,7 @@ use Rattle.swarm_model.proofs.Base.Answers.{OnDone, OnGiven, given-found, given-
 use Rattle.swarm_model.proofs.Moves.Opening.{within-becomes}
 use Rattle.swarm_model.proofs.Moves.Rows.{Becomes, RisesBetween, between-becomes}
 use Rattle.swarm_model.proofs.Moves.Worlds.{TaskMoves}
+use Rattle.swarm_model.proofs.Laws.Sound.{below-between}
 use Rattle.swarm_model.specs.Calls.{answer, txn_answer, viewed}
 use Rattle.swarm_model.specs.Calls.Faults.{on_agent}
 use Rattle.swarm_model.specs.Calls.Networks.{new_network, remove_network}
@@ -18,7 +19,7 @@ use Rattle.swarm_model.specs.Calls.Views.{View, shows}
 use Rattle.swarm_model.specs.Calls.Watches.{told_at, waiting_events, watch_finish, watch_poll, without_watcher}
 use Rattle.swarm_model.specs.Outcome.{Answered}
 use Rattle.swarm_objects.proofs.Gaps.{IsRising-filter}
-use Rattle.swarm_objects.proofs.RowLemmas.{IsBelow-more, RisesFrom-push}
+use Rattle.swarm_objects.proofs.RowLemmas.{IsBelow-map, IsBelow-more, RisesFrom-map, RisesFrom-push}
 use Rattle.swarm_objects.specs.Agents.Messages.{message_for}
 use Rattle.swarm_objects.specs.Changes.{change_service, id_taken, in_state, raised_to, with_tables}
 use Rattle.swarm_objects.specs.Limits.{most_events, most_ops}
@@ -68,10 +69,6 @@ rises-from : {X : Type 0} (key : X → ℕ) (m n : ℕ) (rows : List X) → Rise
 rises-from key m n [] r = tt
 rises-from key m n (x ∷ rows) r = (omega (arith, r.0), rises-from key (key x) n rows r.2)
 
-below-between : {X : Type 0} (key : X → ℕ) (low n : ℕ) (rows : List X) → RisesBetween key low n rows → IsBelow key n rows
-below-between key low n [] r = tt
-below-between key low n (x ∷ rows) r = (r.1, below-between key (key x + 1) n rows r.2)
-
 from-between : {X : Type 0} (key : X → ℕ) (n : ℕ) (rows : List X) → RisesBetween key 0 n rows → Stands key n rows
 from-between key n [] r = (tt, tt)
 from-between key n (x ∷ rows) r = (rises-from key (key x) n rows r.2, (r.1, below-between key (key x + 1) n rows r.2))
@@ -82,21 +79,11 @@ stands-becomes : {X : Type 0} (R : X → X → Type 0) (key : X → ℕ) (n : �
 stands-becomes R key n old new keeps is b =
     from-between key n new (between-becomes R key keeps 0 n n [] old new (omega arith) (omega arith) (to-between key n old is) tt b)
 
-rises-map : {X : Type 0} (key : X → ℕ) (m : ℕ) (f : X → X) (rows : List X) → ((x : X) → key (f x) ≡ key x) → RisesFrom key m rows →
-    RisesFrom key m (map f rows)
-rises-map key m f [] same r = tt
-rises-map key m f (x ∷ rows) same r = (omega (arith, same x, r.0), rw (same x) (rises-map key (key x) f rows same r.1))
-
-below-map : {X : Type 0} (key : X → ℕ) (n : ℕ) (f : X → X) (rows : List X) → ((x : X) → key (f x) ≡ key x) → IsBelow key n rows →
-    IsBelow key n (map f rows)
-below-map key n f [] same b = tt
-below-map key n f (x ∷ rows) same b = (omega (arith, same x, b.0), below-map key n f rows same b.1)
-
 stands-map : {X : Type 0} (key : X → ℕ) (n : ℕ) (f : X → X) (rows : List X) → ((x : X) → key (f x) ≡ key x) → Stands key n rows →
     Stands key n (map f rows)
 stands-map key n f [] same is = (tt, tt)
 stands-map key n f (x ∷ rows) same is =
-    (rw (same x) (rises-map key (key x) f rows same is.0), below-map key n f (x ∷ rows) same is.1)
+    (rw (same x) (RisesFrom-map key (key x) f rows same is.0), IsBelow-map key n f (x ∷ rows) same is.1)
 
 -- the changed row has its key
 changed-key : {X : Type 0} (key : X → ℕ) (id : ℕ) (f : X → X) → ((x : X) → key x ≡ id → key (f x) ≡ key x) → (x : X) →

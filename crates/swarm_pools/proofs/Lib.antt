@@ -2,4 +2,3 @@ mod Bits
 mod Parts
 mod Taken
 mod Pools
-mod Subnets

@@ -1,13 +1,14 @@
 -- A task that stops, and whose place is closed.
-use Rattle.std.proofs.Common.{◌≡◌, ℕ, Bool, true, false, cond, eqb, ◌⊎◌, inl, inr, List, [], ◌∷◌, Option, Some, None, refl, sym, ap, ◌∙◌, subst, arith, map}
+use Rattle.std.proofs.Common.{◌≡◌, ℕ, Bool, true, false, cond, eqb, inl, inr, List, [], ◌∷◌, Option, Some, None, refl, sym, ap, ◌∙◌, subst, arith, map}
 use Rattle.std.proofs.lemmas.Bool.Decides.{nat_tests}
 use Rattle.std.specs.List.{last_or}
 use Rattle.std.specs.Option.{option_map}
-use Rattle.std.specs.Prelude.{filter}
 use Rattle.swarm_objects.proofs.RowLemmas.{row_at-Some, row_at-map, Has-filter_cases}
+use Rattle.swarm_objects.proofs.Filters.{filter_map}
+use Rattle.swarm_objects.proofs.Newest.{last_has}
 use Rattle.swarm_objects.specs.Changes.{change_task, wanted}
 use Rattle.swarm_objects.specs.Loops.Restart.{by_policy, closed_by, shut}
-use Rattle.swarm_objects.specs.Rows.{Has, change_row, on_row, row_at, task_id}
+use Rattle.swarm_objects.specs.Rows.{change_row, on_row, row_at, task_id}
 use Rattle.swarm_objects.specs.Sound.{IsSound}
 use Rattle.swarm_objects.specs.Tasks.Places.{is_in_place, newest, tasks_of_place}
 use Rattle.swarm_objects.specs.World.{Tables}
@@ -43,17 +44,6 @@ keeps_place version id s p x = go (eqb x.id id)
 
 -- The newest task of the place stays the newest.
 
-filter_map : {X : Type 0} (p : X → Bool) (g : X → X) (xs : List X) → ((x : X) → p (g x) ≡ p x) → filter p (map g xs)
-    ≡ map g (filter p xs)
-filter_map p g [] same = refl
-filter_map p g (x ∷ xs) same =
-    ap (λ b. cond b (g x ∷ filter p (map g xs)) (filter p (map g xs))) (same x) ∙ go (p x) (filter_map p g xs same)
-  where
-    go : (b : Bool) → filter p (map g xs) ≡ map g (filter p xs)
-        → cond b (g x ∷ filter p (map g xs)) (filter p (map g xs)) ≡ map g (cond b (x ∷ filter p xs) (filter p xs))
-    go true e = ap (λ zs. g x ∷ zs) e
-    go false e = e
-
 last_map : {X : Type 0} (g : X → X) (o : Option X) (xs : List X) → last_or (option_map g o) (map g xs)
     ≡ option_map g (last_or o xs)
 last_map g o [] = refl
@@ -65,10 +55,6 @@ newest_stopped : (version id : ℕ) (s : Service) (p : Place) (tasks : List Task
 newest_stopped version id s p tasks =
     ap (last_or None) (filter_map (is_in_place s p) (stopped version id) tasks (keeps_place version id s p))
     ∙ last_map (stopped version id) None (tasks_of_place s p tasks)
-
-last_has : {X : Type 0} (o : Option X) (xs : List X) (y : X) → last_or o xs ≡ Some y → (o ≡ Some y) ⊎ Has xs y
-last_has o [] y e = inl e
-last_has o (x ∷ xs) y e = elim (last_has (Some x) xs y e) [ inl here ↦ inr (inl cc) | inr below ↦ inr (inr below) ]
 
 newest_there : (s : Service) (p : Place) (t : Tables) (y : Task) → IsSound t → newest (tasks_of_place s p t.tasks)
     ≡ Some y

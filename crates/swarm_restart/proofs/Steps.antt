@@ -1,18 +1,18 @@
 -- First duties, and what is there.
-use Rattle.std.proofs.Common.{◌≡◌, ℕ, ◌+◌, ◌<◌, ◌^◌, Bool, true, inl, inr, List, [], ◌∷◌, Some, refl, sym, ap, ◌∙◌, arith}
+use Rattle.std.proofs.Common.{◌≡◌, ℕ, ◌+◌, ◌<◌, ◌^◌, true, List, Some, refl, sym, arith}
 use Rattle.std.proofs.lemmas.Bool.Decides.{nat_tests}
-use Rattle.std.specs.List.{list_all}
 use Rattle.std.specs.Prelude.{◌&&◌}
 use Rattle.swarm_objects.proofs.RowLemmas.{Has-from_row_at}
+use Rattle.swarm_objects.proofs.Tests.{of-all, second_so}
 use Rattle.swarm_objects.specs.Bounds.{is_near, is_near_run, is_near_service, is_near_spec, is_near_template, is_near_workload}
 use Rattle.swarm_objects.specs.Changes.{change_task}
 use Rattle.swarm_objects.specs.Loops.Restart.{raised}
-use Rattle.swarm_objects.specs.Rows.{Has, on_row, row_at, service_id, task_id}
+use Rattle.swarm_objects.specs.Rows.{on_row, row_at, service_id, task_id}
 use Rattle.swarm_objects.specs.World.{Tables}
 use Rattle.swarm_objects.specs.declared.rows.Change.{Change}
 use Rattle.swarm_objects.specs.declared.services.Service.{Service}
 use Rattle.swarm_roles.proofs.Applied.{found_makes, makes_none, there_by_id}
-use Rattle.swarm_roles.proofs.PlaceLemmas.{and_left, and_right}
+use Rattle.swarm_roles.proofs.PlaceLemmas.{and_left}
 use Rattle.swarm_roles.proofs.WalkLemmas.{first_left, first_right}
 use Rattle.swarm_roles.specs.Changes.{Makes, put_found}
 use Rattle.swarm_roles.specs.Usable.{IsUsable}
@@ -30,15 +30,10 @@ raising_makes version id t cs sound list = found_makes (raised version) id t cs 
 
 -- Times.
 
-of-all : {X : Type 0} (test : X → Bool) (xs : List X) (x : X) → list_all test xs ≡ true → Has xs x → test x ≡ true
-of-all test [] x all h = absurd h
-of-all test (y ∷ ys) x all (inl same) = ap test (sym same) ∙ and_left (test y) (list_all test ys) all
-of-all test (y ∷ ys) x all (inr h) = of-all test ys x (and_right (test y) (list_all test ys) all) h
-
 near-delay : (s : Service) → is_near_service s ≡ true → is_near s.spec.template.restart.delay ≡ true
 near-delay s near =
     let template = s.spec.template in
-    and_right (is_near_workload template.workload) (is_near template.restart.delay)
+    second_so (is_near_workload template.workload) (is_near template.restart.delay)
     (and_left (is_near_workload template.workload && is_near template.restart.delay) (is_near template.restart.window)
     (and_left (is_near_template template) (is_near s.spec.update.delay)
     (and_left (is_near_template template && is_near s.spec.update.delay) (is_near s.spec.update.monitor)

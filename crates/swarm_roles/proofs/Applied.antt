@@ -1,10 +1,10 @@
 -- What applying changes makes of the tables.
 use Rattle.std.proofs.Common.{◌≡◌, ℕ, ◌≤◌, Bool, true, false, cond, eqb, inl, inr, List, [], ◌∷◌, ◌++◌, Option, Some, None, refl, sym, ap, ◌∙◌, subst, arith}
 use Rattle.std.proofs.lemmas.Bool.Decides.{nat_tests}
-use Rattle.std.specs.Prelude.{◌&&◌, filter, map, is_some, not}
+use Rattle.std.specs.Prelude.{◌&&◌, filter, map, is_some}
 use Rattle.swarm_objects.specs.Changes.{change_service, change_task, change_where, in_state, noted, wanted, with_new, without_place}
 use Rattle.swarm_objects.specs.Loops.Reaper.{without_task}
-use Rattle.swarm_objects.specs.Rows.{change_row, drop_row, put_row, row_at, has_row, service_id, task_id, Has, IsBelow, RisesFrom}
+use Rattle.swarm_objects.specs.Rows.{change_row, put_row, row_at, has_row, service_id, task_id, Has, IsBelow, RisesFrom}
 use Rattle.swarm_objects.specs.Sound.{IsSound}
 use Rattle.swarm_objects.specs.Tasks.New.{new_task, with_task}
 use Rattle.swarm_objects.specs.Tasks.Places.{is_in_place, place_at, place_tasks, tasks_of_place}
@@ -21,19 +21,8 @@ use Rattle.swarm_objects.specs.declared.tasks.Place.{Place}
 use Rattle.swarm_objects.specs.declared.tasks.Task.{Task}
 use Rattle.swarm_objects.specs.declared.tasks.TaskState.{TaskState}
 use Rattle.swarm_objects.proofs.RowLemmas.{change_row_above, put_row-change, row_at-Some, Has-from_row_at, Has-filter_cases, RisesFrom-filter, RisesFrom-map, IsBelow-map}
+use Rattle.swarm_objects.proofs.RowChanges.{change_row-None, drop_row-None}
 use Rattle.swarm_roles.specs.Changes.{apply_change, apply_changes, put_each, put_found as put_found_list, drop_found, CanApplyAll, Makes}
-
--- a change of a row that isn't there changes nothing
-change_row-None : {X : Type 0} (key : X → ℕ) (id : ℕ) (f : X → X) (rows : List X) → row_at key id rows ≡ None
-    → change_row key id f rows ≡ rows
-change_row-None key id f [] e = refl
-change_row-None key id f (x ∷ rows) e = go (eqb (key x) id) e (change_row-None key id f rows)
-  where
-    go : (b : Bool) → cond b (Some x) (row_at key id rows) ≡ None
-        → (row_at key id rows ≡ None → change_row key id f rows ≡ rows) → cond b (f x) x ∷ change_row key id f rows ≡ x
-        ∷ rows
-    go true k below = absurd cc
-    go false k below = ap (λ zs. x ∷ zs) (below k)
 
 pub change_none : (id : ℕ) (f : Task → Task) (t : Tables) → None ≡ row_at task_id id t.tasks → t ≡ change_task id f t
 change_none id f t e = ap (λ rows. record t { tasks = rows }) (sym (change_row-None task_id id f t.tasks (sym e)))
@@ -326,17 +315,6 @@ pub notes_make : (version : ℕ) (n : Note) (id : ℕ) (t : Tables) (cs : List C
 notes_make version n id t cs sound list = found_makes (noted version n) id t cs sound (λ x. refl) list
 
 -- A task that goes.
-
-drop_row-None : {X : Type 0} (key : X → ℕ) (id : ℕ) (rows : List X) → row_at key id rows ≡ None → drop_row key id rows
-    ≡ rows
-drop_row-None key id [] e = refl
-drop_row-None key id (x ∷ rows) e = go (eqb (key x) id) e (drop_row-None key id rows)
-  where
-    go : (b : Bool) → cond b (Some x) (row_at key id rows) ≡ None
-        → (row_at key id rows ≡ None → drop_row key id rows ≡ rows)
-        → cond (not b) (x ∷ drop_row key id rows) (drop_row key id rows) ≡ x ∷ rows
-    go true k below = absurd cc
-    go false k below = ap (λ zs. x ∷ zs) (below k)
 
 pub drops_make : (id : ℕ) (t : Tables) (cs : List Change) → IsSound t → cs ≡ drop_found (row_at task_id id t.tasks)
     → Makes t cs (without_task id t)

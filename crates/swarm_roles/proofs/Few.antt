@@ -3,7 +3,7 @@ use Rattle.std.proofs.Common.{ap, ◌≡◌, ℕ, ◌+◌, ◌<◌, ◌≤◌, �
 use Rattle.std.specs.Prelude.{filter, fold}
 use Rattle.std.proofs.lemmas.List.Sums.{count_by-le-length, length-filter}
 use Rattle.swarm_objects.specs.Rows.{itself, node_id, task_id, with_number, with_row, IsBelow, RisesFrom}
-use Rattle.swarm_objects.specs.Tasks.Places.{counts_for, held_places, is_held_place, place_number, place_numbers}
+use Rattle.swarm_objects.specs.Tasks.Places.{counts_for, place_number, place_numbers}
 use Rattle.swarm_objects.specs.World.{Tables}
 use Rattle.swarm_objects.specs.declared.services.Service.{Service}
 use Rattle.swarm_objects.specs.declared.tasks.Task.{Task}
@@ -67,9 +67,6 @@ few_numbers t s usable =
       few_tasks t usable,
     )
 
-pub few_held : (t : Tables) (s : Service) → IsUsable t → length (held_places t s) < 2 ^ 60
-few_held t s usable = omega (arith, length-filter_le (is_held_place t s) (place_numbers t s), few_numbers t s usable)
-
 -- counting what passes by its length
 pub length_yes : {X : Type 0} (p : X → Bool) (x : X) (xs : List X) → p x ≡ true
     → length (filter p (x ∷ xs)) ≡ 1 + length (filter p xs)
@@ -78,5 +75,3 @@ length_yes p x xs e = omega (arith, ap {B = ℕ} (λ b. length (cond b (x ∷ fi
 pub length_no : {X : Type 0} (p : X → Bool) (x : X) (xs : List X) → p x ≡ false
     → length (filter p (x ∷ xs)) ≡ length (filter p xs)
 length_no p x xs e = ap (λ b. length (cond b (x ∷ filter p xs) (filter p xs))) e
-
-pub ruleset live_steps = (few_numbers, length_yes, length_no)

@@ -3,6 +3,7 @@ use Rattle.std.proofs.Common.{◌≡◌, Bool, true, false, cond, List, [], ◌�
 use Rattle.std.proofs.lemmas.List.Sums.{length-filter}
 use Rattle.std.specs.List.{list_any}
 use Rattle.std.specs.Prelude.{◌&&◌, ◌||◌, count_by, filter, length}
+use Rattle.swarm_objects.proofs.Filters.{filter_again}
 use Rattle.swarm_objects.specs.Tasks.Places.{counts_for, is_in_place, tasks_of_place}
 use Rattle.swarm_objects.specs.Tasks.Words.{is_of}
 use Rattle.swarm_objects.specs.declared.services.Service.{Service}
@@ -12,26 +13,6 @@ use Rattle.swarm_objects.specs.declared.tasks.Task.{Task}
 pub and_left : (a b : Bool) → (a && b) ≡ true → a ≡ true
 and_left true b e = refl
 and_left false b e = e
-
-pub and_right : (a b : Bool) → (a && b) ≡ true → b ≡ true
-and_right true b e = e
-and_right false b e = absurd cc
-
--- a test that implies an earlier one makes the earlier one idle
-pub filter_again : {X : Type 0} (p q : X → Bool) (xs : List X) → ((x : X) → p x ≡ true → q x ≡ true)
-    → filter p (filter q xs) ≡ filter p xs
-filter_again p q [] implies = refl
-filter_again p q (x ∷ xs) implies = go (p x) refl (q x) refl (filter_again p q xs implies)
-  where
-    go : (a : Bool) → p x ≡ a → (b : Bool) → q x ≡ b → filter p (filter q xs) ≡ filter p xs
-        → filter p (cond b (x ∷ filter q xs) (filter q xs)) ≡ cond a (x ∷ filter p xs) (filter p xs)
-    go true e true f k = ap (λ c. cond c (x ∷ filter p (filter q xs)) (filter p (filter q xs))) e ∙ ap (λ ys. x ∷ ys) k
-    go true e false f k = absurd (differs (sym f ∙ implies x e))
-      where
-        differs : false ≡ true → ⊥
-        differs d = absurd cc
-    go false e true f k = ap (λ c. cond c (x ∷ filter p (filter q xs)) (filter p (filter q xs))) e ∙ k
-    go false e false f k = k
 
 pub in_place_of_service : (s : Service) (p : Place) (tasks : List Task)
     → filter (is_in_place s p) (filter (is_of s.id) tasks) ≡ tasks_of_place s p tasks
@@ -45,15 +26,6 @@ pub count_again : {X : Type 0} (p q : X → Bool) (xs : List X) → ((x : X) →
     → count_by p (filter q xs) ≡ count_by p xs
 count_again p q xs implies =
     sym (length-filter p (filter q xs)) ∙ ap length (filter_again p q xs implies) ∙ length-filter p xs
-
-pub any_filter : {X : Type 0} (p q : X → Bool) (xs : List X) → list_any q (filter p xs) ≡ list_any (λ x. p x && q x) xs
-any_filter p q [] = refl
-any_filter p q (x ∷ xs) = go (p x) (any_filter p q xs)
-  where
-    go : (b : Bool) → list_any q (filter p xs) ≡ list_any (λ y. p y && q y) xs
-        → list_any q (cond b (x ∷ filter p xs) (filter p xs)) ≡ ((b && q x) || list_any (λ y. p y && q y) xs)
-    go true e = ap (λ b. q x || b) e
-    go false e = e
 
 pub any_again : {X : Type 0} (p q : X → Bool) (xs : List X) → ((x : X) → p x ≡ true → q x ≡ true)
     → list_any p (filter q xs) ≡ list_any p xs

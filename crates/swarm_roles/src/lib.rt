@@ -7,18 +7,20 @@ mod places;
 mod service_words;
 mod theorems;
 mod walks;
+mod windows;
 
 pub use changing::{
     create_task, drop_task, in_state, noted, remove_place, set_note, set_state, want, wanted,
 };
 pub use node_words::{is_astray, is_homed, is_valid, meets_all, node_of};
-pub use places::{
-    HeldPlaces, PlaceNumbers, PlaceTasks, first_gap, has_live, held_count, held_places,
-    is_held_place, live_count, newest, place_numbers, place_tasks, tasks_of_place,
-};
+pub use places::{PlaceTasks, has_live, is_held_place, newest, place_tasks, tasks_of_place};
 pub use service_words::{gives_number, has_open_run, is_under_way};
 pub use theorems::{duties_change_tables, small_worlds_are_usable};
 pub use walks::{
     NetworkRows, NodeRows, NodeTasks, ServiceRows, ServiceTasks, TaskRows, networks, nodes,
     services, tasks, tasks_of, tasks_on,
+};
+pub use windows::{
+    HeldPlaces, PlaceNumbers, SlotRows, first_gap, held_count, held_places, live_count,
+    place_numbers, slots, tally,
 };

@@ -1,10 +1,11 @@
 -- What putting a changed node makes of the tables.
-use Rattle.std.proofs.Common.{◌≡◌, ℕ, Bool, true, false, cond, eqb, List, [], ◌∷◌, Option, Some, None, refl, sym, ap, ◌∙◌, subst}
+use Rattle.std.proofs.Common.{◌≡◌, ℕ, true, List, [], ◌∷◌, Option, Some, None, refl, sym, ap, ◌∙◌, subst}
 use Rattle.std.specs.Prelude.{is_some}
 use Rattle.swarm_objects.proofs.RowLemmas.{Has-from_row_at, put_row-change, row_at-Some}
+use Rattle.swarm_objects.proofs.RowChanges.{change_row-None}
 use Rattle.swarm_objects.specs.Changes.{change_node}
 use Rattle.swarm_objects.specs.Loops.Dispatcher.{after_expire, fallen}
-use Rattle.swarm_objects.specs.Rows.{Has, change_row, has_row, node_id, put_row, row_at}
+use Rattle.swarm_objects.specs.Rows.{Has, change_row, has_row, node_id, row_at}
 use Rattle.swarm_objects.specs.Sound.{IsSound}
 use Rattle.swarm_objects.specs.World.{Tables}
 use Rattle.swarm_objects.specs.declared.nodes.Node.{Node}
@@ -12,7 +13,6 @@ use Rattle.swarm_objects.specs.declared.rows.Change.{Change}
 use Rattle.swarm_objects.specs.declared.rows.Change.TheVariants as change
 use Rattle.swarm_roles.proofs.Applied.{makes_none}
 use Rattle.swarm_roles.specs.Changes.{Makes}
-use Rattle.swarm_sessions.proofs.Placing.{change_row-None}
 use Rattle.swarm_sessions.specs.Nodes.{put_node_found}
 
 there : (t : Tables) (n : Node) → IsSound t → Has t.nodes n → has_row node_id n.id t.nodes ≡ true

@@ -1,46 +1,16 @@
 -- The place of a row among rising ones.
-use Rattle.std.proofs.Common.{◌≡◌, ◌≤◌, ◌<◌, ◌+◌, ℕ, zero, suc, Bool, true, false, cond, eqb, ltb, List, [], ◌∷◌, ◌++◌, add-one, drop, get_or, length, set, take, Option, Some, None, refl, sym, ap, ◌∙◌, subst, arith}
+use Rattle.std.proofs.Common.{◌≡◌, ◌≤◌, ◌+◌, ℕ, zero, suc, Bool, true, false, cond, eqb, ltb, List, [], ◌∷◌, ◌++◌, add-one, drop, length, set, take, Option, Some, None, refl, sym, ap, ◌∙◌, subst, arith}
 use Rattle.std.proofs.lemmas.Bool.Decides.{nat_tests}
-use Rattle.std.proofs.lemmas.List.Sorted.{IsNonDecreasingBy-from_all_adjacent, IsPartitionedBy-ltb}
-use Rattle.std.specs.List.{AllWithin}
-use Rattle.std.specs.List.Sorted.{IsNonDecreasingBy, IsPartitionPoint, IsPartitionedBy}
+use Rattle.std.specs.List.Sorted.{IsPartitionPoint}
 use Rattle.std.specs.Prelude.{Err, map, not, Ok, OnErr, OnOk, Result, slice_get}
 use Rattle.swarm_objects.proofs.Gaps.{IsRising-filter, IsRising-with_row}
 use Rattle.swarm_objects.proofs.RowLemmas.{change_row_above, RisesFrom-map, row_at-None_below}
+use Rattle.swarm_objects.proofs.RowChanges.{change_row-None, drop_row-None, rising_from}
 use Rattle.swarm_objects.specs.Rows.{IsRising, RisesFrom, change_row, drop_row, is_some_and, row_at, rows_before, session_node, with_row}
 use Rattle.swarm_objects.specs.declared.sessions.NodeSession.{NodeSession}
 use Rattle.swarm_sessions.specs.OnRecord.{if_has}
 
 -- Halving.
-
-next_rises : {X : Type 0} (key : X → ℕ) (n : ℕ) (rows : List X) → RisesFrom key n rows → (i j : ℕ) (d : X) → j ≡ i + 1 →
-    j < length rows → key (get_or rows i d) ≤ key (get_or rows j d)
-next_rises key n [] r i j d e lt = absurd (omega arith)
-next_rises key n (x ∷ []) r i j d e lt = absurd (omega (arith, e, lt))
-next_rises key n (x ∷ y ∷ rows) r i zero d e lt = absurd (omega (arith, e))
-next_rises key n (x ∷ y ∷ rows) r zero (suc zero) d e lt = omega (arith, r.1.0)
-next_rises key n (x ∷ y ∷ rows) r zero (suc (suc j)) d e lt = absurd (omega (arith, e))
-next_rises key n (x ∷ y ∷ rows) r (suc i) (suc j) d e lt =
-    next_rises key (key x) (y ∷ rows) r.1 i j d (omega (arith, e)) (omega (arith, lt))
-
-any_start : {X : Type 0} (key : X → ℕ) (rows : List X) → IsRising key rows → IsNonDecreasingBy key rows
-any_start key [] r = λ i j d le lt. absurd (omega (arith, lt))
-any_start key (x ∷ rows) r =
-    IsNonDecreasingBy-from_all_adjacent key (x ∷ rows) (λ i d lt. go rows r i (i + 1) d refl lt)
-  where
-    go : (rows : List _) → RisesFrom key (key x) rows → (i j : ℕ) (d : _) → j ≡ i + 1 → j < length (x ∷ rows) →
-        key (get_or (x ∷ rows) i d) ≤ key (get_or (x ∷ rows) j d)
-    go rows r i zero d e lt = absurd (omega (arith, e))
-    go [] r i (suc j) d e lt = absurd (omega (arith, lt))
-    go (y ∷ rows) r zero (suc zero) d e lt = omega (arith, r.0)
-    go (y ∷ rows) r zero (suc (suc j)) d e lt = absurd (omega (arith, e))
-    go (y ∷ rows) r (suc i) (suc j) d e lt =
-        next_rises key (key x) (y ∷ rows) r i j d (omega (arith, e)) (omega (arith, lt))
-
--- the rows with lesser keys come first
-pub lesser_first : {X : Type 0} (key : X → ℕ) (k : ℕ) (rows : List X) → IsRising key rows →
-    IsPartitionedBy (λ row. ltb (key row) k) rows
-lesser_first key k rows r = IsPartitionedBy-ltb key rows k (any_start key rows r)
 
 -- the point where the keys stop being lesser is the number of rows before it
 pub parted_before : {X : Type 0} (key : X → ℕ) (k i : ℕ) (rows : List X) → i ≤ length rows →
@@ -59,10 +29,6 @@ parted_before key k (suc i) (x ∷ rows) le parted =
 
 -- Look-ups at that place.
 
-rising-from : {X : Type 0} (key : X → ℕ) (least : ℕ) (rows : List X) → RisesFrom key least rows → IsRising key rows
-rising-from key least [] r = tt
-rising-from key least (x ∷ rows) r = r.1
-
 less_differs : (n k : ℕ) → ltb n k ≡ true → eqb n k ≡ false
 less_differs n k e = grind (arith, nat_tests, e)
 
@@ -75,7 +41,7 @@ pub found_there : (k : ℕ) (rows : List NodeSession) → IsRising session_node 
     if_has k (slice_get rows (rows_before session_node k rows)) ≡ row_at session_node k rows
 found_there k [] r = refl
 found_there k (x ∷ rows) r =
-    go (ltb x.node k) refl (found_there k rows (rising-from session_node x.node rows r))
+    go (ltb x.node k) refl (found_there k rows (rising_from session_node x.node rows r))
   where
     here : (b : Bool) → row_at session_node k rows ≡ None →
         cond b (Some x) None ≡ cond b (Some x) (row_at session_node k rows)
@@ -92,28 +58,6 @@ found_there k (x ∷ rows) r =
 
 -- What becomes of the rows there.
 
-pub change_row-None : {X : Type 0} (key : X → ℕ) (id : ℕ) (f : X → X) (rows : List X) → row_at key id rows ≡ None →
-    change_row key id f rows ≡ rows
-change_row-None key id f [] e = refl
-change_row-None key id f (x ∷ rows) e = go (eqb (key x) id) e (change_row-None key id f rows)
-  where
-    go : (b : Bool) → cond b (Some x) (row_at key id rows) ≡ None →
-        (row_at key id rows ≡ None → change_row key id f rows ≡ rows) →
-        cond b (f x) x ∷ change_row key id f rows ≡ x ∷ rows
-    go true k below = absurd cc
-    go false k below = ap (λ zs. x ∷ zs) (below k)
-
-drop_row-None : {X : Type 0} (key : X → ℕ) (id : ℕ) (rows : List X) → row_at key id rows ≡ None →
-    drop_row key id rows ≡ rows
-drop_row-None key id [] e = refl
-drop_row-None key id (x ∷ rows) e = go (eqb (key x) id) e (drop_row-None key id rows)
-  where
-    go : (b : Bool) → cond b (Some x) (row_at key id rows) ≡ None →
-        (row_at key id rows ≡ None → drop_row key id rows ≡ rows) →
-        cond (not b) (x ∷ drop_row key id rows) (drop_row key id rows) ≡ x ∷ rows
-    go true k below = absurd cc
-    go false k below = ap (λ zs. x ∷ zs) (below k)
-
 not_less : (n k : ℕ) → ltb n k ≡ false → k ≤ n
 not_less n k e = grind (arith, nat_tests, e)
 
@@ -122,7 +66,7 @@ renew_here : (k : ℕ) (f : NodeSession → NodeSession) (rows : List NodeSessio
     set rows (rows_before session_node k rows) (f x) ≡ change_row session_node k f rows
 renew_here k f [] x r is = absurd cc
 renew_here k f (z ∷ rows) x r is =
-    go (ltb z.node k) refl is (renew_here k f rows x (rising-from session_node z.node rows r))
+    go (ltb z.node k) refl is (renew_here k f rows x (rising_from session_node z.node rows r))
   where
     here : (b : Bool) → k ≤ z.node → cond b (Some z) None ≡ Some x →
         f x ∷ rows ≡ cond b (f z) z ∷ change_row session_node k f rows
@@ -180,7 +124,7 @@ drop_here : (k : ℕ) (rows : List NodeSession) → IsRising session_node rows �
     ≡ drop_row session_node k rows
 drop_here k [] r is = absurd cc
 drop_here k (z ∷ rows) r is =
-    go (ltb z.node k) refl is (drop_here k rows (rising-from session_node z.node rows r))
+    go (ltb z.node k) refl is (drop_here k rows (rising_from session_node z.node rows r))
   where
     here : (b : Bool) → k ≤ z.node → b ≡ true →
         rows ≡ cond (not b) (z ∷ drop_row session_node k rows) (drop_row session_node k rows)

@@ -1,6 +1,6 @@
 -- The best place, and the best node.
 use Rattle.std.proofs.Common.{◌≡◌, ◌∙◌, ◌&&◌, ◌+◌, ◌<◌, Bool, List, None, Option, Some, [], ◌∷◌, ◌++◌, ap, append_assoc, arith, cond, false, get_or, length, length-append, refl, subst, suc, sym, take, true, zero, ℕ}
-use Rattle.std.proofs.lemmas.List.{get_or_at, length-map, take_at}
+use Rattle.std.proofs.lemmas.List.{get_or_at, length-map, map-append, take_at}
 use Rattle.std.proofs.lemmas.List.Sums.{sum_by-cons}
 use Rattle.std.specs.Cmp.Lexicographic.{slice_cmp}
 use Rattle.std.specs.Option.{option_map}
@@ -35,15 +35,11 @@ same_agrees : (ks : List Key) (n m : Node) → same_path (map (key_value n) ks) 
 same_agrees [] n m = refl
 same_agrees (k ∷ ks) n m = ap (λ (b : Bool). bytes_eq (key_value m k) (key_value n k) && b) (same_agrees ks n m)
 
-map_append : {X Y : Type 0} (f : X → Y) (xs ys : List X) → map f (xs ++ ys) ≡ map f xs ++ map f ys
-map_append f [] ys = refl
-map_append f (x ∷ xs) ys = ap (λ (zs : List _). f x ∷ zs) (map_append f xs ys)
-
 take_values : (keys earlier ks : List Key) (depth : ℕ) (n : Node) → keys ≡ earlier ++ ks → depth ≡ length earlier →
     take depth (path_of keys n) ≡ map (key_value n) earlier
 take_values keys earlier ks depth n is long =
     ap (λ (xs : List Key). take depth (map (key_value n) xs)) is
-    ∙ (ap (take depth) (map_append (key_value n) earlier ks)
+    ∙ (ap (take depth) (map-append (key_value n) earlier ks)
     ∙ take_at (map (key_value n) earlier) (map (key_value n) ks) depth (length-map earlier (key_value n) ∙ sym long))
 
 sum_maps : {X : Type 0} (f : X → Bool) (p : Node → X) (h : Node → ℕ) (q : Node → Bool) (ns : List Node) →
@@ -75,7 +71,7 @@ value_is : (t : Tables) (keys earlier ks : List Key) (k : Key) (depth place : �
 value_is t keys earlier ks k depth place n is long at =
     ap (λ (p : List (List ℕ)). get_or p depth []) (get_map (path_of keys) t.nodes place n [] at.0 at.1)
     ∙ (ap (λ (xs : List Key). get_or (map (key_value n) xs) depth []) is
-    ∙ (ap (λ (p : List (List ℕ)). get_or p depth []) (map_append (key_value n) earlier (k ∷ ks))
+    ∙ (ap (λ (p : List (List ℕ)). get_or p depth []) (map-append (key_value n) earlier (k ∷ ks))
     ∙ get_or_at (map (key_value n) earlier) (key_value n k) (map (key_value n) ks) [] depth
     (length-map earlier (key_value n) ∙ sym long)))
 

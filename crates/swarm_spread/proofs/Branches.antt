@@ -2,11 +2,13 @@
 use Rattle.std.proofs.Common.{◌≡◌, ◌==◌, ◌&&◌, ◌∙◌, ◌+◌, ◌<◌, Bool, List, [], ◌∷◌, ◌++◌, ap, arith, cond, eqb, false, get_or, length, length-append, ltb, not, refl, replicate, subst, suc, sym, take, true, zero, ℕ}
 use Rattle.std.proofs.lemmas.Bool.Decides.{nat_tests}
 use Rattle.std.proofs.lemmas.List.{length-replicate, get_or-replicate, get_or_append_left, get_or_at}
+use Rattle.std.proofs.lemmas.Bool.{eq-eqb, eqb-true}
 use Rattle.std.specs.Cmp.Lexicographic.{bytes_decides, slice_cmp}
 use Rattle.std.specs.Ordering.{nat_cmp, ordering_index, ordering_then}
 use Rattle.std.specs.declared.cmp.Ordering.{Ordering}
 use Rattle.std.specs.declared.cmp.Ordering.TheVariants.{Equal, Greater, Less}
 use Rattle.std.specs.Str.{bytes_eq}
+use Rattle.swarm_objects.proofs.Tests.{both_are}
 use Rattle.swarm_spread.specs.Sums.{AreBranching, AreFirst, HasDepth, HasSums, IsBranching, IsFirst, IsSummed, branch_sum, branches_of, is_alike, is_branch, order_from, same_branch, same_path, sum_where, value_at}
 use Rattle.swarm_spread.specs.declared.levels.Levels.{Levels, Level'}
 use Rattle.swarm_spread.proofs.SumLemmas.{read_at, summed_of}
@@ -23,10 +25,6 @@ and_assoc false b c = refl
 
 same_bytes : (x : List ℕ) → bytes_eq x x ≡ true
 same_bytes x = (bytes_decides x x).1 refl
-
-both : (a b : Bool) → (a && b) ≡ true → (a ≡ true) × (b ≡ true)
-both true b e = (refl, e)
-both false b e = cc
 
 -- one value more
 pub same_branch-suc : (depth : ℕ) (xs ys : List (List ℕ)) → depth < length xs → depth < length ys →
@@ -45,7 +43,7 @@ same_path-is [] [] e = refl
 same_path-is [] (y ∷ ys) e = cc
 same_path-is (x ∷ xs) [] e = cc
 same_path-is (x ∷ xs) (y ∷ ys) e =
-    let parts = both (bytes_eq y x) (same_path xs ys) e in
+    let parts = both_are (bytes_eq y x) (same_path xs ys) e in
     let first = (bytes_decides y x).0 parts.0 in
     let rest = same_path-is xs ys parts.1 in cc
 
@@ -121,12 +119,6 @@ not_later parents paths depth bs i j below lt lt' same less =
 neither_less : (a b : ℕ) → ltb a b ≡ false → ltb b a ≡ false → a ≡ b
 neither_less a b e f = grind (arith, nat_tests)
 
-is_number : (a b : ℕ) → eqb a b ≡ true → a ≡ b
-is_number a b e = grind (arith, nat_tests)
-
-same_number : (a b : ℕ) → a ≡ b → eqb a b ≡ true
-same_number a b is = grind (arith, nat_tests)
-
 same_first : (parents : List ℕ) (paths : List (List (List ℕ))) (depth : ℕ) (bs : List ℕ) (i j : ℕ) →
     Below parents paths depth bs → i < length paths → j < length paths →
     branch_path paths depth i ≡ branch_path paths depth j → get_or bs i 0 ≡ get_or bs j 0
@@ -154,13 +146,13 @@ next_level parents paths depth count bs above first lt deep i j within within' =
     go : (b : Bool) → same_path (branch_path paths depth i) (branch_path paths depth j) ≡ b →
         eqb (get_or bs i 0) (get_or bs j 0) ≡ b
     go true e =
-        same_number (get_or bs i 0) (get_or bs j 0)
+        eq-eqb (get_or bs i 0) (get_or bs j 0)
         (same_first parents paths depth bs i j below within within' (same_path-is _ _ e))
     go false e = other (eqb (get_or bs i 0) (get_or bs j 0)) refl
       where
         other : (c : Bool) → eqb (get_or bs i 0) (get_or bs j 0) ≡ c → c ≡ false
         other true f =
-            let is = is_number (get_or bs i 0) (get_or bs j 0) f in
+            let is = eqb-true (get_or bs i 0) (get_or bs j 0) f in
             let same : branch_path paths depth i ≡ branch_path paths depth j =
             sym (own_path parents paths depth bs i below within)
             ∙ (ap (branch_path paths depth) is ∙ own_path parents paths depth bs j below within') in

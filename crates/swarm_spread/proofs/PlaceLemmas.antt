@@ -4,6 +4,7 @@ use Rattle.std.proofs.lemmas.Bool.Decides.{nat_tests}
 use Rattle.std.proofs.lemmas.List.Sorted.{searched}
 use Rattle.std.proofs.lemmas.List.{get_or_default, length-map, length-replicate}
 use Rattle.std.proofs.lemmas.List.Sums.{sum_by-cons, sum_by-set}
+use Rattle.std.proofs.lemmas.Bool.{eq-eqb}
 use Rattle.std.specs.List.Sorted.{IsBinarySearchResult}
 use Rattle.std.specs.Ordering.{nat_cmp, ordering_then}
 use Rattle.std.specs.declared.cmp.Ordering.{Ordering}
@@ -66,9 +67,6 @@ changed_nowhere f node (n ∷ nodes) (h ∷ hs) long none =
 not_same : (n node : ℕ) → n ≢ node → eqb n node ≡ false
 not_same n node differ = grind (arith, nat_tests)
 
-is_same : (n node : ℕ) → n ≡ node → eqb n node ≡ true
-is_same n node same = grind (arith, nat_tests)
-
 pub changed_there : (f : ℕ → ℕ) (node n : ℕ) (nodes hs : List ℕ) (place : ℕ) → RisesFrom itself n nodes →
     length hs ≡ length nodes → place < length nodes → get_or nodes place 0 ≡ node →
     changed_at f node nodes hs ≡ set hs place (f (get_or hs place 0))
@@ -77,7 +75,7 @@ changed_there f node n (m ∷ nodes) [] place rises long lt at = absurd (omega a
 changed_there f node n (m ∷ nodes) (h ∷ hs) zero rises long lt at =
     let rest = changed_nowhere f node nodes hs (omega arith)
     (λ place within same. let above = above_first m place nodes rises.1 within in omega arith) in
-    ap (λ (b : Bool). cond b (f h) h ∷ changed_at f node nodes hs) (is_same m node at)
+    ap (λ (b : Bool). cond b (f h) h ∷ changed_at f node nodes hs) (eq-eqb m node at)
     ∙ ap (λ (xs : List ℕ). f h ∷ xs) rest
 changed_there f node n (m ∷ nodes) (h ∷ hs) (suc place) rises long lt at =
     let rest = changed_there f node m nodes hs place rises.1 (omega arith) (omega arith) at in

@@ -4,6 +4,7 @@ pub mod Tracking
 pub mod Told
 pub mod Lookups
 pub mod Queries
+pub mod Rooms
 pub mod Standing
 pub mod Ops
 pub mod Orphans

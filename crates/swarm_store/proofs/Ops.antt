@@ -46,8 +46,8 @@ pub found-above : {X : Type 0} (key : X → ℕ) (p : X → Bool) (rows : List X
     0 < key x
 found-above key p rows x r e = number_above key 0 rows x r (has-found p rows x e)
 
-pub node-created : (version : ℕ) (t : Tables) (name : List ℕ) (draft : NodeDraft) (n : Node) (rows : List Node) → Stands t →
-    n ≡ new_node version t.next_id name draft →
+pub node-created : (version : ℕ) (t : Tables) (name : List ℕ) (draft : NodeDraft) (n : Node) (rows : List Node) (next : ℕ) → Stands t →
+    next ≡ t.next_id + 1 → n ≡ new_node version t.next_id name draft →
     first_refusal (
     broken_node n
     ∷ name_taken (option_map node_id (node_by t n.name))
@@ -55,8 +55,8 @@ pub node-created : (version : ℕ) (t : Tables) (name : List ℕ) (draft : NodeD
     ∷ []) ≡ None →
     rows ≡ with_row node_id n t.nodes →
     made (apply_op version (world_with t) (op.CreateNode name draft)) ≡
-    Ok (record (without_sessions t) { next_id = t.next_id + 1; nodes = rows }, t.next_id)
-node-created version t name draft n rows stands is none put =
+    Ok (record (without_sessions t) { next_id = next; nodes = rows }, t.next_id)
+node-created version t name draft n rows next stands more is none put =
     let new = new_node version t.next_id name draft in
     ap (λ r. made (unless r (with_node (world_with t) new, new.id)))
     (subst (λ x. first_refusal (
@@ -66,6 +66,7 @@ node-created version t name draft n rows stands is none put =
     ∷ []) ≡ None) is none)
     ∙ ap (λ xs. Ok (record (without_sessions t) { next_id = t.next_id + 1; nodes = xs }, t.next_id))
     (sym (put ∙ ap (λ x. with_row node_id x t.nodes) is ∙ with-last node_id new t.nodes stands.below.nodes))
+    ∙ ap (λ k. Ok (record (without_sessions t) { next_id = k; nodes = rows }, t.next_id)) (sym more)
 
 pub node-updated : (version : ℕ) (t : Tables) (name : List ℕ) (asked : Option ℕ) (labels : List (List ℕ × List ℕ)) (r : NodeRole)
     (a : Availability) (n new : Node) (rows : List Node) → Stands t → node_by t name ≡ Some n →
@@ -95,8 +96,8 @@ node-removed version t u name force n nodes nobody there none is gone =
     ∙ ap (λ (v : Tables). Ok (record v { nodes = drop_row node_id n.id v.nodes }, n.id)) (sym is)
     ∙ ap (λ xs. Ok (record u { nodes = xs }, n.id)) (sym gone)
 
-pub service-created : (version : ℕ) (t : Tables) (name : List ℕ) (d : Draft) (s : Service) (rows : List Service) → Stands t →
-    s ≡ new_service version t name d →
+pub service-created : (version : ℕ) (t : Tables) (name : List ℕ) (d : Draft) (s : Service) (rows : List Service) (next : ℕ) → Stands t →
+    next ≡ t.next_id + 1 → s ≡ new_service version t name d →
     first_refusal (
     broken_draft d
     ∷ name_taken (option_map service_id (service_by t name))
@@ -106,12 +107,13 @@ pub service-created : (version : ℕ) (t : Tables) (name : List ℕ) (d : Draft)
     ∷ []) ≡ None →
     rows ≡ with_row service_id s t.services →
     made (apply_op version (world_with t) (op.CreateService name d)) ≡
-    Ok (record (without_sessions t) { next_id = t.next_id + 1; services = rows }, t.next_id)
-service-created version t name d s rows stands is none put =
+    Ok (record (without_sessions t) { next_id = next; services = rows }, t.next_id)
+service-created version t name d s rows next stands more is none put =
     let new = new_service version t name d in
     ap (λ r. made (unless r (with_tables (world_with t) (with_service t new), t.next_id))) none
     ∙ ap (λ xs. Ok (record (without_sessions t) { next_id = t.next_id + 1; services = xs }, t.next_id))
     (sym (put ∙ ap (λ x. with_row service_id x t.services) is ∙ with-last service_id new t.services stands.below.services))
+    ∙ ap (λ k. Ok (record (without_sessions t) { next_id = k; services = rows }, t.next_id)) (sym more)
 
 service-rows : (t : Tables) (name : List ℕ) (s new : Service) (rows : List Service) → Stands t → service_by t name ≡ Some s →
     new.id ≡ s.id → rows ≡ with_row service_id new t.services → rows ≡ put_row service_id new t.services
@@ -150,8 +152,8 @@ service-removed version t name s rows attempts there gone left =
     (sym gone)
     ∙ ap (λ as'. Ok (record (without_sessions t) { services = rows; attempts = as' }, s.id)) (sym left)
 
-pub network-created : (version : ℕ) (t : Tables) (name : List ℕ) (base bits : ℕ) (n : Network) (rows : List Network) → Stands t →
-    n ≡ new_network version t.next_id name base bits →
+pub network-created : (version : ℕ) (t : Tables) (name : List ℕ) (base bits : ℕ) (n : Network) (rows : List Network) (next : ℕ) → Stands t →
+    next ≡ t.next_id + 1 → n ≡ new_network version t.next_id name base bits →
     first_refusal (
     bad_spec (find (subnet_breaks base bits) subnet_rules)
     ∷ name_taken (option_map network_id (network_by t name))
@@ -159,12 +161,13 @@ pub network-created : (version : ℕ) (t : Tables) (name : List ℕ) (base bits 
     ∷ []) ≡ None →
     rows ≡ with_row network_id n t.networks →
     made (apply_op version (world_with t) (op.CreateNetwork name base bits)) ≡
-    Ok (record (without_sessions t) { next_id = t.next_id + 1; networks = rows }, t.next_id)
-network-created version t name base bits n rows stands is none put =
+    Ok (record (without_sessions t) { next_id = next; networks = rows }, t.next_id)
+network-created version t name base bits n rows next stands more is none put =
     let new = new_network version t.next_id name base bits in
     ap (λ r. made (unless r (with_tables (world_with t) (with_network t new), new.id))) none
     ∙ ap (λ xs. Ok (record (without_sessions t) { next_id = t.next_id + 1; networks = xs }, t.next_id))
     (sym (put ∙ ap (λ x. with_row network_id x t.networks) is ∙ with-last network_id new t.networks stands.below.networks))
+    ∙ ap (λ k. Ok (record (without_sessions t) { next_id = k; networks = rows }, t.next_id)) (sym more)
 
 pub network-removed : (version : ℕ) (t : Tables) (name : List ℕ) (n : Network) (rows : List Network) →
     network_by t name ≡ Some n → in_use t n.id ≡ None → rows ≡ drop_row network_id n.id t.networks →

@@ -6,7 +6,7 @@ use Rattle.swarm_objects.proofs.RowLemmas.{Has-from_row_at, IsBelow-map, IsBelow
 use Rattle.swarm_objects.specs.Rows.{IsBelow, RisesFrom, drop_row, has_row, network_id, node_id, put_row, row_at, service_id, task_id, with_row}
 use Rattle.swarm_objects.specs.Sound.{IsBelowNext, IsOrdered}
 use Rattle.swarm_objects.specs.Tasks.New.{with_task}
-use Rattle.swarm_objects.specs.World.{Tables, World}
+use Rattle.swarm_objects.specs.World.{Tables, World, empty_tables}
 use Rattle.swarm_objects.specs.declared.nodes.Node.{Node}
 use Rattle.swarm_objects.specs.declared.rows.Change.{Change}
 use Rattle.swarm_objects.specs.declared.rows.Change.TheVariants as change
@@ -16,7 +16,6 @@ use Rattle.std.proofs.Common.{OnOk, OnErr, Result, Ok, Err}
 use Rattle.swarm_model.specs.Changed.{changes_between}
 use Rattle.swarm_objects.specs.declared.watches.Event.{Event}
 use Rattle.swarm_roles.specs.Changes.{CanApply, CanApplyAll, apply_change, apply_changes, put_task}
-use Rattle.swarm_roles.specs.Usable.{IsUsable}
 use Rattle.swarm_store.specs.Stored.{AppliesChanges, StandsFor, Stored, without_sessions}
 use Rattle.swarm_store.proofs.ByKey.{with-last, with-put}
 use Rattle.swarm_store.specs.Inside.State.{Stands}
@@ -258,18 +257,55 @@ changes-beside [] t = refl
 changes-beside (c ∷ cs) t = ap (λ u. apply_changes u cs) (change-beside t c) ∙ changes-beside cs (apply_change t c)
 
 pub applied-any : {A B : Type 0} (version : ℕ) (cs : List Change) (w : World) (before : Stored) (t u : Tables) (old events : List Event)
-    (r : Result A B) → record { tables = t; changes = old } ≡ before → StandsFor before w →
+    (n m : ℕ) (r : Result A B) → record { tables = t; changes = old; room = n } ≡ before → StandsFor before w →
     OnOk r ((u ≡ apply_changes t cs) × (events ≡ changes_between version t u)) → OnErr r ((u ≡ t) × (events ≡ old)) →
-    AppliesChanges version cs w before r (record { tables = u; changes = events })
-applied-any version cs w before t u old events (Ok x) view stands ok err =
+    AppliesChanges version cs w before r (record { tables = u; changes = events; room = m })
+applied-any version cs w before t u old events n m (Ok x) view stands ok err =
     let same : t ≡ without_sessions w.tables = ap (λ (s : Stored). s.tables) view ∙ stands in
     let made : u ≡ without_sessions (apply_changes w.tables cs) =
     ok.0 ∙ ap (λ v. apply_changes v cs) same ∙ changes-beside cs w.tables in
     (made, ok.1 ∙ ap (λ v. changes_between version v u) same ∙ ap (λ v. changes_between version (without_sessions w.tables) v) made)
-applied-any version cs w before t u old events (Err e) view stands ok err =
-    ap (λ v. record { tables = v; changes = events }) err.0 ∙ ap (λ es. record { tables = t; changes = es }) err.1 ∙ view
+applied-any version cs w before t u old events n m (Err e) view stands ok err =
+    ap (λ v. record { tables = v; changes = events; room = m }) err.0
+    ∙ ap (λ es. record { tables = t; changes = es; room = m }) err.1
+    ∙ ap (λ (s : Stored). record s { room = m }) view
 
-pub usable-stands : (t : Tables) (s : Stored) → t ≡ s.tables → IsUsable s.tables → 0 < t.next_id → Stands t
-usable-stands t s same usable ids =
-    let is : IsUsable t = subst IsUsable (sym same) usable in
-    record { ordered = is.sound.ordered; below = is.sound.below; ids = ids }
+-- What changes besides rows.
+
+pub stands-next : (t : Tables) → Stands t → Stands (record t { next_id = t.next_id + 1 })
+stands-next t is = record {
+  ordered = record {
+    nodes = is.ordered.nodes;
+    services = is.ordered.services;
+    tasks = is.ordered.tasks;
+    networks = is.ordered.networks;
+    sessions = is.ordered.sessions;
+  };
+  below = more-below t is.below;
+  ids = omega arith;
+}
+
+pub stands-clock : (t : Tables) (clock : ℕ) → Stands t → Stands (record t { clock = clock })
+stands-clock t clock is = record {
+  ordered = record {
+    nodes = is.ordered.nodes;
+    services = is.ordered.services;
+    tasks = is.ordered.tasks;
+    networks = is.ordered.networks;
+    sessions = is.ordered.sessions;
+  };
+  below = record {
+    nodes = is.below.nodes;
+    services = is.below.services;
+    tasks = is.below.tasks;
+    networks = is.below.networks;
+  };
+  ids = is.ids;
+}
+
+pub stands-empty : Stands empty_tables
+stands-empty = record {
+  ordered = record { nodes = tt; services = tt; tasks = tt; networks = tt; sessions = tt };
+  below = record { nodes = tt; services = tt; tasks = tt; networks = tt };
+  ids = omega arith;
+}

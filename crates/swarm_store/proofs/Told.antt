@@ -11,7 +11,7 @@ use Rattle.swarm_objects.specs.declared.watches.Event.{Event}
 use Rattle.swarm_objects.specs.declared.watches.Verb.{Verb}
 use Rattle.swarm_objects.specs.declared.watches.Verb.TheVariants as verb
 use Rattle.swarm_store.proofs.Tracking.{at-restored, image, image-at, image-is}
-use Rattle.swarm_store.specs.Inside.Span.{Span}
+use Rattle.swarm_store.specs.Inside.Span.{Track}
 use Rattle.std.specs.Bool.{Decides}
 use Rattle.std.specs.Option.{option_to_list}
 use Rattle.swarm_store.specs.Inside.Tracking.{AreImages, DecidesRows, IsImage, before_id, image_events, restored}
@@ -198,13 +198,13 @@ all-told n k key same rows before decides r are =
     (λ id h. told-remembered n k key same before rows id (λ x. (decides x x refl).1 refl) are)
 
 pub told-view : {X : Type 0} (n : ℕ) (k : Kind) (key : X → ℕ) (same : X → X → Bool) (rows : List X) (before seen : List (Before X))
-    (v : Span X) → DecidesRows key same → RisesFrom before_id 0 before → AreImages key before → seen ≡ before →
-    record { start = restored key before rows; rows = rows } ≡ v →
+    (v : Track X) → DecidesRows key same → RisesFrom before_id 0 before → AreImages key before → seen ≡ before →
+    restored key before rows ≡ v.start → rows ≡ v.rows →
     flat_map (image_events n k key same rows) seen ≡ events_of n k key same v.start v.rows
-told-view n k key same rows before seen v decides r are is view =
+told-view n k key same rows before seen v decides r are is start now =
     ap (flat_map (image_events n k key same rows)) is
     ∙ all-told n k key same rows before decides r are
-    ∙ subst (λ (u : Span _). events_of n k key same (restored key before rows) rows ≡ events_of n k key same u.start u.rows) view refl
+    ∙ ap (λ xs. events_of n k key same xs rows) start ∙ ap (events_of n k key same v.start) now
 
 has-item : {X : Type 0} (xs : List X) (i : ℕ) (x : X) → i < length xs → x ≡ get_or xs i x → Has (drop i xs) x
 has-item xs i x lt is = subst (λ ys. Has ys x) (sym (drop_next xs i x lt is)) (inl refl)

@@ -1,13 +1,13 @@
 -- Rows are put back as they were.
-use Rattle.std.proofs.Common.{◌≡◌, ℕ, ◌+◌, ◌-◌, ◌<◌, ◌≤◌, Bool, true, false, cond, eqb, ltb, inl, inr, List, [], ◌∷◌, ◌++◌, length, Option, Some, None, refl, sym, ap, ◌∙◌, subst, arith}
+use Rattle.std.proofs.Common.{◌≡◌, ℕ, ◌+◌, ◌-◌, ◌*◌, ◌<◌, ◌≤◌, Bool, true, false, cond, eqb, ltb, inl, inr, List, [], ◌∷◌, ◌++◌, length, Option, Some, None, refl, sym, ap, ◌∙◌, subst, arith}
 use Rattle.std.specs.Prelude.{drop, is_some, not, slice_get, suc, take}
 use Rattle.std.proofs.lemmas.Bool.Decides.{nat_tests}
 use Rattle.swarm_index.specs.Index.{RowsWithRoom}
 use Rattle.swarm_objects.proofs.Orders.{before-le, put_before}
 use Rattle.swarm_objects.proofs.RowLemmas.{Has-from_row_at, RisesFrom-filter, row_at-None_below}
-use Rattle.swarm_objects.specs.Rows.{Has, RisesFrom, drop_row, has_row, is_some_and, row_at, rows_before, with_row}
+use Rattle.swarm_objects.specs.Rows.{Has, IsBelow, RisesFrom, drop_row, has_row, is_some_and, row_at, rows_before, with_row}
 use Rattle.swarm_store.proofs.ByKey.{at-drop, at-with, rises-with, same-rows}
-use Rattle.swarm_store.specs.Inside.Tracking.{AreImages, IsImage, IsTracked, Kept, before_id, put_back, remembered, restored}
+use Rattle.swarm_store.specs.Inside.Tracking.{AreImages, IsCounted, IsImage, IsTracked, Kept, before_id, put_back, remembered, restored}
 use Rattle.swarm_store.specs.declared.tracked.Before.{Before}
 
 abbrev before_row : {X : Type 0} → Before X → Option X
@@ -92,7 +92,7 @@ image-with i b (c ∷ before) now =
     go false p false q true r false s below = rw r refl
     go false p false q false r g s below = rw r below
 
-none-there : {X : Type 0} (row : Option X) → is_some row ≡ false → row ≡ None
+pub none-there : {X : Type 0} (row : Option X) → is_some row ≡ false → row ≡ None
 none-there None e = refl
 none-there (Some x) e = absurd cc
 
@@ -160,6 +160,17 @@ length-remembered b before = go (has_row before_id b.id before)
     go true = omega arith
     go false = length-with b before
 
+-- so the places that were made are there still
+pub remembered-most : {X : Type 0} (b : Before X) (old made now : List (Before X)) → now ≡ remembered b made → made ≡ old →
+    length now ≤ length old + 1
+remembered-most b old made now next same =
+    let most = length-remembered b made in omega (arith, most, ap length next, ap length same)
+
+pub remembered-places : {X : Type 0} (b : Before X) (old made now : List (Before X)) (room before after : ℕ) →
+    now ≡ remembered b made → made ≡ old → length old + (room + 1) ≤ before → before ≤ after → length now + room ≤ after
+remembered-places b old made now room before after next same spare kept =
+    let most = remembered-most b old made now next same in omega (arith, most, spare, kept)
+
 is-image : {X : Type 0} (key : X → ℕ) (id : ℕ) (rows : List X) → IsImage key id (row_at key id rows)
 is-image key id [] = tt
 is-image key id (x ∷ rows) = go (eqb (key x) id) refl (is-image key id rows)
@@ -196,21 +207,6 @@ put-other key new rows i e = at-with key i new rows ∙ ap (λ b. cond b (Some n
 pub drop-other : {X : Type 0} (key : X → ℕ) (id : ℕ) (rows : List X) (i : ℕ) → eqb id i ≡ false →
     row_at key i (drop_row key id rows) ≡ row_at key i rows
 drop-other key id rows i e = at-drop key i id rows ∙ ap (λ b. cond b None (row_at key i rows)) e
-
--- a row in the place of the one with its key
-pub with-drop : {X : Type 0} (key : X → ℕ) (new : X) (rows : List X) → 0 < key new → RisesFrom key 0 rows →
-    with_row key new (drop_row key (key new) rows) ≡ with_row key new rows
-with-drop key new rows lt r =
-    same-rows key 0 0 (with_row key new (drop_row key (key new) rows)) (with_row key new rows)
-    (rises-with key 0 new (drop_row key (key new) rows) lt (RisesFrom-filter key 0 _ rows r)) (rises-with key 0 new rows lt r)
-    (λ i. at-with key i new (drop_row key (key new) rows)
-    ∙ go i (eqb (key new) i) (at-drop key i (key new) rows)
-    ∙ sym (at-with key i new rows))
-  where
-    go : (i : ℕ) (b : Bool) → row_at key i (drop_row key (key new) rows) ≡ cond b None (row_at key i rows) →
-        cond b (Some new) (row_at key i (drop_row key (key new) rows)) ≡ cond b (Some new) (row_at key i rows)
-    go i true h = refl
-    go i false h = h
 
 pub gone : {X : Type 0} (key : X → ℕ) (id k : ℕ) (rows : List X) → k ≡ id → row_at key k (drop_row key id rows) ≡ None
 gone key id k rows e =
@@ -288,9 +284,9 @@ at-most b before = before-le before_id b.id before
 
 -- One change.
 
-pub kept-room : {X : Type 0} (key : X → ℕ) (b0 b1 : List (Before X)) (r0 r1 : RowsWithRoom X) → IsTracked key b0 r0 →
-    r1.rows ≡ r0.rows → b1 ≡ b0 → r0.room ≤ r1.room → Kept key b0 r0 b1 r1
-kept-room key b0 b1 r0 r1 is rows before room = (
+pub kept-room : {X : Type 0} (key : X → ℕ) (b0 b1 : List (Before X)) (r0 r1 : RowsWithRoom X) (n : ℕ) → IsTracked key b0 r0 n →
+    r1.rows ≡ r0.rows → b1 ≡ b0 → r0.room ≤ r1.room → Kept key b0 r0 b1 r1 n
+kept-room key b0 b1 r0 r1 n is rows before room = (
   record {
     rising = subst (RisesFrom key 0) (sym rows) is.rising;
     ids = subst (RisesFrom before_id 0) (sym before) is.ids;
@@ -300,11 +296,11 @@ kept-room key b0 b1 r0 r1 is rows before room = (
   ap (λ xs. restored key xs r1.rows) before ∙ ap (restored key b0) rows,
 )
 
-kept-step : {X : Type 0} (key : X → ℕ) (b : Before X) (b0 b1 b2 : List (Before X)) (r0 r1 r2 : RowsWithRoom X) →
-    IsTracked key b0 r0 → r1.rows ≡ r0.rows → b1 ≡ b0 → length b0 + 2 ≤ r1.room → 0 < b.id → b.row ≡ row_at key b.id r1.rows →
+kept-step : {X : Type 0} (key : X → ℕ) (b : Before X) (b0 b1 b2 : List (Before X)) (r0 r1 r2 : RowsWithRoom X) (n : ℕ) →
+    IsTracked key b0 r0 n → r1.rows ≡ r0.rows → b1 ≡ b0 → length b0 + 2 * (n + 1) ≤ r1.room → 0 < b.id → b.row ≡ row_at key b.id r1.rows →
     b2 ≡ remembered b b1 → r1.room ≤ r2.room + 1 → RisesFrom key 0 r2.rows →
-    ((i : ℕ) → eqb b.id i ≡ false → row_at key i r2.rows ≡ row_at key i r1.rows) → Kept key b0 r0 b2 r2
-kept-step key b b0 b1 b2 r0 r1 r2 is rows before room lt was next left rising other =
+    ((i : ℕ) → eqb b.id i ≡ false → row_at key i r2.rows ≡ row_at key i r1.rows) → Kept key b0 r0 b2 r2 n
+kept-step key b b0 b1 b2 r0 r1 r2 n is rows before room lt was next left rising other =
     let now : b2 ≡ remembered b b0 = next ∙ ap (remembered b) before in
     let was' : b.row ≡ row_at key b.id r0.rows = was ∙ ap (row_at key b.id) rows in (
       record {
@@ -318,23 +314,23 @@ kept-step key b b0 b1 b2 r0 r1 r2 is rows before room lt was next left rising ot
           (λ i e. other i e ∙ ap (row_at key i) rows),
     )
 
-pub kept-put : {X : Type 0} (key : X → ℕ) (row : X) (b : Before X) (b0 b1 b2 : List (Before X)) (r0 r1 r2 : RowsWithRoom X) →
-    IsTracked key b0 r0 → r1.rows ≡ r0.rows → b1 ≡ b0 → length b0 + 2 ≤ r1.room → 0 < key row → b.id ≡ key row →
+pub kept-put : {X : Type 0} (key : X → ℕ) (row : X) (b : Before X) (b0 b1 b2 : List (Before X)) (r0 r1 r2 : RowsWithRoom X) (n : ℕ) →
+    IsTracked key b0 r0 n → r1.rows ≡ r0.rows → b1 ≡ b0 → length b0 + 2 * (n + 1) ≤ r1.room → 0 < key row → b.id ≡ key row →
     b.row ≡ row_at key (key row) r1.rows → b2 ≡ remembered b b1 → r1.room ≤ r2.room + 1 → r2.rows ≡ with_row key row r1.rows →
-    Kept key b0 r0 b2 r2
-kept-put key row b b0 b1 b2 r0 r1 r2 is rows before room lt id was next left put =
+    Kept key b0 r0 b2 r2 n
+kept-put key row b b0 b1 b2 r0 r1 r2 n is rows before room lt id was next left put =
     let rises : RisesFrom key 0 r1.rows = subst (RisesFrom key 0) (sym rows) is.rising in
-    kept-step key b b0 b1 b2 r0 r1 r2 is rows before room (omega (arith, lt, id)) (was ∙ ap (λ k. row_at key k r1.rows) (sym id))
+    kept-step key b b0 b1 b2 r0 r1 r2 n is rows before room (omega (arith, lt, id)) (was ∙ ap (λ k. row_at key k r1.rows) (sym id))
     next left (subst (RisesFrom key 0) (sym put) (rises-with key 0 row r1.rows lt rises))
     (λ i e. ap (row_at key i) put ∙ put-other key row r1.rows i (ap (λ k. eqb k i) (sym id) ∙ e))
 
-pub kept-drop : {X : Type 0} (key : X → ℕ) (b : Before X) (b0 b1 b2 : List (Before X)) (r0 r1 r2 : RowsWithRoom X) →
-    IsTracked key b0 r0 → r1.rows ≡ r0.rows → b1 ≡ b0 → length b0 + 2 ≤ r1.room → 0 < b.id →
+pub kept-drop : {X : Type 0} (key : X → ℕ) (b : Before X) (b0 b1 b2 : List (Before X)) (r0 r1 r2 : RowsWithRoom X) (n : ℕ) →
+    IsTracked key b0 r0 n → r1.rows ≡ r0.rows → b1 ≡ b0 → length b0 + 2 * (n + 1) ≤ r1.room → 0 < b.id →
     b.row ≡ row_at key b.id r1.rows → b2 ≡ remembered b b1 → r1.room ≤ r2.room → r2.rows ≡ drop_row key b.id r1.rows →
-    Kept key b0 r0 b2 r2
-kept-drop key b b0 b1 b2 r0 r1 r2 is rows before room lt was next left put =
+    Kept key b0 r0 b2 r2 n
+kept-drop key b b0 b1 b2 r0 r1 r2 n is rows before room lt was next left put =
     let rises : RisesFrom key 0 r1.rows = subst (RisesFrom key 0) (sym rows) is.rising in
-    kept-step key b b0 b1 b2 r0 r1 r2 is rows before room lt was next (omega (arith, left))
+    kept-step key b b0 b1 b2 r0 r1 r2 n is rows before room lt was next (omega (arith, left))
     (subst (RisesFrom key 0) (sym put) (RisesFrom-filter key 0 _ r1.rows rises))
     (λ i e. ap (row_at key i) put ∙ drop-other key b.id r1.rows i e)
 
@@ -357,10 +353,38 @@ length-last : {X : Type 0} (xs : List X) (x : X) → length (xs ++ x ∷ []) ≡
 length-last [] x = refl
 length-last (y ∷ xs) x = (let more = length-last xs x in omega (arith, more))
 
-pub popped-tracked : {X : Type 0} (key : X → ℕ) (all left : List (Before X)) (b : Before X) (rows now : RowsWithRoom X) →
-    IsTracked key all rows → all ≡ left ++ b ∷ [] → now.rows ≡ put_back key b rows.rows → rows.room ≤ now.room + 1 →
-    IsTracked key left now
-popped-tracked key all left b rows now is same put room =
+-- where all is put back
+pub tracked-none : {X : Type 0} (key : X → ℕ) (before now : List (Before X)) (rows : RowsWithRoom X) (n : ℕ) → now ≡ [] →
+    IsTracked key before rows n → IsTracked key now rows n
+tracked-none key before [] rows n none is =
+    record { rising = is.rising; ids = tt; images = tt; room = (let was = is.room in omega (arith, was)) }
+tracked-none key before (b ∷ now) rows n none is = absurd cc
+
+pub counted-back : {X : Type 0} (key : X → ℕ) (before now : List (Before X)) (rows new : RowsWithRoom X)
+    (count started places more n : ℕ) → IsCounted key before rows count started places n → new.rows ≡ restored key before rows.rows →
+    now ≡ [] → more ≡ places → IsTracked key now new n → IsCounted key now new started started more n
+counted-back key before [] rows new count started places more n is put none same tracked = record {
+  tracked = tracked;
+  now = is.start ∙ sym (ap length put);
+  start = is.start ∙ sym (ap length put);
+  places = (let was = is.places in omega (arith, was, same));
+}
+counted-back key before (b ∷ now) rows new count started places more n is put none same tracked = absurd cc
+
+-- with less room
+pub tracked-less : {X : Type 0} (key : X → ℕ) (before : List (Before X)) (rows : RowsWithRoom X) (m n : ℕ) → m ≤ n →
+    IsTracked key before rows n → IsTracked key before rows m
+tracked-less key before rows m n le is = record {
+  rising = is.rising;
+  ids = is.ids;
+  images = is.images;
+  room = (let was = is.room in omega (arith, was, le));
+}
+
+pub popped-tracked : {X : Type 0} (key : X → ℕ) (all left : List (Before X)) (b : Before X) (rows now : RowsWithRoom X) (n : ℕ) →
+    IsTracked key all rows n → all ≡ left ++ b ∷ [] → now.rows ≡ put_back key b rows.rows → rows.room ≤ now.room + 1 →
+    IsTracked key left now n
+popped-tracked key all left b rows now n is same put room =
     let are : AreImages key (left ++ b ∷ []) = subst (AreImages key) same is.images in
     record {
       rising =
@@ -379,14 +403,6 @@ found-as b before seen again n r t s a is at e =
       m,
       ap (is_next before_id b.id before) (sym m) ∙ ap (λ xs. is_next before_id b.id xs n) (sym a) ∙ sym at ∙ e,
     )
-
--- the row was taken out and put again
-pub placed : {X : Type 0} (key : X → ℕ) (row : X) (id : ℕ) (rows0 rows1 rows2 rows3 : List X) → rows1 ≡ rows0 →
-    rows2 ≡ drop_row key id rows1 → id ≡ key row → rows3 ≡ with_row key row rows2 → 0 < key row → RisesFrom key 0 rows0 →
-    rows3 ≡ with_row key row rows0
-placed key row id rows0 rows1 rows2 rows3 same gone' is put lt r =
-    put ∙ ap (with_row key row) (gone' ∙ ap (drop_row key id) same ∙ ap (λ k. drop_row key k rows0) is)
-    ∙ with-drop key row rows0 lt r
 
 pub image-at : {X : Type 0} (key : X → ℕ) (before : List (Before X)) (b : Before X) → Has before b → AreImages key before →
     IsImage key b.id b.row
@@ -462,7 +478,33 @@ counted-put key row id count next rows new r same is counted put =
     ∙ ap (λ n. cond (has_row key (key row) rows) n (n + 1)) counted
     ∙ sym (ap length put ∙ length-put key 0 row rows r)
 
+-- a row more can't be counted
+pub uncounted : {X : Type 0} (key : X → ℕ) (row : X) (id count most : ℕ) (rows : List X) → RisesFrom key 0 rows → id ≡ key row →
+    count ≡ length rows → has_row key id rows ≡ false → most ≤ count + 1 → most ≤ length (with_row key row rows)
+uncounted key row id count most rows r same counted new le =
+    let put : length (with_row key row rows) ≡ length rows + 1 =
+    length-put key 0 row rows r
+    ∙ ap (λ b. cond b (length rows) (length rows + 1)) (ap (λ k. has_row key k rows) (sym same) ∙ new) in
+    omega (arith, le, put, counted)
+
 pub counted-drop : {X : Type 0} (key : X → ℕ) (id count next : ℕ) (rows new : List X) → RisesFrom key 0 rows →
     next ≡ cond (has_row key id rows) (count - 1) count → count ≡ length rows → new ≡ drop_row key id rows → next ≡ length new
 counted-drop key id count next rows new r is counted put =
     is ∙ ap (λ n. cond (has_row key id rows) (n - 1) n) counted ∙ sym (ap length put ∙ length-drop_row key 0 id rows r)
+
+few-rows : {X : Type 0} (key : X → ℕ) (n bound : ℕ) (rows : List X) → RisesFrom key n rows → IsBelow key bound rows → n ≤ bound →
+    length rows + n ≤ bound
+few-rows key n bound [] r b le = omega (arith, le)
+few-rows key n bound (x ∷ rows) r b le =
+    let rest = few-rows key (key x) bound rows r.1 b.1 (omega (arith, b.0)) in omega (arith, rest, r.0)
+
+-- ids run out before rows do
+pub too-long : {X : Type 0} (key : X → ℕ) (next most : ℕ) (row : X) (rows : List X) → RisesFrom key 0 rows → IsBelow key next rows →
+    most ≤ length (with_row key row rows) → most ≤ next + 1
+too-long key next most row rows r b le =
+    let few = few-rows key 0 next rows r b (omega arith) in
+    go (has_row key (key row) rows) few (length-put key 0 row rows r)
+  where
+    go : (h : Bool) → length rows + 0 ≤ next → length (with_row key row rows) ≡ cond h (length rows) (length rows + 1) → most ≤ next + 1
+    go true few e = omega (arith, few, e, le)
+    go false few e = omega (arith, few, e, le)

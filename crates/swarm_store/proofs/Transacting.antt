@@ -2,7 +2,6 @@
 use Rattle.std.proofs.Common.{◌≡◌, ℕ, ◌+◌, ◌<◌, ◌≤◌, Bool, true, false, cond, ◌⊎◌, inl, inr, List, [], ◌∷◌, ◌++◌, length, drop, get_or, Option, Some, None, Result, Ok, Err, OnOk, OnErr, refl, sym, ap, ◌∙◌, subst, arith}
 use Rattle.std.specs.Prelude.{filter, map, nat_lt}
 use Rattle.std.proofs.lemmas.Bool.Decides.{nat_tests}
-use Rattle.std.proofs.lemmas.List.{length-drop}
 use Rattle.swarm_model.proofs.Base.Answers.{OnDone, given-found, given-is, given-unless, given-unless_some}
 use Rattle.swarm_model.specs.Calls.{txn, txn_answer}
 use Rattle.swarm_model.specs.Calls.Networks.{new_network, remove_network}
@@ -12,8 +11,6 @@ use Rattle.swarm_model.specs.Calls.Refusals.{Done, conflict, network_by, node_by
 use Rattle.swarm_model.specs.Calls.Services.{filled, go_back, new_service, remove_service, respecified, rollback_service, update_service}
 use Rattle.swarm_model.specs.Changed.{changes_between}
 use Rattle.swarm_objects.proofs.RowLemmas.{IsBelow-map, IsBelow-more, RisesFrom-filter, RisesFrom-map, RisesFrom-push, drop_next}
-use Rattle.swarm_objects.specs.Bounds.{IsSmall}
-use Rattle.swarm_objects.specs.Defaults.{usual_settings}
 use Rattle.swarm_objects.specs.Limits.{most_ops}
 use Rattle.swarm_objects.specs.Rows.{IsBelow, RisesFrom, network_id, node_id, put_row, service_id, session_node, task_id}
 use Rattle.swarm_objects.specs.World.{Tables, World}
@@ -28,16 +25,13 @@ use Rattle.swarm_objects.specs.declared.replies.Wanted.TheVariants as wanted_by
 use Rattle.swarm_objects.specs.declared.services.Service.{Service}
 use Rattle.swarm_objects.specs.declared.services.ServiceSpec.{ServiceSpec}
 use Rattle.swarm_objects.specs.declared.watches.Event.{Event}
-use Rattle.swarm_plain.proofs.OpSteps.{next-done, room-less, room-next, room-small}
-use Rattle.swarm_plain.proofs.Rooms.{room-op}
-use Rattle.swarm_plain.specs.Operations.{HasRoom}
+use Rattle.swarm_plain.proofs.OpSteps.{next-done}
 use Rattle.swarm_roles.specs.Effects.{world_with}
-use Rattle.swarm_roles.specs.Usable.{IsUsable}
 use Rattle.swarm_store.proofs.Beside.{same-ops}
 use Rattle.swarm_store.proofs.Orphans.{orphaned, orphaned-id}
 use Rattle.swarm_store.proofs.Standing.{below-filter, below-push, below-put, rises-put}
 use Rattle.swarm_store.specs.Inside.Done.{made, made_all}
-use Rattle.swarm_store.specs.Inside.Ops.{IsOpen, Reached}
+use Rattle.swarm_store.specs.Inside.Ops.{Reached}
 use Rattle.swarm_store.specs.Inside.State.{Stands}
 use Rattle.swarm_store.specs.Stored.{StandsFor, Stored, Transacts, without_sessions}
 
@@ -180,37 +174,17 @@ inv-refused : (d : Done) (r : Refusal) → made d ≡ Err r → d ≡ Err r
 inv-refused (Ok e) r is = absurd cc
 inv-refused (Err q) r is = let same : q ≡ r = cc in ap (λ x. Err x) same
 
-pub next-open : (version n : ℕ) (t u : Tables) (o : Op) (id : ℕ) → IsOpen (n + 1) t →
-    made (apply_op version (world_with t) o) ≡ Ok (u, id) → IsOpen n u
-next-open version n t u o id is done =
+pub next-stands : (version : ℕ) (t u : Tables) (o : Op) (id : ℕ) → Stands t →
+    made (apply_op version (world_with t) o) ≡ Ok (u, id) → Stands u
+next-stands version t u o id is done =
     let gave = inv-made (apply_op version (world_with t) o) u id done in
-    let room =
-    given-is (λ (d : World × ℕ). HasRoom n d.0.tables) (apply_op version (world_with t) o) (gave.after, id)
-    (room-op version n (world_with t) o is.room) gave.done in
     let stands =
-    given-is OpStands (apply_op version (world_with t) o) (gave.after, id) (op-stands version (world_with t) o is.stands) gave.done in
-    subst (IsOpen n) gave.same
-    (record {
-      stands =
-          stand (without_sessions gave.after.tables) (of-nodes gave.after.tables stands) (of-services gave.after.tables stands)
-          (of-tasks gave.after.tables stands) (of-networks gave.after.tables stands) tt stands.ids;
-      room = record { ids = room.ids; iterations = room.iterations };
-    })
+    given-is OpStands (apply_op version (world_with t) o) (gave.after, id) (op-stands version (world_with t) o is) gave.done in
+    subst Stands gave.same
+    (stand (without_sessions gave.after.tables) (of-nodes gave.after.tables stands) (of-services gave.after.tables stands)
+    (of-tasks gave.after.tables stands) (of-networks gave.after.tables stands) tt stands.ids)
 
 -- All of them.
-
-pub open-less : (m n : ℕ) (t : Tables) → m ≤ n → IsOpen n t → IsOpen m t
-open-less m n t le is = record { stands = is.stands; room = room-less m n t le is.room }
-
-pub open-next : (ops : List Op) (i : ℕ) (t : Tables) → i < length ops → IsOpen (length (drop i ops)) t → IsOpen 1 t
-open-next ops i t lt is = record { stands = is.stands; room = room-next ops i t lt is.room }
-
-pub open-rest : (version : ℕ) (ops : List Op) (i : ℕ) (t u : Tables) (o : Op) (id : ℕ) → i < length ops →
-    IsOpen (length (drop i ops)) t → made (apply_op version (world_with t) o) ≡ Ok (u, id) → IsOpen (length (drop (i + 1) ops)) u
-open-rest version ops i t u o id lt is done =
-    let n = length (drop (i + 1) ops) in
-    let more : n + 1 ≤ length (drop i ops) = omega (arith, length-drop i ops, length-drop (i + 1) ops, lt) in
-    next-open version n t u o id (open-less (n + 1) (length (drop i ops)) t more is) done
 
 pub ops-next : (version : ℕ) (ops : List Op) (i : ℕ) (o : Op) (t u : Tables) (ids all : List ℕ) (id : ℕ) → i < length ops →
     o ≡ get_or ops i o → made (apply_op version (world_with t) o) ≡ Ok (u, id) → all ≡ ids ++ id ∷ [] →
@@ -237,34 +211,6 @@ pub either-refused : (version : ℕ) (ops : List Op) (i : ℕ) (o : Op) (t : Tab
     all ≡ made_all (apply_ops version (drop i ops) (world_with t) ids) → (r ≡ refusal.NoMemory) ⊎ (all ≡ Err r)
 either-refused version ops i o t ids r all lt is (inl e) so = inl e
 either-refused version ops i o t ids r all lt is (inr e) so = inr (so ∙ ops-refused version ops i o t ids r lt is e)
-
--- Room for all of a transaction.
-
-pub usable-open : (n : ℕ) (t : Tables) (s : Stored) → t ≡ s.tables → IsUsable s.tables → 0 < t.next_id → n ≤ 200 → IsOpen n t
-usable-open n t s same usable' ids le =
-    let usable : IsUsable t = subst IsUsable (sym same) usable' in
-    let u : Tables = record t { settings = usual_settings } in
-    let small : IsSmall (world_with u) = record {
-      entries = omega arith;
-      clock = usable.clock;
-      next_id = usable.next_id;
-      heartbeat = omega arith;
-      times = record {
-        nodes = usable.times.nodes;
-        services = usable.times.services;
-        tasks = usable.times.tasks;
-        attempts = usable.times.attempts;
-        sessions = usable.times.sessions;
-        orphan = refl;
-      };
-      agents = refl;
-      sent = refl;
-    } in
-    let room = room-small n (world_with u) le small in
-    record {
-      stands = record { ordered = usable.sound.ordered; below = usable.sound.below; ids = ids };
-      room = record { ids = room.ids; iterations = room.iterations };
-    }
 
 -- Every world that the store stands for.
 
@@ -300,11 +246,11 @@ too-many version w ops before many = (
 )
 
 pub transacted-any : (version : ℕ) (ops : List Op) (w : World) (before : Stored) (t u : Tables) (old events : List Event)
-    (r : Result (List ℕ) Refusal) → record { tables = t; changes = old } ≡ before → StandsFor before w →
+    (n : ℕ) (r : Result (List ℕ) Refusal) → record { tables = t; changes = old; room = n } ≡ before → StandsFor before w →
     nat_lt most_ops (length ops) ≡ false → Reached (made_all (apply_ops version ops (world_with t) [])) r u →
     OnOk r (events ≡ changes_between version t u) → OnErr r ((u ≡ t) × (events ≡ old)) →
-    Transacts version ops w before r (record { tables = u; changes = events })
-transacted-any version ops w before t u old events (Ok ids) view stands few done ok err =
+    Transacts version ops w before r (record { tables = u; changes = events; room = n })
+transacted-any version ops w before t u old events n (Ok ids) view stands few done ok err =
     let same : t ≡ without_sessions w.tables = ap (λ (s : Stored). s.tables) view ∙ stands in
     let here = same-ops version ops w (world_with t) [] (sym (ap without_sessions same)) ∙ done in
     let gave = inv-made_all (apply_ops version ops w []) u ids here in (
@@ -313,10 +259,12 @@ transacted-any version ops w before t u old events (Ok ids) view stands few done
       sym gave.same,
       ok ∙ ap (λ v. changes_between version v u) same
           ∙ ap (λ v. changes_between version (without_sessions w.tables) v) (sym gave.same),
+      ap (λ (s : Stored). s.room) view,
     )
-transacted-any version ops w before t u old events (Err r) view stands few done ok err = (
+transacted-any version ops w before t u old events n (Err r) view stands few done ok err = (
   why done,
-  ap (λ v. record { tables = v; changes = events }) err.0 ∙ ap (λ es. record { tables = t; changes = es }) err.1 ∙ view,
+  ap (λ v. record { tables = v; changes = events; room = n }) err.0
+      ∙ ap (λ es. record { tables = t; changes = es; room = n }) err.1 ∙ view,
 )
   where
     why : (r ≡ refusal.NoMemory) ⊎ (made_all (apply_ops version ops (world_with t) []) ≡ Err r) →

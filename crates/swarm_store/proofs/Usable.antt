@@ -1,5 +1,5 @@
 -- A store that stands for the world of a legal history has what its calls ask for, and so it is after each call.
-use Rattle.std.proofs.Common.{◌≡◌, ℕ, ◌+◌, ◌<◌, List, [], ◌∷◌, ◌++◌, length, Option, Some, None, Result, Ok, Err, false, true, refl, sym, ap, ◌∙◌, subst, arith}
+use Rattle.std.proofs.Common.{◌≡◌, ℕ, ◌+◌, ◌<◌, List, [], ◌∷◌, ◌++◌, Some, Result, Ok, Err, false, true, refl, sym, ap, ◌∙◌, subst, arith}
 use Rattle.std.proofs.lemmas.List.{length-append}
 use Rattle.swarm_model.proofs.Base.Halting.{halted-call}
 use Rattle.swarm_model.proofs.Base.Histories.{IsLegalFrom-snoc, admitted, entries-replay, replay-snoc}
@@ -7,7 +7,7 @@ use Rattle.swarm_model.proofs.Laws.GivesOutReplay.{IsSound-replay}
 use Rattle.swarm_model.proofs.Laws.Numbers.{replay-counts}
 use Rattle.swarm_model.proofs.Laws.Small.{IsSmall-replay}
 use Rattle.swarm_model.specs.Calls.{answered, call_outcome, txn}
-use Rattle.swarm_model.specs.History.{IsLegal, replay}
+use Rattle.swarm_model.specs.History.{replay}
 use Rattle.std.specs.Prelude.{is_some}
 use Rattle.swarm_objects.proofs.RowLemmas.{Has-from_row_at}
 use Rattle.swarm_objects.specs.Bounds.{far_end}
@@ -24,7 +24,7 @@ use Rattle.swarm_objects.specs.declared.replies.Refusal.{Refusal}
 use Rattle.swarm_objects.specs.declared.replies.Reply.TheVariants as reply
 use Rattle.swarm_roles.specs.Usable.{IsUsable}
 use Rattle.swarm_store.specs.Followed.{Follows, UsableStoreLaw}
-use Rattle.swarm_store.specs.Stored.{StandsFor, Stored, Transacts, without_sessions}
+use Rattle.swarm_store.specs.Stored.{HasNearTasks, StandsFor, Stored, Transacts, without_sessions}
 
 pub usable_store : UsableStoreLaw
 usable_store h s legal stands =
@@ -63,6 +63,11 @@ usable_store h s legal stands =
 
 pub usable_follows : (n : ℕ) (s : Stored) → Follows n s → IsUsable s.tables
 usable_follows n s is = usable_store is.history s is.legal is.stands
+
+pub near_follows : (n : ℕ) (s : Stored) → Follows n s → HasNearTasks s.tables
+near_follows n s is =
+    let usable = usable_follows n s is in
+    record { next_id = usable.next_id; times = usable.times.tasks }
 
 -- there are ids for a few more
 pub few_ids : (n : ℕ) (s : Stored) → Follows n s → n < 1000 → s.tables.next_id + 1 < far_end

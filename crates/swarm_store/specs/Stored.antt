@@ -1,8 +1,10 @@
 -- What a store holds, and the worlds that it stands for.
-use Rattle.std.specs.Prelude.{◌≡◌, ◌⊎◌, ℕ, List, [], Result, Ok, Err}
+use Rattle.std.specs.Prelude.{◌≡◌, ◌⊎◌, ◌<◌, ℕ, true, List, [], Result, Ok, Err}
+use Rattle.std.specs.List.{list_all}
 use Rattle.swarm_model.specs.Calls.{txn}
 use Rattle.swarm_model.specs.Calls.Views.{shows}
 use Rattle.swarm_model.specs.Changed.{changes_between}
+use Rattle.swarm_objects.specs.Bounds.{far_end, is_near_task}
 use Rattle.swarm_objects.specs.Changes.{with_tables}
 use Rattle.swarm_objects.specs.World.{Tables, World}
 use Rattle.swarm_objects.specs.declared.calls.Op.{Op}
@@ -20,10 +22,17 @@ pub record Stored : Type 0 where
   pub tables : Tables
   -- the events of the last accepted change
   pub changes : List Event
+  -- how many changes of duties more can't want memory
+  pub room : ℕ
 
 -- the tables but for the sessions, of which a store knows nothing
 abbrev pub without_sessions : Tables → Tables
 without_sessions t = record t { sessions = [] }
+
+-- the next id and the times of tasks are below 2^60, as every call may take for granted
+pub record HasNearTasks (t : Tables) : Type 0 where
+  pub next_id : t.next_id < far_end
+  pub times : list_all is_near_task t.tasks ≡ true
 
 -- rows, clock, next id, attempts and settings are equal
 abbrev pub StandsFor : Stored → World → Type 0
@@ -33,7 +42,7 @@ StandsFor s w = s.tables ≡ without_sessions w.tables
 abbrev pub Transacts : ℕ → List Op → World → Stored → Result (List ℕ) Refusal → Stored → Type 0
 Transacts version ops w before (Ok ids) after =
     (v : World) × (txn version w ops ≡ Ok (reply.Txn ids, v)) × StandsFor after v
-    × (after.changes ≡ changes_between version w.tables v.tables)
+    × (after.changes ≡ changes_between version w.tables v.tables) × (after.room ≡ before.room)
 Transacts version ops w before (Err r) after =
     ((r ≡ refusal.NoMemory) ⊎ (txn version w ops ≡ Err r)) × (after ≡ before)
 
@@ -47,4 +56,4 @@ abbrev pub AppliesChanges : {A B : Type 0} → ℕ → List Change → World →
 AppliesChanges version cs w before (Ok done) after =
     StandsFor after (with_tables w (apply_changes w.tables cs))
     × (after.changes ≡ changes_between version w.tables (apply_changes w.tables cs))
-AppliesChanges version cs w before (Err e) after = after ≡ before
+AppliesChanges version cs w before (Err e) after = after ≡ record before { room = after.room }

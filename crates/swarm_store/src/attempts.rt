@@ -1,44 +1,73 @@
 // The attempts to restart tasks, under change.
-ghost use Rattle.std.specs.Prelude.{◌≡◌, ◌≤◌, ◌++◌, ◌∷◌, IfOk, OnErr, OnOk, [], count_by, filter, length, not, take};
+ghost use Rattle.std.specs.Prelude.{◌≡◌, ◌≤◌, ◌+◌, ◌++◌, ◌∷◌, IfOk, OnErr, OnOk, [], count_by, filter, length, not};
+ghost use Rattle.std.specs.Prelude.{take};
 ghost use Rattle.swarm_model.specs.Calls.Services.{is_attempt_of};
 ghost use Rattle.swarm_objects.specs.Tasks.Attempts.{is_kept_attempt};
+ghost use Rattle.swarm_store.specs.Inside.Attempts.{HasPlaces};
 
 use std::alloc::Global;
 use std::marker::Model;
 use std::mem::replace;
-use swarm_objects::{Attempt, Id, List, Ms, NoMemory, Place, Version, add};
+use swarm_objects::{Attempt, Id, Ms, NoMemory, Place, Version};
 
-// The attempts; and what they were when the changes under way began: their first so many, unless some went.
+// The attempts; and what they were when the changes under way began: their first so many, unless some went. There are
+// places for as many more as `room` says.
 #[derive(Drop)]
 pub(crate) struct Attempts {
-    rows: List<Attempt>,
+    rows: Vec<Attempt>,
     count: usize,
-    before: Option<List<Attempt>>,
+    before: Option<Vec<Attempt>>,
+    room: u64,
 }
 
 impl Model for Attempts {
-    ghost use Rattle.std.specs.Prelude.{◌≤◌, length};
     ghost use Rattle.swarm_objects.specs.declared.tasks.Attempt.{Attempt as Row};
     ghost use Rattle.swarm_store.specs.Inside.Span.{Span};
-    ghost use Rattle.swarm_store.specs.Inside.Attempts.{started};
+    ghost use Rattle.swarm_store.specs.Inside.Attempts.{AreAttempts, started};
 
     ghost Value = { Span Row };
 
-    ghost view = { λ a. record { start = started a.before a.count a.rows; rows = a.rows } };
+    ghost view = { λ a. record {
+      start = started a.before a.count a.rows.items;
+      rows = a.rows.items;
+      room = a.room;
+    } };
 
-    ghost invariant = { λ a. a.count ≤ length a.rows };
+    ghost invariant = { λ a. AreAttempts a.rows a.count a.before a.room };
 }
 
 impl Attempts {
     pub(crate) fn new(alloc: Global) -> Attempts
         ensures start { result.start ≡ [] }
         ensures rows { result.rows ≡ [] }
+        ensures room { result.room ≡ 0 }
     {
         Attempts {
-            rows: List::new(alloc),
+            rows: Vec::new(alloc),
             count: 0,
             before: None,
+            room: 0,
         }
+    }
+
+    // Makes the room at least `n`, unless memory is wanting; it isn't made while the changes under way took some out.
+    pub(crate) fn reserve(&mut self, n: u64) -> Result<(), NoMemory>
+        ensures ok { OnOk result (n ≤ self.new.room) }
+        ensures room { self.old.room ≤ self.new.room }
+        ensures rows { self.new.rows ≡ self.old.rows }
+        ensures start { self.new.start ≡ self.old.start }
+    {
+        if n <= self.room {
+            return Ok(());
+        }
+        if self.before.is_some() {
+            return Err(NoMemory);
+        }
+        let Ok(()) = self.rows.reserve(n as usize) else {
+            return Err(NoMemory);
+        };
+        self.room = n;
+        Ok(())
     }
 
     // How many there were of this place and version of the service within the window.
@@ -53,7 +82,6 @@ impl Attempts {
         ensures { result ≡ count_by (is_kept_attempt clock service place version window) self.now.rows }
     {
         self.rows
-            .as_slice()
             .iter()
             .filter(|attempt| {
                 attempt.service == service
@@ -68,16 +96,23 @@ impl Attempts {
         ensures ok { OnOk result (self.new.rows ≡ self.old.rows ++ attempt ∷ []) }
         ensures err { OnErr result (self.new.rows ≡ self.old.rows) }
         ensures start { self.new.start ≡ self.old.start }
+        ensures room { self.old.room ≤ self.new.room + 1 }
+        ensures full { OnErr result (self.old.room ≡ 0) }
     {
-        add(&mut self.rows, attempt)
+        self.room = self.room.saturating_sub(1);
+        match self.rows.push(attempt) {
+            Ok(()) => Ok(()),
+            Err(_) => Err(NoMemory),
+        }
     }
 
     // The attempts of the service are forgotten.
     pub(crate) fn forget(&mut self, alloc: Global, service: Id) -> Result<(), NoMemory>
         ensures ok { OnOk result (self.new.rows ≡ filter (λ a. not (is_attempt_of service a)) self.old.rows) }
         ensures start { self.new.start ≡ self.old.start }
+        ensures room { self.new.room ≡ self.old.room }
     {
-        let left = without_service(alloc, self.rows.as_slice(), service)?;
+        let left = without_service(alloc, self.rows.as_slice(), service, self.room)?;
         let mut all = replace(&mut self.rows, left);
         if self.before.is_none() {
             all.truncate(self.count);
@@ -90,6 +125,7 @@ impl Attempts {
     pub(crate) fn settle(&mut self)
         ensures rows { self.new.rows ≡ self.old.rows }
         ensures start { self.new.start ≡ self.old.rows }
+        ensures room { self.new.room ≡ self.old.room }
     {
         self.count = self.rows.len();
         self.before = None;
@@ -98,6 +134,7 @@ impl Attempts {
     pub(crate) fn take_back(&mut self)
         ensures rows { self.new.rows ≡ self.old.start }
         ensures start { self.new.start ≡ self.old.start }
+        ensures room { self.new.room ≡ self.old.room }
     {
         match replace(&mut self.before, None) {
             Some(before) => self.rows = before,
@@ -107,18 +144,25 @@ impl Attempts {
     }
 }
 
-// The attempts that aren't of this service.
+// The attempts that aren't of this service, with places for so many more.
 fn without_service(
     alloc: Global,
     attempts: &[Attempt],
     service: Id,
-) -> Result<List<Attempt>, NoMemory>
-    ensures { IfOk result (λ left. left ≡ filter (λ a. not (is_attempt_of service a)) attempts.now) }
+    room: u64,
+) -> Result<Vec<Attempt>, NoMemory>
+    ensures left { IfOk result (λ left. left.items ≡ filter (λ a. not (is_attempt_of service a)) attempts.now) }
+    ensures places { IfOk result (λ left. HasPlaces room left) }
 {
-    let mut left = List::new(alloc);
+    let Some(places) = attempts.len().checked_add(room as usize) else {
+        return Err(NoMemory);
+    };
+    let Ok(mut left) = Vec::with_capacity(alloc, places) else {
+        return Err(NoMemory);
+    };
     for attempt in attempts {
         if attempt.service != service {
-            add(&mut left, *attempt)?;
+            left.push_reserved(*attempt);
         }
     }
     Ok(left)

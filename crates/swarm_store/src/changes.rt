@@ -1,14 +1,18 @@
 // Changes of duties, one after the other.
-ghost use Rattle.std.specs.Prelude.{◌≡◌, OnErr, OnOk, true};
+ghost use Rattle.std.specs.Prelude.{◌≡◌, ◌<◌, ◌≤◌, ◌+◌, ◌^◌, ℕ, OnErr, OnOk, length, true};
+ghost use Rattle.std.specs.Vec.{vec_capacity};
 ghost use Rattle.swarm_model.specs.Changed.{changes_between};
 ghost use Rattle.swarm_objects.specs.Rows.{has_row, node_id, service_id, task_id};
 ghost use Rattle.swarm_objects.specs.Tasks.New.{with_task};
 ghost use Rattle.swarm_roles.specs.Changes.{CanApply, CanApplyAll, apply_change, apply_changes, put_task};
-ghost use Rattle.swarm_store.specs.Inside.State.{IsSettled, Stands, tables_now, tables_start};
+ghost use Rattle.swarm_store.specs.Inside.State.{Draws, DrawsAll, HasRooms, IsSettled, Stands, changed_rows};
+ghost use Rattle.swarm_store.specs.Inside.State.{origin, tables_now, tables_start};
 
 use crate::state::State;
 use std::collections::VecDeque;
-use swarm_objects::{Change, Event, Id, List, NoMemory, Node, Rows, Service, Task, Version};
+use swarm_objects::{
+    Attempt, Change, Event, Id, List, NoMemory, Node, Rows, Service, Task, Version,
+};
 
 impl State {
     // A node takes the place of the one with its id.
@@ -16,9 +20,10 @@ impl State {
         requires stands { Stands (tables_now self.old) }
         requires there { has_row node_id node.id self.old.nodes.rows ≡ true }
         ensures ok { OnOk result (tables_now self.new ≡ apply_change (tables_now self.old) (Change.PutNode node)) }
-        ensures start { tables_start self.new ≡ tables_start self.old }
+        ensures draws { Draws self.old self.new }
+        ensures full { OnErr result (HasRooms 1 self.old → 2 ^ 64 ≤ self.old.next_id + 1) }
     {
-        self.nodes.put(node)
+        self.nodes.put_within(node)
     }
 
     // A service takes the place of the one with its id.
@@ -27,9 +32,10 @@ impl State {
         requires there { has_row service_id service.id self.old.services.rows ≡ true }
         ensures ok { OnOk result (
             tables_now self.new ≡ apply_change (tables_now self.old) (Change.PutService service)) }
-        ensures start { tables_start self.new ≡ tables_start self.old }
+        ensures draws { Draws self.old self.new }
+        ensures full { OnErr result (HasRooms 1 self.old → 2 ^ 64 ≤ self.old.next_id + 1) }
     {
-        self.services.put(service)
+        self.services.put_within(service)
     }
 
     fn has_task(&self, id: Id) -> bool
@@ -46,9 +52,10 @@ impl State {
         requires stands { Stands (tables_now self.old) }
         requires there { has_row task_id task.id self.old.tasks.rows ≡ true }
         ensures ok { OnOk result (tables_now self.new ≡ put_task (tables_now self.old) task) }
-        ensures start { tables_start self.new ≡ tables_start self.old }
+        ensures draws { Draws self.old self.new }
+        ensures full { OnErr result (HasRooms 1 self.old → 2 ^ 64 ≤ self.old.next_id + 1) }
     {
-        self.tasks.put(task)
+        self.tasks.put_within(task)
     }
 
     // A task comes, with the next id.
@@ -56,12 +63,15 @@ impl State {
         requires stands { Stands (tables_now self.old) }
         requires id { task.id ≡ self.old.next_id }
         ensures ok { OnOk result (tables_now self.new ≡ with_task (tables_now self.old) task) }
-        ensures start { tables_start self.new ≡ tables_start self.old }
+        ensures draws { Draws self.old self.new }
+        ensures full { OnErr result (HasRooms 1 self.old → 2 ^ 64 ≤ self.old.next_id + 1) }
     {
-        let Some(next_id) = self.next_id.checked_add(1) else {
+        let Ok(next_id) = self.later_id() else {
             return Err(NoMemory);
         };
-        self.tasks.put(task)?;
+        let Ok(()) = self.tasks.put_within(task) else {
+            return Err(NoMemory);
+        };
         self.next_id = next_id;
         Ok(())
     }
@@ -70,7 +80,8 @@ impl State {
         requires stands { Stands (tables_now self.old) }
         requires can { CanApply (tables_now self.old) (Change.PutTask task) }
         ensures ok { OnOk result (tables_now self.new ≡ put_task (tables_now self.old) task) }
-        ensures start { tables_start self.new ≡ tables_start self.old }
+        ensures draws { Draws self.old self.new }
+        ensures full { OnErr result (HasRooms 1 self.old → 2 ^ 64 ≤ self.old.next_id + 1) }
     {
         if self.has_task(task.id) {
             self.replace_task(task)
@@ -84,23 +95,34 @@ impl State {
         requires stands { Stands (tables_now self.old) }
         requires there { has_row task_id id self.old.tasks.rows ≡ true }
         ensures ok { OnOk result (tables_now self.new ≡ apply_change (tables_now self.old) (Change.DropTask id)) }
-        ensures start { tables_start self.new ≡ tables_start self.old }
+        ensures draws { Draws self.old self.new }
+        ensures full { OnErr result (HasRooms 1 self.old → 2 ^ 64 ≤ self.old.next_id + 1) }
     {
-        self.tasks.remove(id)
+        self.tasks.remove_within(id)
+    }
+
+    // An attempt is kept.
+    fn keep(&mut self, attempt: Attempt) -> Result<(), NoMemory>
+        ensures ok { OnOk result (tables_now self.new ≡ apply_change (tables_now self.old) (Change.Keep attempt)) }
+        ensures draws { Draws self.old self.new }
+        ensures full { OnErr result (HasRooms 1 self.old → 2 ^ 64 ≤ self.old.next_id + 1) }
+    {
+        self.attempts.keep(attempt)
     }
 
     fn apply_change(&mut self, change: Change) -> Result<(), NoMemory>
         requires stands { Stands (tables_now self.old) }
         requires can { CanApply (tables_now self.old) change }
         ensures ok { OnOk result (tables_now self.new ≡ apply_change (tables_now self.old) change) }
-        ensures start { tables_start self.new ≡ tables_start self.old }
+        ensures draws { Draws self.old self.new }
+        ensures full { OnErr result (HasRooms 1 self.old → 2 ^ 64 ≤ self.old.next_id + 1) }
     {
         match change {
             Change::PutNode(node) => self.put_node(node),
             Change::PutService(service) => self.put_service(service),
             Change::PutTask(task) => self.put_task(task),
             Change::DropTask(id) => self.remove_task(id),
-            Change::Keep(attempt) => self.attempts.keep(attempt),
+            Change::Keep(attempt) => self.keep(attempt),
         }
     }
 
@@ -110,11 +132,14 @@ impl State {
         requires can { CanApplyAll (tables_now self.old) changes }
         ensures ok { OnOk result (tables_now self.new ≡ apply_changes (tables_now self.old) changes) }
         ensures stands { OnOk result (Stands (tables_now self.new)) }
-        ensures start { tables_start self.new ≡ tables_start self.old }
+        ensures draws { DrawsAll (length changes) self.old self.new }
+        ensures full { OnErr result (HasRooms (length changes) self.old → 2 ^ 64 ≤ self.old.next_id + length changes) }
     {
         let mut left = VecDeque::from_vec(changes.into_vec());
         while let Some(change) = left.pop_front() {
-            self.apply_change(change)?;
+            let Ok(()) = self.apply_change(change) else {
+                return Err(NoMemory);
+            };
         }
         Ok(())
     }
@@ -122,52 +147,58 @@ impl State {
     // The changes under way stay, and what became of the rows is told; or they are taken back for want of memory.
     pub(crate) fn commit(
         &mut self,
-        events: &mut List<Event>,
+        events: &mut Vec<Event>,
         version: Version,
     ) -> Result<(), NoMemory>
         ensures ok { OnOk result (
-            (tables_now self.new ≡ tables_now self.old) × (tables_start self.new ≡ tables_now self.old)
-            × (events.new ≡ changes_between version (tables_start self.old) (tables_now self.old))
+            (tables_now self.new ≡ tables_now self.old)
+            × (origin self.new ≡ record (origin self.old) { tables = tables_now self.old })
+            × (events.new.items ≡ changes_between version (tables_start self.old) (tables_now self.old))
             ) }
         ensures err { OnErr result (
-            (tables_now self.new ≡ tables_start self.old) × (tables_start self.new ≡ tables_start self.old)
-            × (events.new ≡ events.old)
+            (tables_now self.new ≡ tables_start self.old) × (origin self.new ≡ origin self.old)
+            × (events.new.items ≡ events.old.items)
             ) }
+        ensures changed { changed_rows self.new ≡ 0 }
+        ensures places { vec_capacity events.old ≤ vec_capacity events.new }
+        ensures full { OnErr result (vec_capacity events.old < changed_rows self.old) }
     {
-        match self.events(version) {
-            Ok(told) => {
-                *events = told;
-                self.settle();
-                Ok(())
-            }
-            Err(NoMemory) => {
-                self.take_back();
-                Err(NoMemory)
-            }
-        }
+        let Ok(()) = self.make_places(events) else {
+            self.take_back();
+            return Err(NoMemory);
+        };
+        events.clear();
+        self.put_events(version, events);
+        self.settle();
+        Ok(())
     }
 
     // Applies all of the changes, or none.
     pub(crate) fn apply(
         &mut self,
-        events: &mut List<Event>,
+        events: &mut Vec<Event>,
         version: Version,
         changes: List<Change>,
     ) -> Result<(), NoMemory>
         requires settled { IsSettled self.old }
-        requires stands { Stands (tables_now self.old) }
         requires can { CanApplyAll (tables_now self.old) changes }
         ensures settled { IsSettled self.new }
         ensures ok { OnOk result (
             (tables_now self.new ≡ apply_changes (tables_now self.old) changes)
-            × (events.new ≡ changes_between version (tables_now self.old) (tables_now self.new))
+            × (events.new.items ≡ changes_between version (tables_now self.old) (tables_now self.new))
             ) }
-        ensures err { OnErr result ((tables_now self.new ≡ tables_now self.old) × (events.new ≡ events.old)) }
+        ensures err { OnErr result (
+            (tables_now self.new ≡ tables_now self.old) × (events.new.items ≡ events.old.items)
+            ) }
+        ensures rooms { (n : ℕ) → HasRooms (n + length changes) self.old → HasRooms n self.new }
+        ensures places { vec_capacity events.old ≤ vec_capacity events.new }
+        ensures full { OnErr result (HasRooms (length changes) self.old → length changes ≤ vec_capacity events.old
+            → 2 ^ 64 ≤ self.old.next_id + length changes) }
     {
-        if self.apply_changes(changes).is_err() {
+        let Ok(()) = self.apply_changes(changes) else {
             self.take_back();
             return Err(NoMemory);
-        }
+        };
         self.commit(events, version)
     }
 }

@@ -12,8 +12,8 @@ ghost use Rattle.swarm_model.specs.Calls.Views.{
 };
 ghost use Rattle.swarm_objects.specs.Rows.{row_at, task_id};
 ghost use Rattle.swarm_objects.specs.Services.Ports.{gives_number};
-ghost use Rattle.swarm_roles.specs.Usable.{IsUsable};
-ghost use Rattle.swarm_store.specs.Inside.State.{tables_now};
+ghost use Rattle.swarm_store.specs.Inside.State.{Stands, tables_now};
+ghost use Rattle.swarm_store.specs.Stored.{HasNearTasks};
 ghost use Rattle.swarm_plain.specs.Inside.Lookups.{Gets};
 
 use crate::names::not_found;
@@ -28,7 +28,7 @@ use swarm_objects::{
 
 impl State {
     pub(crate) fn inspect_node(&self, name: &Name) -> Result<ViewReply, Refusal>
-        requires { IsUsable (tables_now self.now) }
+        requires { Stands (tables_now self.now) }
         ensures { Gets (on_node (tables_now self.now) name.now (λ n. Ok (ViewReply.Node (node_detail n)))) result }
     {
         match self.node_named(name) {
@@ -38,7 +38,8 @@ impl State {
     }
 
     pub(crate) fn inspect_service(&self, name: &Name) -> Result<ViewReply, Refusal>
-        requires { IsUsable (tables_now self.now) }
+        requires stands { Stands (tables_now self.now) }
+        requires near { HasNearTasks (tables_now self.now) }
         ensures { let t = tables_now self.now in
             Gets (on_service_by t name.now (λ s. Ok (ViewReply.Service (service_detail t s)))) result }
     {
@@ -49,7 +50,7 @@ impl State {
     }
 
     pub(crate) fn inspect_network(&self, name: &Name) -> Result<ViewReply, Refusal>
-        requires { IsUsable (tables_now self.now) }
+        requires { Stands (tables_now self.now) }
         ensures { let t = tables_now self.now in
             Gets (on_network_by t name.now (λ n. Ok (ViewReply.Network (network_detail n)))) result }
     {
@@ -87,7 +88,8 @@ impl State {
     }
 
     fn service_detail(&self, service: &Service) -> Result<ServiceDetail, NoMemory>
-        requires { IsUsable (tables_now self.now) }
+        requires stands { Stands (tables_now self.now) }
+        requires near { HasNearTasks (tables_now self.now) }
         ensures { IfOk result (λ detail. detail ≡ service_detail (tables_now self.now) service.now) }
     {
         Ok(ServiceDetail {

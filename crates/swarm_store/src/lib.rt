@@ -4,6 +4,7 @@
 mod attempts;
 mod changes;
 mod details;
+mod held;
 mod names;
 mod networks;
 mod nodes;
@@ -16,6 +17,7 @@ mod theorems;
 mod tracked;
 mod transactions;
 mod views;
+mod walks;
 
 pub use store::Store;
 pub use theorems::followed_stores_are_usable;

@@ -4,13 +4,14 @@ ghost use Rattle.std.specs.List.{list_any};
 ghost use Rattle.std.specs.Ordering.{nat_cmp};
 ghost use Rattle.std.specs.Option.{option_map};
 ghost use Rattle.std.specs.Result.{result_err};
-ghost use Rattle.swarm_model.specs.Calls.Refusals.{bad_spec, first_refusal, name_taken, names_network, network_by, service_uses, task_uses, too_many, users};
+ghost use Rattle.swarm_model.specs.Calls.Refusals.{bad_spec, first_refusal, name_taken, names_network, network_by};
+ghost use Rattle.swarm_model.specs.Calls.Refusals.{service_uses, task_uses, too_many, users};
 ghost use Rattle.swarm_objects.specs.Limits.{most_networks};
 ghost use Rattle.swarm_objects.specs.Rows.{keep_least, least_by, network_id};
 ghost use Rattle.swarm_objects.specs.Rules.Networks.{subnet_breaks, subnet_rules};
 ghost use Rattle.swarm_objects.specs.Same.{same_number};
-ghost use Rattle.swarm_store.specs.Inside.Ops.{Does, IsOpen};
-ghost use Rattle.swarm_store.specs.Inside.State.{Stands, tables_now, tables_start};
+ghost use Rattle.swarm_store.specs.Inside.Ops.{Does};
+ghost use Rattle.swarm_store.specs.Inside.State.{Stands, origin, tables_now};
 
 use crate::names::not_found;
 use crate::state::State;
@@ -118,12 +119,13 @@ impl State {
         base: u32,
         bits: u8,
     ) -> Result<Id, Refusal>
-        requires { IsOpen 1 (tables_now self.old) }
+        requires { Stands (tables_now self.old) }
         ensures done { Does version (Op.CreateNetwork name.now base bits) self.old result self.new }
-        ensures start { tables_start self.new ≡ tables_start self.old }
+        ensures start { origin self.new ≡ origin self.old }
     {
         self.check_new_network(name, base, bits)?;
         let id = self.next_id;
+        let next_id = self.later_id()?;
         let name = name.duplicate(self.alloc)?;
         let network = Network {
             id,
@@ -133,7 +135,7 @@ impl State {
             length: bits,
         };
         self.networks.put(network)?;
-        self.next_id += 1;
+        self.next_id = next_id;
         Ok(id)
     }
 
@@ -141,7 +143,7 @@ impl State {
     pub(crate) fn remove_network(&mut self, version: Version, name: &Name) -> Result<Id, Refusal>
         requires { Stands (tables_now self.old) }
         ensures done { Does version (Op.RemoveNetwork name.now) self.old result self.new }
-        ensures start { tables_start self.new ≡ tables_start self.old }
+        ensures start { origin self.new ≡ origin self.old }
     {
         let Some(network) = self.network_named(name) else {
             return Err(not_found(self.alloc, Kind::Network, name));
@@ -161,7 +163,7 @@ impl State {
         settings: Settings,
     ) -> Result<Id, Refusal>
         ensures done { Does version (Op.SetCluster settings) self.old result self.new }
-        ensures start { tables_start self.new ≡ tables_start self.old }
+        ensures start { origin self.new ≡ origin self.old }
     {
         if let Err(rule) = check_settings(&settings) {
             return Err(Refusal::BadSpec(rule));

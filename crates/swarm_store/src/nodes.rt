@@ -1,5 +1,6 @@
 // The operations on nodes.
-ghost use Rattle.std.specs.Prelude.{None, Some, if◌then◌else◌, not, ◌&&◌, ◌<◌, ◌≡◌, ◌+◌, ◌∷◌, ◌≤◌, Bool, IfOk, List, OnOk, [], find, length};
+ghost use Rattle.std.specs.Prelude.{None, Some, if◌then◌else◌, not, ◌&&◌, ◌<◌, ◌≡◌, ◌+◌, ◌∷◌, ◌≤◌, Bool, IfOk};
+ghost use Rattle.std.specs.Prelude.{List, OnOk, [], find, length};
 ghost use Rattle.std.specs.Option.{option_map};
 ghost use Rattle.std.specs.Result.{result_err};
 ghost use Rattle.swarm_model.specs.Calls.Nodes.{broken_node, is_left_behind, new_node, respecified_node};
@@ -10,8 +11,8 @@ ghost use Rattle.swarm_objects.specs.declared.tasks.Task.{Task as Row};
 ghost use Rattle.swarm_objects.specs.Changes.{change_where, in_state};
 ghost use Rattle.swarm_objects.specs.Limits.{most_nodes};
 ghost use Rattle.swarm_objects.specs.Rows.{node_id};
-ghost use Rattle.swarm_store.specs.Inside.Ops.{Does, IsOpen};
-ghost use Rattle.swarm_store.specs.Inside.State.{Stands, tables_now, tables_start, with_changed};
+ghost use Rattle.swarm_store.specs.Inside.Ops.{Does};
+ghost use Rattle.swarm_store.specs.Inside.State.{Stands, origin, tables_now, with_changed};
 
 use crate::names::not_found;
 use crate::state::State;
@@ -161,15 +162,16 @@ impl State {
         name: &Name,
         draft: &NodeDraft,
     ) -> Result<Id, Refusal>
-        requires { IsOpen 1 (tables_now self.old) }
+        requires { Stands (tables_now self.old) }
         ensures done { Does version (Op.CreateNode name.now draft.now) self.old result self.new }
-        ensures start { tables_start self.new ≡ tables_start self.old }
+        ensures start { origin self.new ≡ origin self.old }
     {
         let id = self.next_id;
+        let next_id = self.later_id()?;
         let node = new_node(self.alloc, version, id, name, draft)?;
         self.check_new_node(&node)?;
         self.nodes.put(node)?;
-        self.next_id += 1;
+        self.next_id = next_id;
         Ok(id)
     }
 
@@ -186,7 +188,7 @@ impl State {
         requires { Stands (tables_now self.old) }
         ensures done { Does version (Op.UpdateNode name.now asked labels.now role availability)
             self.old result self.new }
-        ensures start { tables_start self.new ≡ tables_start self.old }
+        ensures start { origin self.new ≡ origin self.old }
     {
         let Some(node) = self.node_named(name) else {
             return Err(not_found(self.alloc, Kind::Node, name));
@@ -204,7 +206,7 @@ impl State {
         ensures done { OnOk result (tables_now self.new ≡
             change_where (is_left_behind node) (in_state version self.old.clock TaskState.Orphaned)
             (tables_now self.old)) }
-        ensures start { tables_start self.new ≡ tables_start self.old }
+        ensures start { origin self.new ≡ origin self.old }
     {
         let mut after = 0;
         while let Some(task) = self.next_task_on(node, after) {
@@ -220,7 +222,7 @@ impl State {
         requires { (x : Row) → task ≡ Some x → 0 < x.id }
         ensures ok { OnOk result (tables_now self.new ≡
             record (tables_now self.old) { tasks = with_changed task self.old.tasks.rows }) }
-        ensures start { tables_start self.new ≡ tables_start self.old }
+        ensures start { origin self.new ≡ origin self.old }
     {
         match task {
             Some(task) => self.tasks.put(task),
@@ -237,7 +239,7 @@ impl State {
     ) -> Result<Id, Refusal>
         requires { Stands (tables_now self.old) }
         ensures done { Does version (Op.RemoveNode name.now force) self.old result self.new }
-        ensures start { tables_start self.new ≡ tables_start self.old }
+        ensures start { origin self.new ≡ origin self.old }
     {
         let Some(node) = self.node_named(name) else {
             return Err(not_found(self.alloc, Kind::Node, name));

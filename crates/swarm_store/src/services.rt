@@ -1,5 +1,5 @@
 // The operations on services.
-ghost use Rattle.std.specs.Prelude.{◌≡◌, ◌⊎◌, ◌+◌, ◌^◌, ◌<◌, ◌∷◌, [], IfOk, Some, length, not, ◌&&◌};
+ghost use Rattle.std.specs.Prelude.{◌≡◌, ◌⊎◌, ◌∷◌, [], IfOk, IfSome, Some, length, not, ◌&&◌};
 ghost use Rattle.std.specs.List.{list_any};
 ghost use Rattle.std.specs.Option.{option_eq, option_map};
 ghost use Rattle.std.specs.Result.{result_err};
@@ -27,10 +27,11 @@ ghost use Rattle.swarm_model.specs.Calls.Services.{
 ghost use Rattle.swarm_objects.specs.Limits.{most_services};
 ghost use Rattle.swarm_objects.specs.Rows.{first_of, network_id, service_id};
 ghost use Rattle.swarm_objects.specs.Same.{same_number, same_template};
-ghost use Rattle.swarm_objects.specs.Services.Ports.{gives_number, has_port_number, holds_port, is_numbered, is_open_in, kept_numbers, ports_of};
+ghost use Rattle.swarm_objects.specs.Services.Ports.{gives_number, has_port_number, holds_port, is_numbered};
+ghost use Rattle.swarm_objects.specs.Services.Ports.{is_open_in, kept_numbers, ports_of};
 ghost use Rattle.swarm_plain.specs.Operations.{update_refusal};
-ghost use Rattle.swarm_store.specs.Inside.Ops.{Does, IsOpen};
-ghost use Rattle.swarm_store.specs.Inside.State.{Stands, tables_now, tables_start};
+ghost use Rattle.swarm_store.specs.Inside.Ops.{Does};
+ghost use Rattle.swarm_store.specs.Inside.State.{Stands, origin, tables_now};
 
 use crate::names::not_found;
 use crate::state::State;
@@ -160,14 +161,13 @@ fn version_of_template(version: Version, spec: &ServiceSpec, service: &Service) 
     }
 }
 
-// A job is a new one after each change.
-fn next_iteration(mode: Mode, iteration: u64) -> u64
-    requires { iteration + 1 < 2 ^ 64 }
-    ensures { result ≡ next_iteration mode iteration }
+// A job is a new one after each change; none where its numbers are at an end.
+fn next_iteration(mode: Mode, iteration: u64) -> Option<u64>
+    ensures { IfSome result (λ next. next ≡ next_iteration mode iteration) }
 {
     match mode {
-        Mode::Replicated(_) | Mode::Global => iteration,
-        Mode::Job { .. } => iteration + 1,
+        Mode::Replicated(_) | Mode::Global => Some(iteration),
+        Mode::Job { .. } => iteration.checked_add(1),
     }
 }
 
@@ -179,9 +179,11 @@ fn respecified(
     spec: ServiceSpec,
     service: &Service,
 ) -> Result<Service, NoMemory>
-    requires { service.now.iteration + 1 < 2 ^ 64 }
     ensures { IfOk result (λ new. new ≡ respecified version back spec service.now) }
 {
+    let Some(iteration) = next_iteration(service.spec.mode, service.iteration) else {
+        return Err(NoMemory);
+    };
     let numbers = kept_numbers(alloc, service, &spec)?;
     let template_version = version_of_template(version, &spec, service);
     Ok(Service {
@@ -192,7 +194,7 @@ fn respecified(
         previous: Some(service.spec.duplicate(alloc)?),
         template_version,
         rolling_back: back,
-        iteration: next_iteration(service.spec.mode, service.iteration),
+        iteration,
         numbers,
         run: service.run.duplicate(alloc)?,
     })
@@ -380,15 +382,16 @@ impl State {
         name: &Name,
         draft: &Draft,
     ) -> Result<Id, Refusal>
-        requires { IsOpen 1 (tables_now self.old) }
+        requires { Stands (tables_now self.old) }
         ensures done { Does version (Op.CreateService name.now draft.now) self.old result self.new }
-        ensures start { tables_start self.new ≡ tables_start self.old }
+        ensures start { origin self.new ≡ origin self.old }
     {
         self.check_new_service(name, draft)?;
         let id = self.next_id;
+        let next_id = self.later_id()?;
         let service = self.new_service(version, name, draft)?;
         self.services.put(service)?;
-        self.next_id += 1;
+        self.next_id = next_id;
         Ok(id)
     }
 
@@ -400,9 +403,9 @@ impl State {
         asked: Option<Version>,
         draft: &Draft,
     ) -> Result<Id, Refusal>
-        requires { IsOpen 1 (tables_now self.old) }
+        requires { Stands (tables_now self.old) }
         ensures done { Does version (Op.UpdateService name.now asked draft.now) self.old result self.new }
-        ensures start { tables_start self.new ≡ tables_start self.old }
+        ensures start { origin self.new ≡ origin self.old }
     {
         let Some(service) = self.service_named(name) else {
             return Err(not_found(self.alloc, Kind::Service, name));
@@ -422,9 +425,9 @@ impl State {
         name: &Name,
         asked: Option<Version>,
     ) -> Result<Id, Refusal>
-        requires { IsOpen 1 (tables_now self.old) }
+        requires { Stands (tables_now self.old) }
         ensures done { Does version (Op.RollbackService name.now asked) self.old result self.new }
-        ensures start { tables_start self.new ≡ tables_start self.old }
+        ensures start { origin self.new ≡ origin self.old }
     {
         let Some(service) = self.service_named(name) else {
             return Err(not_found(self.alloc, Kind::Service, name));
@@ -444,7 +447,7 @@ impl State {
     pub(crate) fn remove_service(&mut self, version: Version, name: &Name) -> Result<Id, Refusal>
         requires { Stands (tables_now self.old) }
         ensures done { Does version (Op.RemoveService name.now) self.old result self.new }
-        ensures start { tables_start self.new ≡ tables_start self.old }
+        ensures start { origin self.new ≡ origin self.old }
     {
         let Some(service) = self.service_named(name) else {
             return Err(not_found(self.alloc, Kind::Service, name));

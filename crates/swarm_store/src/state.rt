@@ -1,10 +1,11 @@
 // What a store holds, now and when the changes under way began.
-ghost use Rattle.std.specs.Prelude.{◌≡◌, ◌<◌, IfOk, [], filter};
+ghost use Rattle.std.specs.Prelude.{◌≡◌, ◌<◌, ◌≤◌, ◌+◌, ◌^◌, ℕ, IfNone, IfOk, IfSome, OnErr, OnOk, [], filter};
+ghost use Rattle.std.specs.Vec.{vec_capacity};
 ghost use Rattle.std.specs.Option.{option_copied};
 ghost use Rattle.swarm_model.specs.Changed.{changes_between};
 ghost use Rattle.swarm_objects.specs.Rows.{row_above};
 ghost use Rattle.swarm_objects.specs.World.{empty_tables};
-ghost use Rattle.swarm_store.specs.Inside.State.{IsSettled, tables_now, tables_start};
+ghost use Rattle.swarm_store.specs.Inside.State.{HasRooms, IsSettled, changed_rows, origin, tables_now, tables_start};
 
 use crate::attempts::Attempts;
 use crate::tracked::Tracked;
@@ -12,8 +13,7 @@ use std::alloc::Global;
 use swarm_index::IndexKey;
 use swarm_index::keys::{NODE, SERVICE};
 use swarm_objects::{
-    Event, Id, Kind, List, Ms, Network, NoMemory, Node, Place, Rows, Service, Settings, Task,
-    Version,
+    Event, Id, Kind, Ms, Network, NoMemory, Node, Place, Rows, Service, Settings, Task, Version,
 };
 
 #[derive(Drop)]
@@ -52,10 +52,22 @@ impl State {
         }
     }
 
+    // The id after the next one; want of memory where the numbers are at an end.
+    pub(crate) fn later_id(&self) -> Result<Id, NoMemory>
+        ensures id { IfOk result (λ id. id ≡ self.now.next_id + 1) }
+        ensures full { OnErr result (2 ^ 64 ≤ self.now.next_id + 1) }
+    {
+        match self.next_id.checked_add(1) {
+            Some(id) => Ok(id),
+            None => Err(NoMemory),
+        }
+    }
+
     // All is again what it was. It takes no memory.
     pub(crate) fn take_back(&mut self)
         ensures now { tables_now self.new ≡ tables_start self.old }
-        ensures start { tables_start self.new ≡ tables_start self.old }
+        ensures start { origin self.new ≡ origin self.old }
+        ensures changed { changed_rows self.new ≡ 0 }
     {
         self.next_id = self.next_id_before;
         self.settings = self.settings_before;
@@ -69,7 +81,8 @@ impl State {
     // The changes stay.
     pub(crate) fn settle(&mut self)
         ensures now { tables_now self.new ≡ tables_now self.old }
-        ensures start { tables_start self.new ≡ tables_now self.old }
+        ensures start { origin self.new ≡ record (origin self.old) { tables = tables_now self.old } }
+        ensures changed { changed_rows self.new ≡ 0 }
     {
         self.next_id_before = self.next_id;
         self.settings_before = self.settings;
@@ -80,19 +93,73 @@ impl State {
         self.attempts.settle();
     }
 
-    // What became of the rows since the changes under way began.
-    pub(crate) fn events(&self, version: Version) -> Result<List<Event>, NoMemory>
-        ensures { IfOk result (λ events.
-            events ≡ changes_between version (tables_start self.now) (tables_now self.now)) }
+    // Room for so many changes of duties, or want of memory; then there may be room for some of them.
+    pub(crate) fn reserve(&mut self, n: u64) -> Result<(), NoMemory>
+        ensures ok { OnOk result (HasRooms n self.new) }
+        ensures rooms { (m : ℕ) → HasRooms m self.old → HasRooms m self.new }
+        ensures now { tables_now self.new ≡ tables_now self.old }
+        ensures start { tables_start self.new ≡ tables_start self.old }
+        ensures changed { changed_rows self.new ≡ changed_rows self.old }
     {
-        let mut events = List::new(self.alloc);
-        self.nodes.put_events(version, Kind::Node, &mut events)?;
-        self.services
-            .put_events(version, Kind::Service, &mut events)?;
-        self.tasks.put_events(version, Kind::Task, &mut events)?;
-        self.networks
-            .put_events(version, Kind::Network, &mut events)?;
-        Ok(events)
+        self.nodes.reserve(n)?;
+        self.services.reserve(n)?;
+        self.tasks.reserve(n)?;
+        self.attempts.reserve(n)
+    }
+
+    // How many rows changed, where that is a number.
+    fn changed(&self) -> Option<usize>
+        ensures some { IfSome result (λ n. n ≡ changed_rows self.now) }
+        ensures none { IfNone result (2 ^ 64 ≤ changed_rows self.now) }
+    {
+        let Some(rows) = self.nodes.changed().checked_add(self.services.changed()) else {
+            return None;
+        };
+        let Some(rows) = rows.checked_add(self.tasks.changed()) else {
+            return None;
+        };
+        rows.checked_add(self.networks.changed())
+    }
+
+    // Places for the events of the changes under way.
+    pub(crate) fn make_places(&self, events: &mut Vec<Event>) -> Result<(), NoMemory>
+        ensures items { events.new.items ≡ events.old.items }
+        ensures ok { OnOk result (changed_rows self.now ≤ vec_capacity events.new) }
+        ensures kept { vec_capacity events.old ≤ vec_capacity events.new }
+        ensures full { OnErr result (vec_capacity events.old < changed_rows self.now) }
+    {
+        let places = events.capacity();
+        match self.changed() {
+            Some(most) if most <= places => Ok(()),
+            Some(most) => widen(events, most),
+            None => Err(NoMemory),
+        }
+    }
+
+    // Puts what became of the rows since the changes under way began, where there are places for it.
+    pub(crate) fn put_events(&self, version: Version, events: &mut Vec<Event>)
+        requires empty { events.old.items ≡ [] }
+        requires places { changed_rows self.now ≤ vec_capacity events.old }
+        ensures items { events.new.items ≡ changes_between version (tables_start self.now) (tables_now self.now) }
+        ensures places { vec_capacity events.new ≡ vec_capacity events.old }
+    {
+        self.nodes.put_events(version, Kind::Node, events);
+        self.services.put_events(version, Kind::Service, events);
+        self.tasks.put_events(version, Kind::Task, events);
+        self.networks.put_events(version, Kind::Network, events);
+    }
+}
+
+// Makes places for so many events in all.
+pub(crate) fn widen(events: &mut Vec<Event>, most: usize) -> Result<(), NoMemory>
+    ensures items { events.new.items ≡ events.old.items }
+    ensures ok { OnOk result (most ≤ vec_capacity events.new) }
+    ensures kept { vec_capacity events.old ≤ vec_capacity events.new }
+    ensures full { OnErr result (vec_capacity events.old < most) }
+{
+    match events.reserve(most.saturating_sub(events.len())) {
+        Ok(()) => Ok(()),
+        Err(_) => Err(NoMemory),
     }
 }
 

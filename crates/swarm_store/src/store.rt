@@ -1,5 +1,5 @@
 // The store.
-ghost use Rattle.std.specs.Prelude.{◌≡◌, ◌+◌, ◌<◌, IfOk, [], count_by, filter, true};
+ghost use Rattle.std.specs.Prelude.{◌≡◌, ◌+◌, ◌<◌, ◌≤◌, ◌^◌, IfOk, OnErr, OnOk, [], count_by, filter, length, true};
 ghost use Rattle.std.specs.Option.{option_copied};
 ghost use Rattle.swarm_objects.specs.Bounds.{far_end};
 ghost use Rattle.swarm_objects.specs.Changes.{id_taken};
@@ -8,11 +8,10 @@ ghost use Rattle.swarm_objects.specs.Rows.{network_id, node_id, row_above, row_a
 ghost use Rattle.swarm_objects.specs.Tasks.Attempts.{is_kept_attempt};
 ghost use Rattle.swarm_objects.specs.Tasks.Words.{is_of, is_on};
 ghost use Rattle.swarm_objects.specs.World.{World, empty_tables};
-ghost use Rattle.swarm_roles.specs.Usable.{IsUsable};
 ghost use Rattle.swarm_roles.specs.Changes.{CanApplyAll};
-ghost use Rattle.swarm_store.specs.Stored.{AppliesChanges, Shows, StandsFor, Transacts};
+ghost use Rattle.swarm_store.specs.Stored.{AppliesChanges, HasNearTasks, Shows, StandsFor, Transacts};
 
-use crate::state::State;
+use crate::state::{State, widen};
 use std::alloc::Global;
 use std::marker::Model;
 use swarm_objects::limits::MOST_OPS;
@@ -26,7 +25,9 @@ use swarm_objects::{
 #[derive(Drop)]
 pub struct Store {
     state: State,
-    changes: List<Event>,
+    changes: Vec<Event>,
+    // How many changes of duties more can't want memory.
+    room: u64,
 }
 
 impl Model for Store {
@@ -34,21 +35,23 @@ impl Model for Store {
 
     ghost Value = { Stored };
 
-    ghost use Rattle.swarm_store.specs.Inside.State.{IsSettled, tables_now};
+    ghost use Rattle.std.specs.Vec.{vec_capacity};
+    ghost use Rattle.swarm_store.specs.Inside.State.{IsReady, tables_now};
 
-    ghost view = { λ s. record { tables = tables_now s.state; changes = s.changes } };
+    ghost view = { λ s. record { tables = tables_now s.state; changes = s.changes.items; room = s.room } };
 
-    ghost invariant = { λ s. IsSettled s.state };
+    ghost invariant = { λ s. IsReady s.state (vec_capacity s.changes) s.room };
 }
 
 impl Store {
     /// The store of the empty cluster at time 0.
     pub fn new(alloc: Global) -> Result<Store, NoMemory>
-        ensures { IfOk result (λ store. (store.tables ≡ empty_tables) × (store.changes ≡ [])) }
+        ensures { IfOk result (λ store. (store.tables ≡ empty_tables) × (store.changes ≡ []) × (store.room ≡ 0)) }
     {
         Ok(Store {
             state: State::new(alloc),
-            changes: List::new(alloc),
+            changes: Vec::new(alloc),
+            room: 0,
         })
     }
 
@@ -84,7 +87,6 @@ impl Store {
     /// Does all of the operations as the entry with this number and gives the ids of their objects in order, 0 for
     /// settings; or none of them: then the refusal is that of the first that is refused, TooManyOps or NoMemory.
     pub fn txn(&mut self, version: Version, ops: &[Op]) -> Result<List<Id>, Refusal>
-        requires { IsUsable self.old.tables }
         ensures { (w : World) → StandsFor self.old w → Transacts version ops.now w self.old result self.new }
     {
         let count = ops.len();
@@ -94,19 +96,46 @@ impl Store {
         self.state.transact(&mut self.changes, version, ops)
     }
 
-    /// Applies the changes that a duty makes, as the entry with this number: each puts or drops a row that is there at
-    /// its place in the list, or puts a task with the next id. All are applied, or none for want of memory.
-    pub fn apply(&mut self, version: Version, changes: List<Change>) -> Result<(), NoMemory>
-        requires usable { IsUsable self.old.tables }
-        requires can { CanApplyAll self.old.tables changes }
-        ensures { (w : World) → StandsFor self.old w → AppliesChanges version changes w self.old result self.new }
+    /// Makes the room at least `n`, or leaves all as it is for want of memory.
+    pub fn reserve(&mut self, n: u64) -> Result<(), NoMemory>
+        ensures ok { OnOk result (n ≤ self.new.room) }
+        ensures room { self.old.room ≤ self.new.room }
+        ensures same { self.new ≡ record self.old { room = self.new.room } }
+        ensures err { OnErr result (self.new ≡ self.old) }
     {
-        self.state.apply(&mut self.changes, version, changes)
+        if n <= self.room {
+            return Ok(());
+        }
+        let Ok(()) = self.state.reserve(n) else {
+            return Err(NoMemory);
+        };
+        let Ok(()) = widen(&mut self.changes, n as usize) else {
+            return Err(NoMemory);
+        };
+        self.room = n;
+        Ok(())
+    }
+
+    /// Applies the changes that a duty makes, as the entry with this number: each puts or drops a row that is there at
+    /// its place in the list, or puts a task with the next id. All are applied, or none for want of memory; there is
+    /// none within the room.
+    pub fn apply(&mut self, version: Version, changes: List<Change>) -> Result<(), NoMemory>
+        requires { CanApplyAll self.old.tables changes }
+        ensures applied { (w : World) → StandsFor self.old w
+            → AppliesChanges version changes w self.old result self.new }
+        ensures room { self.old.room ≤ self.new.room + length changes }
+        ensures full { self.old.tables.next_id + length changes < 2 ^ 64
+            → OnErr result (self.old.room < length changes) }
+    {
+        let count = changes.len() as u64;
+        let done = self.state.apply(&mut self.changes, version, changes);
+        self.room = self.room.saturating_sub(count);
+        done
     }
 
     /// What the query shows: NotFound where the object isn't there, or NoMemory.
     pub fn view(&self, query: &Query) -> Result<ViewReply, Refusal>
-        requires { IsUsable self.now.tables }
+        requires { HasNearTasks self.now.tables }
         ensures { (w : World) → StandsFor self.now w → Shows query.now w result }
     {
         self.state.shows(query)

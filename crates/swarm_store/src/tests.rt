@@ -2,8 +2,8 @@
 ghost use Rattle.std.specs.Prelude.{◌≡◌, ◌+◌, ◌<◌, IfOk, OnOk, true};
 ghost use Rattle.swarm_objects.specs.Bounds.{far_end};
 ghost use Rattle.swarm_objects.specs.Rows.{has_row, service_id};
-ghost use Rattle.swarm_roles.specs.Usable.{IsUsable};
 ghost use Rattle.swarm_store.specs.Followed.{Follows};
+ghost use Rattle.swarm_store.specs.Stored.{HasNearTasks};
 
 use crate::Store;
 use std::alloc::Global;
@@ -59,7 +59,7 @@ fn begun(alloc: Global) -> Result<Store, NoMemory>
 }
 
 // The operations, as the entry after so many.
-#[tactic(auto, using(crate::proofs::Usable::txn_follows, crate::proofs::Usable::usable_follows))]
+#[tactic(auto, using(crate::proofs::Usable::txn_follows))]
 fn txn(store: &mut Store, entries: u64, ops: &[Op]) -> Told
     requires follows { Follows entries store.old }
     requires few { entries < 1_000 }
@@ -103,8 +103,7 @@ fn rewritten(alloc: Global, row: &Service, version: Version) -> Result<Service, 
 }
 
 fn put(alloc: Global, store: &mut Store, version: Version, row: Service) -> Result<bool, NoMemory>
-    requires usable { IsUsable store.old.tables }
-    requires there { has_row service_id row.id store.old.tables.services ≡ true }
+    requires { has_row service_id row.id store.old.tables.services ≡ true }
 {
     let changes = list_of(alloc, Change::PutService(row))?;
     store.apply(version, changes)?;
@@ -112,9 +111,7 @@ fn put(alloc: Global, store: &mut Store, version: Version, row: Service) -> Resu
 }
 
 // Puts the service that is there, written by the entry with this number; false where it isn't there.
-fn rewrite(alloc: Global, store: &mut Store, version: Version, id: Id) -> Result<bool, NoMemory>
-    requires { IsUsable store.old.tables }
-{
+fn rewrite(alloc: Global, store: &mut Store, version: Version, id: Id) -> Result<bool, NoMemory> {
     match store.service(id) {
         Some(there) => {
             let row = rewritten(alloc, there, version)?;
@@ -142,7 +139,6 @@ fn of_service(entry: u64, verb: Verb, id: Id) -> Option<Event> {
 }
 
 // The name twice, and then the first one's row by a duty.
-#[tactic(auto, using(crate::proofs::Usable::usable_follows))]
 fn played(
     alloc: Global,
     store: &mut Store,
@@ -207,7 +203,7 @@ fn the_clock_goes_on(rt: HostRuntime) -> Result<(), Fail> {
 }
 
 fn viewed(store: &Store, query: &Query) -> Told
-    requires { IsUsable store.now.tables }
+    requires { HasNearTasks store.now.tables }
 {
     match store.view(query) {
         Ok(view) => told_view(&view),
@@ -216,13 +212,13 @@ fn viewed(store: &Store, query: &Query) -> Told
 }
 
 fn inspected(alloc: Global, store: &Store, name: &str) -> Result<Told, NoMemory>
-    requires { IsUsable store.now.tables }
+    requires { HasNearTasks store.now.tables }
 {
     let query = Query::InspectService(Name::new(alloc, name)?);
     Ok(viewed(store, &query))
 }
 
-#[tactic(auto, using(crate::proofs::Usable::usable_follows))]
+#[tactic(auto, using(crate::proofs::Usable::near_follows))]
 fn asked(alloc: Global, store: &mut Store) -> Result<(Told, Told, Told), NoMemory>
     requires { Follows 0 store.old }
 {

@@ -1,11 +1,14 @@
 // Rows under change: what they were when the changes under way began can be had back without memory.
-ghost use Rattle.std.specs.Prelude.{IfOk, if◌then◌else◌, ◌-◌, ◌≡◌, ◌+◌, ◌<◌, ◌≤◌, ◌++◌, ◌∷◌, Bool, drop, flat_map, take, None, Some, [], OnErr, OnOk, filter, length, map, slice_get, ◌==◌};
+ghost use Rattle.std.specs.Prelude.{ℕ, false, true, IfNone, IfOk, IfSome, ◌⊎◌, ◌*◌, ◌^◌, if◌then◌else◌, ◌-◌, ◌≡◌};
+ghost use Rattle.std.specs.Prelude.{◌+◌, ◌<◌, ◌≤◌, ◌++◌, ◌∷◌, Bool, drop, flat_map, take, None, Some, [], OnErr};
+ghost use Rattle.std.specs.Prelude.{OnOk, filter, length, map, slice_get, ◌==◌};
 ghost use Rattle.std.specs.Bool.{Decides};
 ghost use Rattle.std.specs.Option.{option_copied, option_map, option_to_list};
 ghost use Rattle.std.specs.Vec.{vec_capacity, vec_len};
 ghost use Rattle.swarm_index.specs.Keys.{has_key, value_of};
 ghost use Rattle.swarm_model.specs.Changed.{event, events_of, verb_of};
-ghost use Rattle.swarm_objects.specs.Rows.{RisesFrom, drop_row, has_row, is_some_and, row_above, row_at, rows_before, with_row};
+ghost use Rattle.swarm_objects.specs.Rows.{RisesFrom, drop_row, has_row, is_some_and, put_row, row_above, row_at};
+ghost use Rattle.swarm_objects.specs.Rows.{rows_before, with_row};
 ghost use Rattle.swarm_store.specs.Inside.Tracking.{
   AreImages,
   DecidesRows,
@@ -22,7 +25,7 @@ ghost use Rattle.swarm_store.specs.Inside.Tracking.{Kept};
 use std::alloc::Global;
 use std::marker::Model;
 use swarm_index::{IndexKey, Indexed, Row};
-use swarm_objects::{Event, Id, Kind, List, NoMemory, Same, Verb, Version, add};
+use swarm_objects::{Event, Id, Kind, NoMemory, Same, Verb, Version};
 
 // What the row with this id was before it changed, if there was one.
 #[derive(Drop)]
@@ -31,7 +34,8 @@ pub(crate) struct Before<R> {
     row: Option<R>,
 }
 
-// Rows, and what each changed one was, by rising id. There is room in the index to put all of them back.
+// Rows, and what each changed one was, by rising id. There is room in the index to put all of them back, and for so
+// many changes more as `room` says.
 #[derive(Drop)]
 pub(crate) struct Tracked<R: Row + Drop> {
     rows: Indexed<R>,
@@ -39,30 +43,69 @@ pub(crate) struct Tracked<R: Row + Drop> {
     // How many rows there are, and were.
     count: usize,
     started: usize,
+    room: u64,
 }
 
 impl<R: Row + Drop> Model for Tracked<R> {
-    ghost use Rattle.swarm_store.specs.Inside.Span.{Span};
+    ghost use Rattle.std.specs.Prelude.{length};
+    ghost use Rattle.std.specs.Vec.{vec_capacity};
+    ghost use Rattle.swarm_store.specs.Inside.Span.{Track};
     ghost use Rattle.swarm_store.specs.Inside.Tracking.{IsCounted, restored};
 
-    ghost Value = { Span R };
+    ghost Value = { Track R };
 
-    ghost view = { λ t. record { start = restored R.id_of t.before.items t.rows.rows; rows = t.rows.rows } };
+    ghost view = { λ t. record {
+      start = restored R.id_of t.before.items t.rows.rows;
+      rows = t.rows.rows;
+      changed = length t.before.items;
+      room = t.room;
+    } };
 
-    ghost invariant = { λ t. IsCounted R.id_of t.before.items t.rows t.count t.started };
+    ghost invariant = { λ t. IsCounted R.id_of t.before.items t.rows t.count t.started (vec_capacity t.before) t.room };
 }
 
 impl<R: Row + Drop> Tracked<R> {
     pub(crate) fn new(alloc: Global) -> Tracked<R>
         ensures start { result.start ≡ [] }
         ensures rows { result.rows ≡ [] }
+        ensures changed { result.changed ≡ 0 }
+        ensures room { result.room ≡ 0 }
     {
         Tracked {
             rows: Indexed::new(alloc),
             before: Vec::new(alloc),
             count: 0,
             started: 0,
+            room: 0,
         }
+    }
+
+    // Makes the room at least `n`, unless memory is wanting.
+    pub(crate) fn reserve(&mut self, n: u64) -> Result<(), NoMemory>
+        ensures ok { OnOk result (n ≤ self.new.room) }
+        ensures room { self.old.room ≤ self.new.room }
+        ensures rows { self.new.rows ≡ self.old.rows }
+        ensures start { self.new.start ≡ self.old.start }
+        ensures changed { self.new.changed ≡ self.old.changed }
+    {
+        if n <= self.room {
+            return Ok(());
+        }
+        let Ok(()) = reserve_places(&mut self.before, n) else {
+            return Err(NoMemory);
+        };
+        let Ok(()) = reserve_rows(&mut self.rows, self.before.len() as u64, n) else {
+            return Err(NoMemory);
+        };
+        self.room = n;
+        Ok(())
+    }
+
+    // How many rows changed.
+    pub(crate) fn changed(&self) -> usize
+        ensures { result ≡ self.now.changed }
+    {
+        self.before.len()
     }
 
     // How many rows there are.
@@ -70,6 +113,13 @@ impl<R: Row + Drop> Tracked<R> {
         ensures { result ≡ length self.now.rows }
     {
         self.count
+    }
+
+    // That there are so few rows; it is called for its clause.
+    pub(crate) fn are_few(&self)
+        ensures { length self.now.rows < 2 ^ 64 }
+    {
+        self.len();
     }
 
     pub(crate) fn get(&self, id: Id) -> Option<&R>
@@ -98,8 +148,35 @@ impl<R: Row + Drop> Tracked<R> {
         ensures ok { OnOk result (self.new.rows ≡ with_row R.id_of row self.old.rows) }
         ensures err { OnErr result (self.new.rows ≡ self.old.rows) }
         ensures start { self.new.start ≡ self.old.start }
+        ensures room { self.new.room ≡ self.old.room }
     {
-        put_counted(&mut self.rows, &mut self.before, &mut self.count, row)
+        put_counted(
+            &mut self.rows,
+            &mut self.before,
+            &mut self.count,
+            row,
+            self.room,
+        )
+    }
+
+    // The same within the room, if there is any.
+    pub(crate) fn put_within(&mut self, row: R) -> Result<(), NoMemory>
+        requires { 0 < R.id_of row }
+        ensures ok { OnOk result (self.new.rows ≡ with_row R.id_of row self.old.rows) }
+        ensures err { OnErr result (self.new.rows ≡ self.old.rows) }
+        ensures start { self.new.start ≡ self.old.start }
+        ensures room { self.old.room ≤ self.new.room + 1 }
+        ensures changed { self.new.changed ≤ self.old.changed + 1 }
+        ensures full { OnErr result ((self.old.room ≡ 0) ⊎ (2 ^ 64 ≤ length (with_row R.id_of row self.old.rows))) }
+    {
+        self.room = self.room.saturating_sub(1);
+        put_counted(
+            &mut self.rows,
+            &mut self.before,
+            &mut self.count,
+            row,
+            self.room,
+        )
     }
 
     // The row with this id goes.
@@ -108,14 +185,43 @@ impl<R: Row + Drop> Tracked<R> {
         ensures ok { OnOk result (self.new.rows ≡ drop_row R.id_of id self.old.rows) }
         ensures err { OnErr result (self.new.rows ≡ self.old.rows) }
         ensures start { self.new.start ≡ self.old.start }
+        ensures room { self.new.room ≡ self.old.room }
     {
-        remove_counted(&mut self.rows, &mut self.before, &mut self.count, id)
+        remove_counted(
+            &mut self.rows,
+            &mut self.before,
+            &mut self.count,
+            id,
+            self.room,
+        )
+    }
+
+    // The same within the room, if there is any.
+    pub(crate) fn remove_within(&mut self, id: Id) -> Result<(), NoMemory>
+        requires { 0 < id }
+        ensures ok { OnOk result (self.new.rows ≡ drop_row R.id_of id self.old.rows) }
+        ensures err { OnErr result (self.new.rows ≡ self.old.rows) }
+        ensures start { self.new.start ≡ self.old.start }
+        ensures room { self.old.room ≤ self.new.room + 1 }
+        ensures changed { self.new.changed ≤ self.old.changed + 1 }
+        ensures full { OnErr result (self.old.room ≡ 0) }
+    {
+        self.room = self.room.saturating_sub(1);
+        remove_counted(
+            &mut self.rows,
+            &mut self.before,
+            &mut self.count,
+            id,
+            self.room,
+        )
     }
 
     // The rows are again what they were. It takes no memory.
     pub(crate) fn take_back(&mut self)
         ensures rows { self.new.rows ≡ self.old.start }
         ensures start { self.new.start ≡ self.old.start }
+        ensures changed { self.new.changed ≡ 0 }
+        ensures room { self.new.room ≡ self.old.room }
     {
         put_all_back(&mut self.rows, &mut self.before);
         self.count = self.started;
@@ -125,30 +231,91 @@ impl<R: Row + Drop> Tracked<R> {
     pub(crate) fn settle(&mut self)
         ensures rows { self.new.rows ≡ self.old.rows }
         ensures start { self.new.start ≡ self.old.rows }
+        ensures changed { self.new.changed ≡ 0 }
+        ensures room { self.new.room ≡ self.old.room }
     {
         self.before.clear();
         self.started = self.count;
     }
 }
 
-// Makes room for one more change, and for putting back all rows after it.
+// Makes places to remember so many changes more.
+fn reserve_places<R: Drop>(before: &mut Vec<Before<R>>, more: u64) -> Result<(), NoMemory>
+    ensures items { before.new.items ≡ before.old.items }
+    ensures kept { vec_capacity before.old ≤ vec_capacity before.new }
+    ensures ok { OnOk result (length before.old.items + more ≤ vec_capacity before.new) }
+    ensures full { OnErr result (vec_capacity before.old < length before.old.items + more) }
+{
+    match before.reserve(more as usize) {
+        Ok(()) => Ok(()),
+        Err(_) => Err(NoMemory),
+    }
+}
+
+// How much room in the index so many changes more take, with those that there are: one for the change and one for
+// putting back.
+fn room_of(changed: u64, more: u64) -> Option<u64>
+    ensures some { IfSome result (λ room. room ≡ changed + 2 * more) }
+    ensures none { IfNone result (2 ^ 64 ≤ changed + 2 * more) }
+{
+    let Some(twice) = more.checked_mul(2) else {
+        return None;
+    };
+    changed.checked_add(twice)
+}
+
+// Makes room in the index for so many changes more, and for putting all back.
+fn reserve_rows<R: Row + Drop>(
+    rows: &mut Indexed<R>,
+    changed: u64,
+    more: u64,
+) -> Result<(), NoMemory>
+    ensures rows { rows.new.rows ≡ rows.old.rows }
+    ensures kept { rows.old.room ≤ rows.new.room }
+    ensures ok { OnOk result (changed + 2 * more ≤ rows.new.room) }
+    ensures full { OnErr result (rows.old.room < changed + 2 * more) }
+{
+    let there = rows.room();
+    match room_of(changed, more) {
+        Some(room) if room <= there => Ok(()),
+        Some(room) => rows.reserve(room),
+        None => Err(NoMemory),
+    }
+}
+
+// One more than so many, unless that is beyond all places.
+fn one_more<R>(before: &Vec<Before<R>>, room: u64) -> Option<u64>
+    ensures some { IfSome result (λ more. more ≡ room + 1) }
+    ensures none { IfNone result (vec_capacity before.now < room + 1) }
+{
+    if before.capacity() as u64 <= room {
+        return room.checked_add(1);
+    }
+    Some(room + 1)
+}
+
+// Makes room for one change more and so many after it, and for putting back all rows.
 fn make_room<R: Row + Drop>(
     rows: &mut Indexed<R>,
     before: &mut Vec<Before<R>>,
+    room: u64,
 ) -> Result<(), NoMemory>
     ensures rows { rows.new.rows ≡ rows.old.rows }
     ensures before { before.new.items ≡ before.old.items }
     ensures kept { rows.old.room ≤ rows.new.room }
-    ensures room { OnOk result (length before.old.items + 2 ≤ rows.new.room) }
-    ensures spare { OnOk result (vec_len before.new < vec_capacity before.new) }
+    ensures places { vec_capacity before.old ≤ vec_capacity before.new }
+    ensures room { OnOk result (length before.old.items + 2 * (room + 1) ≤ rows.new.room) }
+    ensures spare { OnOk result (length before.old.items + (room + 1) ≤ vec_capacity before.new) }
+    ensures full { OnErr result ((vec_capacity before.old < length before.old.items + (room + 1))
+        ⊎ (rows.old.room < length before.old.items + 2 * (room + 1))) }
 {
-    if before.reserve(1).is_err() {
-        return Err(NoMemory);
-    }
-    let Some(room) = (before.len() as u64).checked_add(2) else {
+    let Some(more) = one_more(before, room) else {
         return Err(NoMemory);
     };
-    rows.reserve(room)
+    let Ok(()) = reserve_places(before, more) else {
+        return Err(NoMemory);
+    };
+    reserve_rows(rows, before.len() as u64, more)
 }
 
 // Puts a new row where there is room for it.
@@ -162,6 +329,44 @@ fn insert_row<R: Row + Drop>(rows: &mut Indexed<R>, row: R)
         Ok(()) => {}
         Err(_) => unreachable!(),
     }
+}
+
+// Puts a row in the place of the one with its id, where there is room for it.
+fn replace_row<R: Row + Drop>(rows: &mut Indexed<R>, row: R) -> R
+    requires room { 0 < rows.old.room }
+    requires there { has_row R.id_of (R.id_of row) rows.old.rows ≡ true }
+    ensures value { Some result ≡ row_at R.id_of (R.id_of row) rows.old.rows }
+    ensures rows { rows.new.rows ≡ put_row R.id_of row rows.old.rows }
+    ensures room { rows.old.room ≤ rows.new.room + 1 }
+{
+    match rows.replace(row) {
+        Ok(old) => old,
+        Err(_) => unreachable!(),
+    }
+}
+
+fn has_id<R: Row + Drop>(rows: &Indexed<R>, id: Id) -> bool
+    ensures { result ≡ has_row R.id_of id rows.now.rows }
+{
+    match rows.get(id) {
+        Some(_) => true,
+        None => false,
+    }
+}
+
+// Puts a row, in the place of the one with its id if that is there, where there is room for it; what was there.
+fn place<R: Row + Drop>(rows: &mut Indexed<R>, row: R) -> Option<R>
+    requires room { 0 < rows.old.room }
+    requires rising { RisesFrom R.id_of 0 rows.old.rows }
+    ensures value { result ≡ row_at R.id_of (R.id_of row) rows.old.rows }
+    ensures rows { rows.new.rows ≡ with_row R.id_of row rows.old.rows }
+    ensures room { rows.old.room ≤ rows.new.room + 1 }
+{
+    if has_id(rows, row.id()) {
+        return Some(replace_row(rows, row));
+    }
+    insert_row(rows, row);
+    None
 }
 
 // How many of the ids are less.
@@ -191,7 +396,8 @@ fn is_id_at<R>(before: &[Before<R>], at: usize, id: Id) -> bool
 fn insert_at<T: Drop>(items: &mut Vec<T>, at: usize, item: T)
     requires at { at ≤ length items.old.items }
     requires spare { vec_len items.old < vec_capacity items.old }
-    ensures { items.new.items ≡ take at items.old.items ++ item ∷ drop at items.old.items }
+    ensures items { items.new.items ≡ take at items.old.items ++ item ∷ drop at items.old.items }
+    ensures kept { vec_capacity items.old ≤ vec_capacity items.new }
 {
     match items.insert(at, item) {
         Ok(()) => {}
@@ -203,7 +409,8 @@ fn insert_at<T: Drop>(items: &mut Vec<T>, at: usize, item: T)
 fn remember<R: Drop>(before: &mut Vec<Before<R>>, image: Before<R>)
     requires spare { vec_len before.old < vec_capacity before.old }
     requires order { RisesFrom before_id 0 before.old.items }
-    ensures { before.new.items ≡ remembered image before.old.items }
+    ensures items { before.new.items ≡ remembered image before.old.items }
+    ensures kept { vec_capacity before.old ≤ vec_capacity before.new }
 {
     let at = lesser_ids(before.as_slice(), image.id);
     if is_id_at(before.as_slice(), at, image.id) {
@@ -216,17 +423,24 @@ fn put_tracked<R: Row + Drop>(
     rows: &mut Indexed<R>,
     before: &mut Vec<Before<R>>,
     row: R,
+    room: u64,
 ) -> Result<(), NoMemory>
     requires id { 0 < R.id_of row }
-    requires tracked { IsTracked R.id_of before.old.items rows.old }
+    requires tracked { IsTracked R.id_of before.old.items rows.old room }
+    requires places { length before.old.items + room ≤ vec_capacity before.old }
     ensures ok { OnOk result (rows.new.rows ≡ with_row R.id_of row rows.old.rows) }
     ensures err { OnErr result (rows.new.rows ≡ rows.old.rows) }
-    ensures kept { Kept R.id_of before.old.items rows.old before.new.items rows.new }
+    ensures kept { Kept R.id_of before.old.items rows.old before.new.items rows.new room }
+    ensures places { length before.new.items + room ≤ vec_capacity before.new }
+    ensures changed { length before.new.items ≤ length before.old.items + 1 }
+    ensures full { OnErr result ((vec_capacity before.old < length before.old.items + (room + 1))
+        ⊎ (rows.old.room < length before.old.items + 2 * (room + 1))) }
 {
-    make_room(rows, before)?;
+    let Ok(()) = make_room(rows, before, room) else {
+        return Err(NoMemory);
+    };
     let id = row.id();
-    let old = rows.remove(id);
-    insert_row(rows, row);
+    let old = place(rows, row);
     remember(before, Before { id, row: old });
     Ok(())
 }
@@ -235,14 +449,22 @@ fn remove_tracked<R: Row + Drop>(
     rows: &mut Indexed<R>,
     before: &mut Vec<Before<R>>,
     id: Id,
+    room: u64,
 ) -> Result<(), NoMemory>
     requires id { 0 < id }
-    requires tracked { IsTracked R.id_of before.old.items rows.old }
+    requires tracked { IsTracked R.id_of before.old.items rows.old room }
+    requires places { length before.old.items + room ≤ vec_capacity before.old }
     ensures ok { OnOk result (rows.new.rows ≡ drop_row R.id_of id rows.old.rows) }
     ensures err { OnErr result (rows.new.rows ≡ rows.old.rows) }
-    ensures kept { Kept R.id_of before.old.items rows.old before.new.items rows.new }
+    ensures kept { Kept R.id_of before.old.items rows.old before.new.items rows.new room }
+    ensures places { length before.new.items + room ≤ vec_capacity before.new }
+    ensures changed { length before.new.items ≤ length before.old.items + 1 }
+    ensures full { OnErr result ((vec_capacity before.old < length before.old.items + (room + 1))
+        ⊎ (rows.old.room < length before.old.items + 2 * (room + 1))) }
 {
-    make_room(rows, before)?;
+    let Ok(()) = make_room(rows, before, room) else {
+        return Err(NoMemory);
+    };
     let old = rows.remove(id);
     remember(before, Before { id, row: old });
     Ok(())
@@ -250,7 +472,8 @@ fn remove_tracked<R: Row + Drop>(
 
 // How many rows there are with one of this id.
 fn count_with<R: Row + Drop>(rows: &Indexed<R>, count: usize, id: Id) -> Result<usize, NoMemory>
-    ensures { IfOk result (λ n. n ≡ (if has_row R.id_of id rows.now.rows then count else count + 1)) }
+    ensures ok { IfOk result (λ n. n ≡ (if has_row R.id_of id rows.now.rows then count else count + 1)) }
+    ensures full { OnErr result ((has_row R.id_of id rows.now.rows ≡ false) × (2 ^ 64 ≤ count + 1)) }
 {
     if rows.get(id).is_some() {
         return Ok(count);
@@ -276,17 +499,28 @@ fn put_counted<R: Row + Drop>(
     before: &mut Vec<Before<R>>,
     count: &mut usize,
     row: R,
+    room: u64,
 ) -> Result<(), NoMemory>
     requires id { 0 < R.id_of row }
-    requires tracked { IsTracked R.id_of before.old.items rows.old }
+    requires tracked { IsTracked R.id_of before.old.items rows.old room }
+    requires places { length before.old.items + room ≤ vec_capacity before.old }
     requires counted { count.old ≡ length rows.old.rows }
     ensures ok { OnOk result (rows.new.rows ≡ with_row R.id_of row rows.old.rows) }
     ensures err { OnErr result (rows.new.rows ≡ rows.old.rows) }
-    ensures kept { Kept R.id_of before.old.items rows.old before.new.items rows.new }
+    ensures kept { Kept R.id_of before.old.items rows.old before.new.items rows.new room }
     ensures counted { count.new ≡ length rows.new.rows }
+    ensures places { length before.new.items + room ≤ vec_capacity before.new }
+    ensures changed { length before.new.items ≤ length before.old.items + 1 }
+    ensures full { OnErr result ((2 ^ 64 ≤ length (with_row R.id_of row rows.old.rows))
+        ⊎ (vec_capacity before.old < length before.old.items + (room + 1))
+        ⊎ (rows.old.room < length before.old.items + 2 * (room + 1))) }
 {
-    let next = count_with(rows, *count, row.id())?;
-    put_tracked(rows, before, row)?;
+    let Ok(next) = count_with(rows, *count, row.id()) else {
+        return Err(NoMemory);
+    };
+    let Ok(()) = put_tracked(rows, before, row, room) else {
+        return Err(NoMemory);
+    };
     *count = next;
     Ok(())
 }
@@ -296,17 +530,25 @@ fn remove_counted<R: Row + Drop>(
     before: &mut Vec<Before<R>>,
     count: &mut usize,
     id: Id,
+    room: u64,
 ) -> Result<(), NoMemory>
     requires id { 0 < id }
-    requires tracked { IsTracked R.id_of before.old.items rows.old }
+    requires tracked { IsTracked R.id_of before.old.items rows.old room }
+    requires places { length before.old.items + room ≤ vec_capacity before.old }
     requires counted { count.old ≡ length rows.old.rows }
     ensures ok { OnOk result (rows.new.rows ≡ drop_row R.id_of id rows.old.rows) }
     ensures err { OnErr result (rows.new.rows ≡ rows.old.rows) }
-    ensures kept { Kept R.id_of before.old.items rows.old before.new.items rows.new }
+    ensures kept { Kept R.id_of before.old.items rows.old before.new.items rows.new room }
     ensures counted { count.new ≡ length rows.new.rows }
+    ensures places { length before.new.items + room ≤ vec_capacity before.new }
+    ensures changed { length before.new.items ≤ length before.old.items + 1 }
+    ensures full { OnErr result ((vec_capacity before.old < length before.old.items + (room + 1))
+        ⊎ (rows.old.room < length before.old.items + 2 * (room + 1))) }
 {
     let next = count_without(rows, *count, id);
-    remove_tracked(rows, before, id)?;
+    let Ok(()) = remove_tracked(rows, before, id, room) else {
+        return Err(NoMemory);
+    };
     *count = next;
     Ok(())
 }
@@ -328,10 +570,12 @@ fn put_back<R: Row + Drop>(rows: &mut Indexed<R>, image: Before<R>)
 
 // Puts back all rows that changed.
 fn put_all_back<R: Row + Drop>(rows: &mut Indexed<R>, before: &mut Vec<Before<R>>)
-    requires { IsTracked R.id_of before.old.items rows.old }
+    requires { IsTracked R.id_of before.old.items rows.old 0 }
     ensures rows { rows.new.rows ≡ restored R.id_of before.old.items rows.old.rows }
     ensures before { before.new.items ≡ [] }
-    ensures tracked { IsTracked R.id_of before.new.items rows.new }
+    ensures places { vec_capacity before.new ≡ vec_capacity before.old }
+    ensures tracked { (room : ℕ) → IsTracked R.id_of before.old.items rows.old room
+        → IsTracked R.id_of before.new.items rows.new room }
 {
     while let Some(image) = before.pop() {
         put_back(rows, image);
@@ -353,40 +597,31 @@ fn verb_of<R: Same>(old: &Option<R>, new: Option<&R>) -> Option<Verb>
     }
 }
 
-// Puts the event of what became of the row, if anything did.
-fn put_event(
-    events: &mut List<Event>,
-    version: Version,
-    kind: Kind,
-    id: Id,
-    verb: Option<Verb>,
-) -> Result<(), NoMemory>
-    ensures { OnOk result (events.new ≡ events.old ++ map (event version kind id) (option_to_list verb)) }
+// Puts the event of what became of the row, if anything did, where there is a place for it.
+fn put_event(events: &mut Vec<Event>, version: Version, kind: Kind, id: Id, verb: Option<Verb>)
+    requires { length events.old.items < vec_capacity events.old }
+    ensures items { events.new.items ≡ events.old.items ++ map (event version kind id) (option_to_list verb) }
+    ensures most { length events.new.items ≤ length events.old.items + 1 }
+    ensures places { vec_capacity events.new ≡ vec_capacity events.old }
 {
-    match verb {
-        Some(verb) => add(
-            events,
-            Event {
-                entry: version,
-                verb,
-                kind,
-                id,
-            },
-        ),
-        None => Ok(()),
+    if let Some(verb) = verb {
+        events.push_reserved(Event {
+            entry: version,
+            verb,
+            kind,
+            id,
+        });
     }
 }
 
 impl<R: Row + Same + Drop> Tracked<R> {
-    // Puts what became of the rows since the changes under way began.
-    pub(crate) fn put_events(
-        &self,
-        version: Version,
-        kind: Kind,
-        events: &mut List<Event>,
-    ) -> Result<(), NoMemory>
-        ensures { (same : R → R → Bool) → DecidesRows R.id_of same → OnOk result (
-            events.new ≡ events.old ++ events_of version kind R.id_of same self.now.start self.now.rows) }
+    // Puts what became of the rows since the changes under way began, where there are places for it.
+    pub(crate) fn put_events(&self, version: Version, kind: Kind, events: &mut Vec<Event>)
+        requires { length events.old.items + self.now.changed ≤ vec_capacity events.old }
+        ensures items { (same : R → R → Bool) → DecidesRows R.id_of same →
+            events.new.items ≡ events.old.items ++ events_of version kind R.id_of same self.now.start self.now.rows }
+        ensures most { length events.new.items ≤ length events.old.items + self.now.changed }
+        ensures places { vec_capacity events.new ≡ vec_capacity events.old }
     {
         put_all_events(&self.rows, self.before.as_slice(), version, kind, events)
     }
@@ -397,15 +632,18 @@ fn put_all_events<R: Row + Same + Drop>(
     before: &[Before<R>],
     version: Version,
     kind: Kind,
-    events: &mut List<Event>,
-) -> Result<(), NoMemory>
-    requires { IsTracked R.id_of before.now rows.now }
-    ensures { (same : R → R → Bool) → DecidesRows R.id_of same → OnOk result (
-        events.new ≡ events.old ++ flat_map (image_events version kind R.id_of same rows.now.rows) before.now) }
+    events: &mut Vec<Event>,
+)
+    requires tracked { IsTracked R.id_of before.now rows.now 0 }
+    requires places { length events.old.items + length before.now ≤ vec_capacity events.old }
+    ensures items { (same : R → R → Bool) → DecidesRows R.id_of same →
+        events.new.items
+        ≡ events.old.items ++ flat_map (image_events version kind R.id_of same rows.now.rows) before.now }
+    ensures most { length events.new.items ≤ length events.old.items + length before.now }
+    ensures places { vec_capacity events.new ≡ vec_capacity events.old }
 {
     for image in before {
         let verb = verb_of(&image.row, rows.get(image.id));
-        put_event(events, version, kind, image.id, verb)?;
+        put_event(events, version, kind, image.id, verb);
     }
-    Ok(())
 }

@@ -1,12 +1,13 @@
 // Transactions: operations one after the other, of which all are done or none.
-ghost use Rattle.std.specs.Prelude.{◌≡◌, [], OnErr, OnOk, length};
+ghost use Rattle.std.specs.Prelude.{◌≡◌, ◌≤◌, ℕ, [], OnErr, OnOk};
+ghost use Rattle.std.specs.Vec.{vec_capacity};
 ghost use Rattle.swarm_model.specs.Changed.{changes_between};
 ghost use Rattle.std.specs.Result.{result_err};
 ghost use Rattle.swarm_model.specs.Calls.Operations.{apply_ops};
 ghost use Rattle.swarm_model.specs.Calls.Refusals.{conflict};
 ghost use Rattle.swarm_store.specs.Inside.Done.{made_all};
-ghost use Rattle.swarm_store.specs.Inside.Ops.{Does, IsOpen, Reached};
-ghost use Rattle.swarm_store.specs.Inside.State.{IsSettled, Stands, tables_now, tables_start, world_now};
+ghost use Rattle.swarm_store.specs.Inside.Ops.{Does, Reached};
+ghost use Rattle.swarm_store.specs.Inside.State.{HasRooms, IsSettled, Stands, origin, tables_now, world_now};
 
 use crate::state::State;
 use swarm_objects::{Event, Id, List, NoMemory, Op, Refusal, Version};
@@ -25,9 +26,9 @@ impl State {
     // Does one operation of the entry with this number, and gives the id of its object. After a refusal a part of it
     // may stand.
     fn apply_op(&mut self, version: Version, op: &Op) -> Result<Id, Refusal>
-        requires { IsOpen 1 (tables_now self.old) }
+        requires { Stands (tables_now self.old) }
         ensures done { Does version op.now self.old result self.new }
-        ensures start { tables_start self.new ≡ tables_start self.old }
+        ensures start { origin self.new ≡ origin self.old }
     {
         match op {
             Op::CreateNode(name, draft) => self.create_node(version, name, draft),
@@ -52,11 +53,11 @@ impl State {
     // Does the operations one after the other, and gives the ids of their objects. After a refusal the earlier ones
     // stay done.
     fn apply_ops(&mut self, version: Version, ops: &[Op]) -> Result<List<Id>, Refusal>
-        requires { IsOpen (length ops.now) (tables_now self.old) }
+        requires { Stands (tables_now self.old) }
         ensures done { Reached
             (made_all (apply_ops version ops.now (world_now self.old) [])) result (tables_now self.new) }
         ensures stands { OnOk result (Stands (tables_now self.new)) }
-        ensures start { tables_start self.new ≡ tables_start self.old }
+        ensures start { origin self.new ≡ origin self.old }
     {
         let mut ids = List::new(self.alloc);
         for op in ops {
@@ -71,17 +72,21 @@ impl State {
     // All of the operations, or none.
     pub(crate) fn transact(
         &mut self,
-        events: &mut List<Event>,
+        events: &mut Vec<Event>,
         version: Version,
         ops: &[Op],
     ) -> Result<List<Id>, Refusal>
         requires settled { IsSettled self.old }
-        requires room { IsOpen (length ops.now) (tables_now self.old) }
         ensures settled { IsSettled self.new }
         ensures done { Reached
             (made_all (apply_ops version ops.now (world_now self.old) [])) result (tables_now self.new) }
-        ensures ok { OnOk result (events.new ≡ changes_between version (tables_now self.old) (tables_now self.new)) }
-        ensures err { OnErr result ((tables_now self.new ≡ tables_now self.old) × (events.new ≡ events.old)) }
+        ensures ok { OnOk result (
+            events.new.items ≡ changes_between version (tables_now self.old) (tables_now self.new)) }
+        ensures err { OnErr result (
+            (tables_now self.new ≡ tables_now self.old) × (events.new.items ≡ events.old.items)
+            ) }
+        ensures rooms { (n : ℕ) → HasRooms n self.old → HasRooms n self.new }
+        ensures places { vec_capacity events.old ≤ vec_capacity events.new }
     {
         match self.apply_ops(version, ops) {
             Ok(ids) => match self.commit(events, version) {

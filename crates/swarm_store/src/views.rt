@@ -19,12 +19,14 @@ ghost use Rattle.swarm_model.specs.Calls.Views.{
   wanted_of,
 };
 ghost use Rattle.swarm_objects.specs.Tasks.Words.{is_of};
-ghost use Rattle.swarm_roles.specs.Usable.{IsUsable};
-ghost use Rattle.swarm_store.specs.Inside.State.{tables_now};
+ghost use Rattle.swarm_store.specs.Inside.State.{Stands, tables_now};
+ghost use Rattle.swarm_store.specs.Stored.{HasNearTasks};
 ghost use Rattle.swarm_plain.specs.Inside.Lookups.{Gets};
 
+use crate::held::held_count;
 use crate::names::not_found;
 use crate::state::State;
+use crate::walks::{all, service_tasks};
 use swarm_objects::views::{
     NetworkShown, NodeShown, NoteShown, PlaceShown, ServiceShown, Shown, TaskShown,
 };
@@ -32,12 +34,12 @@ use swarm_objects::{
     Duplicate, Id, Kind, List, Mode, Name, NoMemory, Note, Place, Query, Refusal, Rows, RunStatus,
     Service, Task, ViewReply, add,
 };
-use swarm_roles::{held_count, networks, nodes, services, tasks, tasks_of};
 
 impl State {
     // What the query shows, or why it is refused.
     pub(crate) fn shows(&self, query: &Query) -> Result<ViewReply, Refusal>
-        requires { IsUsable (tables_now self.now) }
+        requires stands { Stands (tables_now self.now) }
+        requires near { HasNearTasks (tables_now self.now) }
         ensures { Gets (shows (tables_now self.now) query.now) result }
     {
         match query {
@@ -55,11 +57,11 @@ impl State {
     }
 
     fn nodes_shown(&self) -> Result<List<NodeShown>, NoMemory>
-        requires { IsUsable (tables_now self.now) }
+        requires { Stands (tables_now self.now) }
         ensures { IfOk result (λ rows. rows ≡ map shown (tables_now self.now).nodes) }
     {
         let mut rows = List::new(self.alloc);
-        for node in nodes(self) {
+        for node in all(&self.nodes) {
             let row = NodeShown {
                 id: node.id,
                 name: node.name.duplicate(self.alloc)?,
@@ -75,18 +77,20 @@ impl State {
     }
 
     fn services_shown(&self) -> Result<List<ServiceShown>, NoMemory>
-        requires { IsUsable (tables_now self.now) }
+        requires stands { Stands (tables_now self.now) }
+        requires near { HasNearTasks (tables_now self.now) }
         ensures { IfOk result (λ rows. rows ≡ map (service_row (tables_now self.now)) (tables_now self.now).services) }
     {
         let mut rows = List::new(self.alloc);
-        for service in services(self) {
+        for service in all(&self.services) {
             add(&mut rows, self.service_row(service)?)?;
         }
         Ok(rows)
     }
 
     fn service_row(&self, service: &Service) -> Result<ServiceShown, NoMemory>
-        requires { IsUsable (tables_now self.now) }
+        requires stands { Stands (tables_now self.now) }
+        requires near { HasNearTasks (tables_now self.now) }
         ensures { IfOk result (λ row. row ≡ service_row (tables_now self.now) service.now) }
     {
         Ok(ServiceShown {
@@ -101,11 +105,12 @@ impl State {
 
     // How many of its live tasks were seen running.
     pub(crate) fn running_of(&self, service: &Service) -> u64
-        requires { IsUsable (tables_now self.now) }
+        requires { Stands (tables_now self.now) }
         ensures { result ≡ running_of (tables_now self.now) service.now }
     {
+        self.tasks.are_few();
         let mut count = 0;
-        for task in tasks_of(self, service.id) {
+        for task in service_tasks(self, service.id) {
             if is_shown_running(service, task) {
                 count += 1;
             }
@@ -115,7 +120,8 @@ impl State {
 
     // How many tasks it is to have.
     pub(crate) fn wanted_of(&self, service: &Service) -> Result<u64, NoMemory>
-        requires { IsUsable (tables_now self.now) }
+        requires stands { Stands (tables_now self.now) }
+        requires near { HasNearTasks (tables_now self.now) }
         ensures { IfOk result (λ wanted. wanted ≡ wanted_of (tables_now self.now) service.now service.now.spec.mode) }
     {
         match service.spec.mode {
@@ -126,11 +132,11 @@ impl State {
     }
 
     fn networks_shown(&self) -> Result<List<NetworkShown>, NoMemory>
-        requires { IsUsable (tables_now self.now) }
+        requires { Stands (tables_now self.now) }
         ensures { IfOk result (λ rows. rows ≡ map network_row (tables_now self.now).networks) }
     {
         let mut rows = List::new(self.alloc);
-        for network in networks(self) {
+        for network in all(&self.networks) {
             let row = NetworkShown {
                 id: network.id,
                 name: network.name.duplicate(self.alloc)?,
@@ -143,11 +149,11 @@ impl State {
     }
 
     fn tasks_shown(&self) -> Result<List<TaskShown>, NoMemory>
-        requires { IsUsable (tables_now self.now) }
+        requires { Stands (tables_now self.now) }
         ensures { IfOk result (λ rows. rows ≡ map (task_shown (tables_now self.now)) (tables_now self.now).tasks) }
     {
         let mut rows = List::new(self.alloc);
-        for task in tasks(self) {
+        for task in all(&self.tasks) {
             add(&mut rows, self.task_shown(task)?)?;
         }
         Ok(rows)
@@ -155,7 +161,7 @@ impl State {
 
     // The tasks of the service with this name.
     fn tasks_of_service(&self, name: &Name) -> Result<ViewReply, Refusal>
-        requires { IsUsable (tables_now self.now) }
+        requires { Stands (tables_now self.now) }
         ensures { let t = tables_now self.now in
             Gets (on_service_by t name.now (λ s. Ok (tasks_shown t (filter (is_of s.id) t.tasks)))) result }
     {
@@ -166,12 +172,12 @@ impl State {
     }
 
     fn tasks_of(&self, service: Id) -> Result<List<TaskShown>, NoMemory>
-        requires { IsUsable (tables_now self.now) }
+        requires { Stands (tables_now self.now) }
         ensures { let t = tables_now self.now in
             IfOk result (λ rows. rows ≡ map (task_shown t) (filter (is_of service) t.tasks)) }
     {
         let mut rows = List::new(self.alloc);
-        for task in tasks_of(self, service) {
+        for task in service_tasks(self, service) {
             add(&mut rows, self.task_shown(task)?)?;
         }
         Ok(rows)

@@ -1,8 +1,10 @@
 -- A place is dirty only where a task of its service is.
-use Rattle.std.proofs.Common.{◌≡◌, ℕ, Bool, true, false, List, [], ◌∷◌, Option, Some, None, ◌⊎◌, inl, inr, refl, sym, ap, ◌∙◌}
-use Rattle.std.specs.List.{last_or, list_any}
+use Rattle.std.proofs.Common.{◌≡◌, ℕ, Bool, true, false, List, [], ◌∷◌, Option, Some, None, refl, sym, ◌∙◌}
+use Rattle.std.specs.List.{list_any}
 use Rattle.std.specs.Prelude.{◌&&◌, ◌||◌, filter, not}
 use Rattle.swarm_objects.proofs.RowLemmas.{Has-filter, Has-filter_cases}
+use Rattle.swarm_objects.proofs.Newest.{newest_has}
+use Rattle.swarm_objects.proofs.Tests.{any-has, has-any, second_so}
 use Rattle.swarm_objects.specs.Rows.{Has, is_some_and}
 use Rattle.swarm_objects.specs.Same.{same_place}
 use Rattle.swarm_objects.specs.Services.Words.{is_dirty, is_live_dirty}
@@ -11,23 +13,7 @@ use Rattle.swarm_objects.specs.Tasks.Words.{is_live, is_of}
 use Rattle.swarm_objects.specs.World.{Tables}
 use Rattle.swarm_objects.specs.declared.services.Service.{Service}
 use Rattle.swarm_objects.specs.declared.tasks.Task.{Task}
-use Rattle.swarm_roles.proofs.AnyOf.{any-has, has-any}
-use Rattle.swarm_roles.proofs.PlaceLemmas.{and_left, and_right}
-
-last_has : {X : Type 0} (o : Option X) (xs : List X) (z : X) → last_or o xs ≡ Some z → (o ≡ Some z) ⊎ Has xs z
-last_has o [] z e = inl e
-last_has o (x ∷ xs) z e = go (last_has (Some x) xs z e)
-  where
-    go : (Some x ≡ Some z) ⊎ Has xs z → (o ≡ Some z) ⊎ Has (x ∷ xs) z
-    go (inl k) = inr (inl cc)
-    go (inr h) = inr (inr h)
-
-newest_has : (xs : List Task) (z : Task) → newest xs ≡ Some z → Has xs z
-newest_has xs z e = go (last_has None xs z e)
-  where
-    go : (None ≡ Some z) ⊎ Has xs z → Has xs z
-    go (inl k) = absurd cc
-    go (inr h) = h
+use Rattle.swarm_roles.proofs.PlaceLemmas.{and_left}
 
 abbrev any_dirty : Tables → Service → Bool
 any_dirty t s = list_any (is_dirty s) (filter (is_of s.id) t.tasks)
@@ -44,7 +30,7 @@ dirty_closing : (t : Tables) (s : Service) (k : ℕ) (o : Option Task) → newes
     → is_some_and (closes_dirty s) o ≡ true → any_dirty t s ≡ true
 dirty_closing t s k None is e = absurd cc
 dirty_closing t s k (Some z) is e =
-    dirty_task t s k z (newest_has (place_tasks t s k) z is) (and_right (closes z) (is_dirty s z) e)
+    dirty_task t s k z (newest_has (place_tasks t s k) z is) (second_so (closes z) (is_dirty s z) e)
 
 dirty_place : (t : Tables) (s : Service) (k : ℕ) → is_dirty_place t s k ≡ true → any_dirty t s ≡ true
 dirty_place t s k e = go (list_any (is_live_dirty s) (place_tasks t s k)) refl e
@@ -56,9 +42,9 @@ dirty_place t s k e = go (list_any (is_live_dirty s) (place_tasks t s k)) refl e
         → any_dirty t s ≡ true
     go true live k' =
         let found = any-has (is_live_dirty s) (place_tasks t s k) live in
-        dirty_task t s k found.0 found.1 (and_right (is_live found.0) (is_dirty s found.0) found.2)
+        dirty_task t s k found.0 found.1 (second_so (is_live found.0) (is_dirty s found.0) found.2)
     go false live k' =
-        dirty_closing t s k (newest (place_tasks t s k)) refl (and_right (not (has_live t s k)) closing k')
+        dirty_closing t s k (newest (place_tasks t s k)) refl (second_so (not (has_live t s k)) closing k')
 
 none_passes : {X : Type 0} (p : X → Bool) (xs : List X) → ((x : X) → p x ≡ true → false ≡ true) → list_any p xs ≡ false
 none_passes p [] no' = refl

@@ -1,8 +1,9 @@
 -- A task that is trimmed has ended, and was to stop.
-use Rattle.std.proofs.Common.{◌≡◌, ℕ, Bool, true, false, cond, eqb, inl, inr, List, [], ◌∷◌, Option, Some, None, refl, sym, ap, ◌∙◌, subst, arith}
+use Rattle.std.proofs.Common.{◌≡◌, Bool, true, false, cond, inl, inr, List, [], ◌∷◌, Option, Some, None, refl, sym, ap, ◌∙◌, subst, arith}
 use Rattle.std.proofs.lemmas.Bool.Decides.{nat_tests}
-use Rattle.std.specs.Prelude.{◌&&◌, ◌==◌, count_by, filter, find, map, nat_lt, not}
+use Rattle.std.specs.Prelude.{◌&&◌, count_by, filter, find, map, nat_lt, not}
 use Rattle.swarm_objects.proofs.RowLemmas.{Has-filter_cases, row_at-Some}
+use Rattle.swarm_objects.proofs.Tests.{find_has, second_so}
 use Rattle.swarm_objects.specs.Loops.Reaper.{is_oldest_past, is_past, is_trimmed, is_trimmed_in}
 use Rattle.swarm_objects.specs.Loops.Words.{duty_where}
 use Rattle.swarm_objects.specs.Rows.{Has, RisesFrom, first_of, is_some_and, row_at, service_id, task_id}
@@ -13,17 +14,8 @@ use Rattle.swarm_objects.specs.World.{Tables}
 use Rattle.swarm_objects.specs.declared.duties.Duty.TheVariants as duty
 use Rattle.swarm_objects.specs.declared.services.Service.{Service}
 use Rattle.swarm_objects.specs.declared.tasks.Task.{Task}
-use Rattle.swarm_roles.proofs.PlaceLemmas.{and_left, and_right}
+use Rattle.swarm_roles.proofs.PlaceLemmas.{and_left}
 use Rattle.swarm_roles.specs.Usable.{IsUsable}
-
-find_has : {X : Type 0} (p : X → Bool) (xs : List X) (x : X) → find p xs ≡ Some x → Has xs x × (p x ≡ true)
-find_has p [] x e = cc
-find_has p (y ∷ ys) x e = go (p y) refl (find_has p ys x) e
-  where
-    go : (b : Bool) → p y ≡ b → (find p ys ≡ Some x → Has ys x × (p x ≡ true)) → cond b (Some y) (find p ys) ≡ Some x
-        → Has (y ∷ ys) x × (p x ≡ true)
-    go true t below k = let same : y ≡ x = cc in (inl same, subst (λ z. p z ≡ true) same t)
-    go false t below k = let r = below k in (inr r.0, r.1)
 
 -- rows with one number are one row
 one_row : (t : Tables) (x y : Task) → RisesFrom task_id 0 t.tasks → Has t.tasks x → Has t.tasks y → y.id ≡ x.id → y ≡ x
@@ -58,9 +50,9 @@ past_trimmed t x rises has e = go (row_at service_id x.service t.services) e
         let many = nat_lt t.settings.history (count_by is_past tasks) in
         let oldest = is_some_and (is_task x.id) (find is_past tasks) in
         past_oldest t x s rises has
-        (and_right many oldest
+        (second_so many oldest
         (and_left (many && oldest) (not (is_some_and (is_task x.id) (newest tasks)))
-        (and_right (not (has_open_run s)) (is_oldest_past t.settings.history tasks x) k)))
+        (second_so (not (has_open_run s)) (is_oldest_past t.settings.history tasks x) k)))
 
 filter_first : {X : Type 0} (p q : X → Bool) (xs : List X) → ((x : X) → Has xs x → q x ≡ true → p x ≡ true)
     → filter (λ x. p x && q x) xs ≡ filter q xs

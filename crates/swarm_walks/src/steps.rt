@@ -91,7 +91,7 @@ fn nothing_follows_halt(rt: HostRuntime) -> Result<(), Fail> {
 fn do_next(plain: &mut Plain, role: Role) -> Result<bool, NoMemory>
     requires { IsReached (world_of plain.old) }
 {
-    match next_duty(plain, role)? {
+    match next_duty(plain, role) {
         Some(duty) => {
             do_duty(plain, duty)?;
             Ok(true)

@@ -6,11 +6,10 @@ use Rattle.std.proofs.lemmas.Bool.Decides.{nat_tests}
 use Rattle.std.proofs.lemmas.List.{length-map, map-append}
 use Rattle.swarm_model.proofs.Laws.GivesOutReplay.{IsOrderedBeside-replay}
 use Rattle.swarm_model.proofs.Watching.Changes.{changes-at, changes-none}
-use Rattle.swarm_model.proofs.Watching.Lists.{filter-both, filter-wider}
-use Rattle.swarm_model.proofs.Watching.Waiting.{IsWatched, kept-is, none-past, waited-by, watched-replay}
+use Rattle.swarm_model.proofs.Watching.Waiting.{IsWatched, kept-for, none-past, watched-replay}
 use Rattle.swarm_model.specs.Calls.{answer, answered, entered}
 use Rattle.swarm_model.specs.Calls.Refusals.{too_many, unless}
-use Rattle.swarm_model.specs.Calls.Watches.{filter_admits, is_waited_for, new_watcher, told_all, told_at, waiting_events, waits_for, watch_finish, watch_poll, with_watcher, without_watcher}
+use Rattle.swarm_model.specs.Calls.Watches.{filter_admits, new_watcher, told_all, told_at, waiting_events, waits_for, watch_finish, watch_poll, with_watcher, without_watcher}
 use Rattle.swarm_model.specs.Changed.{changes_between}
 use Rattle.swarm_model.specs.History.{replay, step}
 use Rattle.swarm_model.specs.Outcome.{Answered, Outcome}
@@ -55,20 +54,11 @@ may_follow say answer outcome before after result is (inr wanting) = inr wanting
 abbrev seen : Watcher → List Event → Watching
 seen x events = record { id = x.id; filter = x.filter; waiting = events }
 
--- for a watcher of the world after it, the events that were kept and the new ones
-waits_after : (old new : World) (x : Watcher) → Has new.watchers x →
-    waiting_events (entered old new) x
-    ≡ filter (waits_for x) old.events ++ filter (waits_for x) (changes_between (old.entries + 1) old.tables new.tables)
-waits_after old new x h =
-    ap (filter (waits_for x)) (kept-is old new new.watchers)
-    ∙ filter-wider (waits_for x) (is_waited_for new.watchers) _ (λ e waits. waited-by new.watchers x e h waits)
-    ∙ filter-both (waits_for x) old.events _
-
 -- whose tables are the same: what was kept
 waits_still : (old new : World) (x : Watcher) → changes_between (old.entries + 1) old.tables new.tables ≡ [] → Has new.watchers x →
     waiting_events (entered old new) x ≡ filter (waits_for x) old.events
 waits_still old new x none h =
-    waits_after old new x h
+    kept-for old new x h
     ∙ ap (λ es. filter (waits_for x) old.events ++ filter (waits_for x) es) none
     ∙ append-nil (filter (waits_for x) old.events)
 
@@ -109,7 +99,7 @@ hears_all old new x is was h =
     ap (seen x)
     (ap (λ es. filter (waits_for x) old.events ++ es)
     (sym (new_events old.entries x changes (is.cursors x was) (changes-at (old.entries + 1) old.tables new.tables)))
-    ∙ sym (waits_after old new x h))
+    ∙ sym (kept-for old new x h))
 
 noted : (old new : World) → IsWatched old → new.watchers ≡ old.watchers →
     map (hears (changes_between (old.entries + 1) old.tables new.tables)) (watchings_of old) ≡ watchings_of (entered old new)

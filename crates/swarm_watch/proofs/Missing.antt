@@ -5,6 +5,7 @@ use Rattle.std.specs.List.{position, position_or_len}
 use Rattle.std.specs.Option.{option_map}
 use Rattle.std.proofs.lemmas.Grind.{common_steps}
 use Rattle.std.proofs.lemmas.Bool.Decides.{nat_tests}
+use Rattle.swarm_objects.proofs.RowChanges.{change_row-None, drop_row-None}
 use Rattle.swarm_objects.specs.Rows.{change_row, drop_row, row_at}
 
 pub none_cases : {X : Type 0} (b : Bool) (x : X) (o : Option X) → cond b (Some x) o ≡ None → (b ≡ false) × (o ≡ None)
@@ -39,18 +40,6 @@ none_cons key id x rows other e = none_unless (key x == id) x (row_at key id row
 pub other_way : (a b : ℕ) → (a == b) ≡ false → (b == a) ≡ false
 other_way a b e = grind (arith, nat_tests)
 
-pub change_none : {X : Type 0} (key : X → ℕ) (id : ℕ) (f : X → X) (rows : List X) → row_at key id rows ≡ None → change_row key id f rows ≡ rows
-change_none key id f [] e = refl
-change_none key id f (x ∷ rows) e =
-    let h = none_cases (key x == id) x (row_at key id rows) e in
-    ap (λ b. cond b (f x) x ∷ change_row key id f rows) h.0 ∙ ap (λ xs. x ∷ xs) (change_none key id f rows h.1)
-
-pub drop_none : {X : Type 0} (key : X → ℕ) (id : ℕ) (rows : List X) → row_at key id rows ≡ None → drop_row key id rows ≡ rows
-drop_none key id [] e = refl
-drop_none key id (x ∷ rows) e =
-    let h = none_cases (key x == id) x (row_at key id rows) e in
-    ap (λ b. cond (not b) (x ∷ drop_row key id rows) (drop_row key id rows)) h.0 ∙ ap (λ xs. x ∷ xs) (drop_none key id rows h.1)
-
 -- rows that are seen under the same keys
 pub row_at-seen : {X Y : Type 0} (key : X → ℕ) (seen_key : Y → ℕ) (see : X → Y) (id : ℕ) (rows : List X) → ((x : X) → seen_key (see x) ≡ key x) →
     row_at key id rows ≡ None → row_at seen_key id (map see rows) ≡ None
@@ -68,7 +57,8 @@ changed_here key id f x is = let t : (key x == id) ≡ true = grind (arith, nat_
 pub change_split : {X : Type 0} (key : X → ℕ) (id : ℕ) (f : X → X) (a : List X) (x : X) (b : List X) → row_at key id a ≡ None →
     row_at key id b ≡ None → key x ≡ id → change_row key id f (a ++ x ∷ b) ≡ a ++ f x ∷ b
 change_split key id f [] x b left right is =
-    ap (λ y. y ∷ change_row key id f b) (changed_here key id f x is) ∙ ap (λ ys. f x ∷ ys) (change_none key id f b right)
+    ap (λ y. y ∷ change_row key id f b) (changed_here key id f x is)
+    ∙ ap (λ ys. f x ∷ ys) (change_row-None key id f b right)
 change_split key id f (y ∷ a) x b left right is =
     let h = none_cases (key y == id) y (row_at key id a) left in
     ap (λ v. cond v (f y) y ∷ change_row key id f (a ++ x ∷ b)) h.0 ∙ ap (λ ys. y ∷ ys) (change_split key id f a x b h.1 right is)
@@ -77,7 +67,7 @@ pub drop_split : {X : Type 0} (key : X → ℕ) (id : ℕ) (a : List X) (x : X) 
     row_at key id b ≡ None → key x ≡ id → drop_row key id (a ++ x ∷ b) ≡ a ++ b
 drop_split key id [] x b left right is =
     let t : (key x == id) ≡ true = grind (arith, nat_tests) in
-    ap (λ v. cond (not v) (x ∷ drop_row key id b) (drop_row key id b)) t ∙ drop_none key id b right
+    ap (λ v. cond (not v) (x ∷ drop_row key id b) (drop_row key id b)) t ∙ drop_row-None key id b right
 drop_split key id (y ∷ a) x b left right is =
     let h = none_cases (key y == id) y (row_at key id a) left in
     ap (λ v. cond (not v) (y ∷ drop_row key id (a ++ x ∷ b)) (drop_row key id (a ++ x ∷ b))) h.0

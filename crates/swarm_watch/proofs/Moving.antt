@@ -4,15 +4,12 @@ use Rattle.std.specs.Prelude.{map, ◌||◌, ◌&&◌, ◌==◌}
 use Rattle.std.specs.List.{list_any}
 use Rattle.std.proofs.lemmas.Bool.Decides.{nat_tests}
 use Rattle.swarm_model.specs.Calls.Watches.{filter_admits}
+use Rattle.swarm_objects.proofs.Tests.{or_right}
 use Rattle.swarm_objects.specs.Rows.{row_at}
 use Rattle.swarm_objects.specs.declared.watches.Event.{Event}
 use Rattle.swarm_watch.proofs.Missing.{none_cases, none_cons, none_join, none_split, other_way, row_at-seen}
 use Rattle.swarm_watch.specs.Inside.Cursors.{AreDistinct, AreWaited, AreWithin, cursor_id, is_waited_at, stepped_back, waits_at}
 use Rattle.swarm_watch.specs.declared.cursors.Cursor.{Cursor}
-
-pub or_second : (u v : Bool) → v ≡ true → (u || v) ≡ true
-or_second true v e = refl
-or_second false v e = e
 
 and_first : (u v : Bool) → u ≡ false → (u && v) ≡ false
 and_first true v e = absurd cc
@@ -27,7 +24,7 @@ any_skip p [] x b e = ap (λ v. v || list_any p b) e
 any_skip p (y ∷ a) x b e = ap (λ v. p y || v) (any_skip p a x b e)
 
 pub any_more : {X : Type 0} (p : X → Bool) (a : List X) (x : X) (b : List X) → list_any p (a ++ b) ≡ true → list_any p (a ++ x ∷ b) ≡ true
-any_more p [] x b e = or_second (p x) (list_any p b) e
+any_more p [] x b e = or_right (p x) (list_any p b) e
 any_more p (y ∷ a) x b e = or_more (p y) (list_any p (a ++ b)) (list_any p (a ++ x ∷ b)) (any_more p a x b) e
 
 pub any_map : {X Y : Type 0} (p : Y → Bool) (q : X → Bool) (f : X → Y) (xs : List X) → ((x : X) → p (f x) ≡ q x) → list_any p (map f xs) ≡ list_any q xs

@@ -5,11 +5,12 @@ use Rattle.std.specs.List.{list_any}
 use Rattle.std.proofs.lemmas.Bool.Decides.{nat_tests}
 use Rattle.std.proofs.lemmas.List.{drop-append-le}
 use Rattle.std.proofs.lemmas.List.Elements.{filter-append}
-use Rattle.swarm_model.proofs.Watching.Lists.{filter-wider}
 use Rattle.swarm_model.specs.Calls.Watches.{filter_admits}
+use Rattle.swarm_objects.proofs.Tests.{or_right}
+use Rattle.swarm_objects.proofs.Filters.{filter_again}
 use Rattle.swarm_objects.specs.Rows.{Has}
 use Rattle.swarm_objects.specs.declared.watches.Event.{Event}
-use Rattle.swarm_watch.proofs.Moving.{any_map, or_second, waited_append, within_more}
+use Rattle.swarm_watch.proofs.Moving.{any_map, waited_append, within_more}
 use Rattle.swarm_watch.specs.Calls.{hears, is_awaited}
 use Rattle.swarm_watch.specs.Inside.Cursors.{AreWaited, AreWithin, IsTidy, is_admitted, is_waited_at, watching_at, watchings}
 use Rattle.swarm_watch.specs.Watchings.{Watching}
@@ -26,7 +27,7 @@ pub record Keeps (xs : List Cursor) (events : List Event) (index : ℕ) (kept₀
 any_has : (p : Cursor → Bool) (xs : List Cursor) (x : Cursor) → Has xs x → p x ≡ true → list_any p xs ≡ true
 any_has p [] x h t = absurd h
 any_has p (y ∷ xs) x (inl same) t = let e : p y ≡ true = ap p same ∙ t in ap (λ v. v || list_any p xs) e
-any_has p (y ∷ xs) x (inr h) t = or_second (p y) (list_any p xs) (any_has p xs x h t)
+any_has p (y ∷ xs) x (inr h) t = or_right (p y) (list_any p xs) (any_has p xs x h t)
 
 hears_more : (xs : List Cursor) (kept events : List Event) (x : Cursor) → Has xs x → x.from ≤ length kept →
     watching_at (kept ++ filter (is_admitted xs) events) x ≡ hears events (watching_at kept x)
@@ -37,7 +38,7 @@ hears_more xs kept events x h le =
     ap (λ es. seen (filter p es)) (drop-append-le x.from kept (filter q events) le)
     ∙ ap seen (filter-append p (drop x.from kept) (filter q events))
     ∙ ap (λ es. seen (filter p (drop x.from kept) ++ es))
-    (filter-wider p q events (λ e t. any_has (λ y. filter_admits y.filter e) xs x h t))
+    (filter_again p q events (λ e t. any_has (λ y. filter_admits y.filter e) xs x h t))
 
 each_hears : (xs : List Cursor) (kept events : List Event) (ys : List Cursor) → ((y : Cursor) → Has ys y → Has xs y) → AreWithin (length kept) ys →
     watchings (kept ++ filter (is_admitted xs) events) ys ≡ map (hears events) (watchings kept ys)

@@ -9,10 +9,11 @@ use Rattle.std.proofs.lemmas.List.{get_or_default, map-append, set_split, take-a
 use Rattle.std.proofs.lemmas.List.Quantifiers.{position-Some}
 use Rattle.swarm_model.specs.Calls.Watches.{filter_admits}
 use Rattle.swarm_objects.proofs.RowLemmas.{Has-from_row_at, drop_next, instead_is}
+use Rattle.swarm_objects.proofs.RowChanges.{change_row-None, drop_row-None}
 use Rattle.swarm_objects.specs.Rows.{Has, change_row, drop_row, row_at}
 use Rattle.swarm_objects.specs.declared.watches.Event.{Event}
 use Rattle.swarm_objects.specs.declared.watches.Filter.{Filter}
-use Rattle.swarm_watch.proofs.Missing.{change_none, change_split, drop_none, drop_split, no_place, none_cases, row_at-seen, seen_at}
+use Rattle.swarm_watch.proofs.Missing.{change_split, drop_split, no_place, none_cases, row_at-seen, seen_at}
 use Rattle.swarm_watch.proofs.Moving.{distinct_join, distinct_split, waited_before, waited_more, within_join, within_split}
 use Rattle.swarm_watch.specs.Calls.{begun, told}
 use Rattle.swarm_watch.specs.Inside.Cursors.{AreDistinct, AreWaited, AreWithin, IsSwept, IsTidy, cursor_id, watching_at, watchings}
@@ -152,12 +153,12 @@ tell_told xs kept place id n d is found end =
 pub nobody_told : (xs : List Cursor) (kept : List Event) (id : ℕ) → position (λ y. cursor_id y == id) xs ≡ None →
     watchings kept xs ≡ change_row watching_id id told (watchings kept xs)
 nobody_told xs kept id none =
-    sym (change_none watching_id id told (watchings kept xs) (none_seen kept id xs (no_place cursor_id id xs none)))
+    sym (change_row-None watching_id id told (watchings kept xs) (none_seen kept id xs (no_place cursor_id id xs none)))
 
 pub nobody_gone : (xs : List Cursor) (kept : List Event) (id : ℕ) → position (λ y. cursor_id y == id) xs ≡ None →
     watchings kept xs ≡ drop_row watching_id id (watchings kept xs)
 nobody_gone xs kept id none =
-    sym (drop_none watching_id id (watchings kept xs) (none_seen kept id xs (no_place cursor_id id xs none)))
+    sym (drop_row-None watching_id id (watchings kept xs) (none_seen kept id xs (no_place cursor_id id xs none)))
 
 -- A watcher begins.
 

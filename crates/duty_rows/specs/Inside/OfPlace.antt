@@ -31,10 +31,6 @@ is_global (mode.Job concurrent total) = false
 abbrev pub missing_on : Tables → Service → ℕ → Bool
 missing_on t s node = list_any (λ n. n.id == node && is_missing t s n) t.nodes
 
--- the task stands in its place of the service, live
-abbrev pub is_live_at : Service → Task → Bool
-is_live_at s x = is_in_place s (place_at s.spec.mode (place_number x.place)) x && is_live x
-
 -- the task may make its place dirty
 abbrev pub is_suspect : Service → Task → Bool
 is_suspect s x = counts_for s x && (is_live_dirty s x || closes_dirty s x)

@@ -4,6 +4,7 @@ use Rattle.std.specs.Prelude.{◌&&◌, is_some, not, option_to_list}
 use Rattle.std.specs.Option.{option_map}
 use Rattle.swarm_model.proofs.Base.DutyLists.{Has-due, from_each, from_either, from_places, from_when, from_where}
 use Rattle.swarm_model.proofs.Base.IsDuty.{IsDuty, OfRow}
+use Rattle.swarm_objects.proofs.Tests.{both_are, not-true}
 use Rattle.swarm_objects.specs.Agents.Messages.{message_for}
 use Rattle.swarm_objects.specs.Duties.{duties, is_due}
 use Rattle.swarm_objects.specs.Kinds.{role_of}
@@ -45,14 +46,6 @@ use Rattle.swarm_objects.specs.declared.tasks.Task.{Task}
 -- the duty is one of this loop, for the reason that its kind has
 abbrev Of : Role → World → Duty → Type 0
 Of r w d = IsDuty w d × (role_of d ≡ r)
-
-both : (a b : Bool) → (a && b) ≡ true → (a ≡ true) × (b ≡ true)
-both true b e = (refl, e)
-both false b e = absurd cc
-
-denied : (b : Bool) → not b ≡ true → b ≡ false
-denied true e = absurd cc
-denied false e = refl
 
 row_is : {X : Type 0} {rows : List X} {key : X → ℕ} {Fact : X → Type 0} (x : X) → Has rows x → Fact x →
     OfRow rows key (key x) Fact
@@ -199,10 +192,11 @@ from_next w v mode.Global d there e h = absurd h
 from_next w v (mode.Job c n) d there e h =
     from_when (Of role.Job w) _ (duty.JobCreate v.id (first_gap 0 (held_places w.tables v))) d
     (λ all.
-    let last = both (nat_lt (length (live_places w.tables v)) c && nat_lt (length (held_places w.tables v)) n)
+    let last = both_are (nat_lt (length (live_places w.tables v)) c && nat_lt (length (held_places w.tables v)) n)
     (not (has_old w.tables v)) all in
-    let counts = both (nat_lt (length (live_places w.tables v)) c) (nat_lt (length (held_places w.tables v)) n) last.0 in
-    (row_is v there (c, n, e, counts.0, counts.1, denied (has_old w.tables v) last.1, refl), refl)) h
+    let counts =
+    both_are (nat_lt (length (live_places w.tables v)) c) (nat_lt (length (held_places w.tables v)) n) last.0 in
+    (row_is v there (c, n, e, counts.0, counts.1, not-true (has_old w.tables v) last.1, refl), refl)) h
 
 from_jobs : (w : World) (d : Duty) → Has (jobs w.tables) d → Of role.Job w d
 from_jobs w d =
@@ -275,7 +269,7 @@ from_inbox w a live (Some m) d there on live_is inbox =
 from_inbox w a live None d there on live_is inbox =
     from_when (Of role.Agents w) (live && is_some (message_for w a.node)) (duty.Pull a.node) d
     (λ e.
-    let parts = both live (is_some (message_for w a.node)) e in
+    let parts = both_are live (is_some (message_for w a.node)) e in
     (row_is a there (on, (subst (λ b. is_session_live w.tables a.node ≡ b) parts.0 live_is, (inbox, parts.1))), refl))
 
 from_reports : (w : World) (a : NodeAgent) (live : Bool) (d : Duty) → Has w.agents a → is_mode_on a.mode ≡ true →

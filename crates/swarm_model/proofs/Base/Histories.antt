@@ -5,6 +5,7 @@ use Rattle.std.proofs.lemmas.Bool.Decides.{nat_tests}
 use Rattle.swarm_model.specs.Calls.{answer, answered, call_outcome, is_admitted, is_full, outcome, refusal_of, unless_refused}
 use Rattle.swarm_model.specs.History.{IsLegalFrom, has_room_for_duty, may_follow, replay, replay_from, replies_from, step, step_reply, step_world}
 use Rattle.swarm_model.specs.Outcome.{Answered}
+use Rattle.swarm_objects.proofs.Tests.{both_are}
 use Rattle.swarm_objects.specs.CallWords.{is_halt}
 use Rattle.swarm_objects.specs.Duties.{is_due}
 use Rattle.swarm_objects.specs.World.{World, empty_world}
@@ -79,10 +80,6 @@ entries-replay h = omega (arith, entries-replay_from empty_world h)
 
 -- What may follow.
 
-both : (a b : Bool) → (a && b) ≡ true → (a ≡ true) × (b ≡ true)
-both true b e = (refl, e)
-both false b e = absurd cc
-
 room_left : (halted halt : Bool) (n : ℕ) → (not halted && not (not halt && nat_le 300000 n)) ≡ true →
     (halted ≡ false) × (halt ≡ false → n < 300000)
 room_left true halt n e = absurd cc
@@ -98,8 +95,8 @@ room_admitted w c e = room_left w.halted (is_halt c) w.entries e
 pub room_duty : (w : World) (d : Duty) → may_follow w (what.Duty d) ≡ true →
     (w.halted ≡ false) × (w.entries < 300000) × (is_due w d ≡ true)
 room_duty w d e =
-    let parts = both (has_room_for_duty w) (is_due w d) e in
-    let room = both (not w.halted) (nat_lt w.entries 300000) parts.0 in
+    let parts = both_are (has_room_for_duty w) (is_due w d) e in
+    let room = both_are (not w.halted) (nat_lt w.entries 300000) parts.0 in
     (runs w.halted room.0, grind (arith, nat_tests, room.1), parts.1)
   where
     runs : (b : Bool) → not b ≡ true → b ≡ false

@@ -5,6 +5,7 @@ use Rattle.std.specs.Option.{option_map}
 use Rattle.swarm_model.proofs.Base.DutyLists.{due-Has, to_places, to_when, to_where}
 use Rattle.swarm_model.proofs.Base.IsDuty.{GivesUp, GoesTo, HasMessage, IsDuty, IsLive, IsUnexplained, OfAgent, OfExecutor, OfPlace, OfRow, OfRun, OfUpdated, WantsReplica, WantsTask}
 use Rattle.swarm_objects.proofs.RowLemmas.{Has-append_left, Has-append_right, Has-flat_map}
+use Rattle.swarm_objects.proofs.Tests.{both}
 use Rattle.swarm_objects.specs.Agents.Messages.{message_for}
 use Rattle.swarm_objects.specs.Duties.{duties, is_due}
 use Rattle.swarm_objects.specs.Kinds.{role_of}
@@ -47,10 +48,6 @@ to_id ds duty_of of h = subst (λ k. Has ds (duty_of k)) of.id_is h
 cond_has : (b : Bool) (ds : List Duty) (d : Duty) → b ≡ true → Has ds d → Has (cond b ds []) d
 cond_has true ds d e h = h
 cond_has false ds d e h = absurd cc
-
-both_are : (a b : Bool) → a ≡ true → b ≡ true → (a && b) ≡ true
-both_are true b e f = f
-both_are false b e f = absurd cc
 
 -- Updates.
 
@@ -106,7 +103,7 @@ task_has t v k up =
     subst (λ m. Has (next_duty t v m) (duty.JobCreate v.id k)) (sym up.2)
     (subst (λ j. Has (next_duty t v (mode.Job up.0 up.1)) (duty.JobCreate v.id j)) (sym up.6)
     (to_when _ _
-    (both_are _ (not (has_old t v)) (both_are _ (nat_lt (length (held_places t v)) up.1) up.3 up.4) (ap not up.5))))
+    (both _ (not (has_old t v)) (both _ (nat_lt (length (held_places t v)) up.1) up.3 up.4) (ap not up.5))))
 
 leave_has : (t : Tables) (v : Service) (n : ℕ) → v.spec.mode ≡ mode.Global → Has (place_numbers t v) n →
     is_to_leave t v n ≡ true → Has (leave_duties t v v.spec.mode) (duty.Leave v.id n)
@@ -225,7 +222,7 @@ pull_has : (w : World) (a : NodeAgent) (live : Bool) → live ≡ true → ◌�
     is_some (message_for w a.node) ≡ true → Has (inbox_duties w a live a.inbox) (duty.Pull a.node)
 pull_has w a live on e there =
     subst (λ (o : Option Message). Has (inbox_duties w a live o) (duty.Pull a.node)) (sym e)
-    (to_when (live && is_some (message_for w a.node)) _ (both_are live (is_some (message_for w a.node)) on there))
+    (to_when (live && is_some (message_for w a.node)) _ (both live (is_some (message_for w a.node)) on there))
 
 report_has : (w : World) (a : NodeAgent) (x : ℕ) → is_session_live w.tables a.node ≡ true →
     OfRow a.executors executor_task x (λ e. wants_report w.tables e ≡ true) →

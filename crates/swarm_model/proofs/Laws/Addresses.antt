@@ -3,13 +3,12 @@ use Rattle.std.proofs.Common.{None, Option, Some, [], ap, arith, false, inl, inr
 use Rattle.std.proofs.lemmas.Bool.Decides.{nat_tests}
 use Rattle.std.specs.List.{list_any}
 use Rattle.std.specs.Prelude.{filter, map, nat_le, option_to_list, ◌&&◌, ◌-◌, ◌==◌, ◌^◌}
-use Rattle.swarm_model.proofs.Laws.Any.{any-has, first-free, refuted}
+use Rattle.swarm_model.proofs.Laws.Any.{first-free}
 use Rattle.swarm_model.proofs.Laws.GivesOut.{left}
 use Rattle.swarm_model.proofs.Laws.Kept.{InOrder, IsNewOf, Keeps, Lightens, lighten-in_state, lighten-same}
 use Rattle.swarm_model.proofs.Laws.OneEach.{no-alike}
 use Rattle.swarm_model.proofs.Laws.Timely.{changed-cases, each-becomes}
 use Rattle.swarm_model.proofs.Laws.Within.{within-lightens}
-use Rattle.swarm_model.proofs.Moves.Duties.{and-left, and-right}
 use Rattle.swarm_model.proofs.Moves.Rows.{Becomes, becomes-where, between-one}
 use Rattle.swarm_model.proofs.Moves.Tables.{rank-most}
 use Rattle.swarm_model.proofs.Moves.Worlds.{TaskMoves}
@@ -18,6 +17,7 @@ use Rattle.swarm_model.specs.Calls.Remote.{begun_tables}
 use Rattle.swarm_model.specs.Content.{same_address}
 use Rattle.swarm_model.specs.Laws.Fits.{has_address, share_address}
 use Rattle.swarm_objects.proofs.RowLemmas.{Has-append_cases, Has-filter, Has-flat_map, Has-flat_map_cases, Has-map}
+use Rattle.swarm_objects.proofs.Tests.{any-has, false_from_ne_true, first_so, second_so}
 use Rattle.swarm_objects.specs.Changes.{change_task, in_state, placed}
 use Rattle.swarm_objects.specs.Loops.Allocator.{address_in, new_addresses, with_addresses}
 use Rattle.swarm_objects.specs.Loops.Scheduler.{is_to_place}
@@ -204,7 +204,7 @@ place-keeps version t x m order is there e =
     })) is
   where
     pending-not-over : (x : Task) → is_to_place x ≡ true → is_not_over x ≡ true
-    pending-not-over x e = go x.state refl (and-left (is_pending x.state) (is_wanted x) e)
+    pending-not-over x e = go x.state refl (first_so (is_pending x.state) (is_wanted x) e)
       where
         go : (s : TaskState) → x.state ≡ s → is_pending s ≡ true → is_not_over x ≡ true
         go state.Pending at p = ap (λ s. nat_le (rank s) (rank state.Running)) at
@@ -265,11 +265,11 @@ addresses-empty = record { own = λ a b h k s. absurd h }
 
 address-share : (a b : Task) → share_address a b ≡ true → Share a b
 address-share a b e =
-    let first = and-left (is_not_over a) (is_not_over b) (and-left (is_not_over a && is_not_over b)
+    let first = first_so (is_not_over a) (is_not_over b) (first_so (is_not_over a && is_not_over b)
     (list_any (has_address b) a.addresses) e) in
-    let second = and-right (is_not_over a) (is_not_over b) (and-left (is_not_over a && is_not_over b)
+    let second = second_so (is_not_over a) (is_not_over b) (first_so (is_not_over a && is_not_over b)
     (list_any (has_address b) a.addresses) e) in
-    let found = any-has (has_address b) a.addresses (and-right (is_not_over a && is_not_over b)
+    let found = any-has (has_address b) a.addresses (second_so (is_not_over a && is_not_over b)
     (list_any (has_address b) a.addresses) e) in
     let other = any-has (same_address found.0) b.addresses found.2 in
     record {
@@ -282,13 +282,13 @@ address-share a b e =
       network = grind (
         arith,
         nat_tests,
-        and-left (found.0.network == other.0.network)
+        first_so (found.0.network == other.0.network)
             (found.0.number == other.0.number) other.2,
       );
       number = grind (
         arith,
         nat_tests,
-        and-right (found.0.network == other.0.network)
+        second_so (found.0.network == other.0.network)
             (found.0.number == other.0.number) other.2,
       );
     }
@@ -296,5 +296,5 @@ address-share a b e =
 pub addresses-alike : (t : Tables) → InOrder t → OwnAddresses t → has_alike share_address t.tasks ≡ false
 addresses-alike t order is =
     no-alike share_address task_id 1 t.next_id t.tasks order.tasks
-    (λ a b h k less. refuted (share_address a b) (λ e. let same = is.own a b h k (address-share a b e) in absurd
-    (omega (arith, less, same))))
+    (λ a b h k less. false_from_ne_true (share_address a b)
+    (λ e. let same = is.own a b h k (address-share a b e) in absurd (omega (arith, less, same))))

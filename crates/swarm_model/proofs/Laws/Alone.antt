@@ -4,11 +4,12 @@ use Rattle.std.specs.Bool.{Decides}
 use Rattle.std.specs.List.{list_any}
 use Rattle.std.specs.Prelude.{filter, fold, not, ◌&&◌, ◌==◌, ◌||◌}
 use Rattle.swarm_model.proofs.Laws.Kept.{IsNewOf, IsPlaceOf}
-use Rattle.swarm_model.proofs.Moves.Duties.{and-left, and-right, good-next}
+use Rattle.swarm_model.proofs.Moves.Duties.{good-next}
 use Rattle.swarm_model.proofs.Moves.Tables.{good-new}
 use Rattle.swarm_objects.proofs.Gaps.{Has-with_number_keeps, Has-with_row, IsRising-filter, IsRising-with_row, first_gap-free}
 use Rattle.swarm_objects.proofs.RowLemmas.{Has-filter, Has-filter_cases}
 use Rattle.swarm_objects.proofs.SameLemmas.{Decides-same_place}
+use Rattle.swarm_objects.proofs.Tests.{first_so, neither_left, never-both, second_so}
 use Rattle.swarm_objects.specs.Loops.Restart.{next_task}
 use Rattle.swarm_objects.specs.Rows.{Has, IsRising, first_gap, itself, with_number}
 use Rattle.swarm_objects.specs.Same.{same_place, same_template}
@@ -41,14 +42,14 @@ pub none-of-any : {X : Type 0} (test : X → Bool) (xs : List X) → list_any te
     test x ≡ false
 none-of-any test xs e x h = none-passes test xs x h e
 
-with-keeps : (numbers : List ℕ) (xs : List Task) (k : ℕ) → Has numbers k →
+pub with-keeps : (numbers : List ℕ) (xs : List Task) (k : ℕ) → Has numbers k →
     Has (fold (λ ks t. with_number (place_number t.place) ks) numbers xs) k
 with-keeps numbers [] k h = h
 with-keeps numbers (x ∷ xs) k h =
     with-keeps (with_number (place_number x.place) numbers) xs k (Has-with_number_keeps
     (place_number x.place) k numbers h)
 
-has-number : (numbers : List ℕ) (xs : List Task) (x : Task) → Has xs x →
+pub has-number : (numbers : List ℕ) (xs : List Task) (x : Task) → Has xs x →
     Has (fold (λ ks t. with_number (place_number t.place) ks) numbers xs) (place_number x.place)
 has-number numbers [] x h = absurd h
 has-number numbers (y ∷ ys) x (inl e) =
@@ -57,7 +58,7 @@ has-number numbers (y ∷ ys) x (inl e) =
     (Has-with_row itself (place_number y.place) numbers))
 has-number numbers (y ∷ ys) x (inr h) = has-number (with_number (place_number y.place) numbers) ys x h
 
-numbers-rise : (numbers : List ℕ) (xs : List Task) → IsRising itself numbers →
+pub numbers-rise : (numbers : List ℕ) (xs : List Task) → IsRising itself numbers →
     IsRising itself (fold (λ ks t. with_number (place_number t.place) ks) numbers xs)
 numbers-rise numbers [] rises = rises
 numbers-rise numbers (x ∷ xs) rises =
@@ -80,10 +81,6 @@ number-at (mode.Replicated n) k = refl
 number-at mode.Global k = refl
 number-at (mode.Job c n) k = refl
 
-either : (a b : Bool) → (a || b) ≡ false → a ≡ false
-either true b e = absurd cc
-either false b e = refl
-
 refuted : (b : Bool) → ¬ (b ≡ true) → b ≡ false
 refuted true no_way = absurd (no_way refl)
 refuted false no_way = refl
@@ -92,8 +89,8 @@ refuted false no_way = refl
 pub free-place : (t : Tables) (s : Service) (k : ℕ) → ¬ (Has (held_places t s) k) → (y : Task) → Has t.tasks y →
     is_in_place s (place_at s.spec.mode k) y ≡ true → is_live y ≡ false
 free-place t s k free y h there =
-    let counts = and-left (counts_for s y) (same_place y.place (place_at s.spec.mode k)) there in
-    let at = is-place y.place (place_at s.spec.mode k) (and-right (counts_for s y)
+    let counts = first_so (counts_for s y) (same_place y.place (place_at s.spec.mode k)) there in
+    let at = is-place y.place (place_at s.spec.mode k) (second_so (counts_for s y)
     (same_place y.place (place_at s.spec.mode k)) there) in
     let is : place_number y.place ≡ k = ap place_number at ∙ number-at s.spec.mode k in
     let number : Has (place_numbers t s) k =
@@ -102,7 +99,7 @@ free-place t s k free y h there =
     let unheld : is_held_place t s k ≡ false =
     refuted (is_held_place t s k) (λ held. free (Has-filter (is_held_place t s) (place_numbers t s) k number held)) in
     none-of-any is_live (tasks_of_place s (place_at s.spec.mode k) t.tasks)
-    (either (list_any is_live (tasks_of_place s (place_at s.spec.mode k) t.tasks)) _ unheld) y
+    (neither_left (list_any is_live (tasks_of_place s (place_at s.spec.mode k) t.tasks)) _ unheld) y
     (Has-filter (is_in_place s (place_at s.spec.mode k)) t.tasks y h there)
 
 -- New tasks.
@@ -148,15 +145,11 @@ next-alone version t s p place alone = record {
   alone = alone;
 }
 
-not-both : {A : Type 0} (b : Bool) → b ≡ false → b ≡ true → A
-not-both true e f = absurd cc
-not-both false e f = absurd cc
-
 pub free-new : (version : ℕ) (t : Tables) (s : Service) (k : ℕ) (d : Desired) → ¬ (Has (held_places t s) k) →
     IsNewOf t s (new_task version t s (place_at s.spec.mode k) d)
 free-new version t s k d free =
     new-alone version t s k d
-    (λ y h there live. not-both (is_live y) (free-place t s k free y h there) live)
+    (λ y h there live. never-both (is_live y) (free-place t s k free y h there) live)
 
 pub gap-new : (version : ℕ) (t : Tables) (s : Service) (from k : ℕ) (d : Desired) → k ≡ first_gap from
     (held_places t s) →
@@ -170,7 +163,7 @@ pub unheld-new : (version : ℕ) (t : Tables) (s : Service) (k : ℕ) (d : Desir
     IsNewOf t s (new_task version t s (place_at s.spec.mode k) d)
 unheld-new version t s k d unheld =
     free-new version t s k d
-    (λ h. not-both (is_held_place t s k) unheld (Has-filter_cases (is_held_place t s) (place_numbers t s) k h).1)
+    (λ h. never-both (is_held_place t s k) unheld (Has-filter_cases (is_held_place t s) (place_numbers t s) k h).1)
 
 -- a live task of a place without clean ones is dirty
 pub dirty-new : (version : ℕ) (t : Tables) (s : Service) (k : ℕ) (d : Desired) → is_job s.spec.mode ≡ false →

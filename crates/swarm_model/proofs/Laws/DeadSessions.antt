@@ -9,6 +9,7 @@ use Rattle.swarm_model.specs.Calls.Remote.{admits_session, not_admitted, on_sess
 use Rattle.swarm_model.specs.History.{step}
 use Rattle.swarm_model.specs.Laws.DeadSessions.{DeadChangesNothing, DeadSessionLaw, IsUnchanged, NeedsSession, StepMindsSessions, is_dead, is_dead_answer}
 use Rattle.swarm_model.specs.Outcome.{Answered}
+use Rattle.swarm_objects.proofs.Tests.{not-true}
 use Rattle.swarm_objects.specs.Nodes.Sessions.{is_session_live, session_of}
 use Rattle.swarm_objects.specs.Rows.{is_some_and}
 use Rattle.swarm_objects.specs.World.{Tables, World, empty_world}
@@ -74,14 +75,10 @@ refused_remote t n session next true dead =
     refused_session t n session next (not_admitted t.clock session (session_of t n.id)) refl dead
 refused_remote t n session next false dead = record { why = refusal.WrongKind n.id; is = refl; dead = refl }
 
-denied : (b : Bool) → not b ≡ true → b ≡ false
-denied true e = absurd cc
-denied false e = refl
-
 -- a call under a dead session is refused, whatever it would do
 refused_dead : (t : Tables) (name : List ℕ) (session : ℕ) (next : Node → Answered) → is_dead t (name, session) ≡ true →
     IsRefusedDead (on_session t name session next)
-refused_dead t name session next dead = go (node_by t name) (denied _ dead)
+refused_dead t name session next dead = go (node_by t name) (not-true _ dead)
   where
     go : (o : Option Node) → is_some_and (λ (n : Node). admits_session t n.id session) o ≡ false →
         IsRefusedDead (found kind.Node (wanted_by.Name name) o

@@ -1,7 +1,4 @@
 -- Reservations fit, in every world of a legal history.
-use Rattle.std.proofs.Common.{Bool, List, [], false, inl, inr, refl, true, ◌∷◌, ◌≡◌}
-use Rattle.std.specs.List.{list_all}
-use Rattle.std.specs.Prelude.{◌&&◌}
 use Rattle.swarm_model.proofs.Laws.Addresses.{OwnAddresses, addresses-alike, addresses-empty, addresses-keep}
 use Rattle.swarm_model.proofs.Laws.HostPorts.{OwnPorts, ports-alike, ports-empty, ports-keep}
 use Rattle.swarm_model.proofs.Laws.Ingress.{OwnNumbers, numbers-alike, numbers-empty, numbers-keep}
@@ -9,7 +6,7 @@ use Rattle.swarm_model.proofs.Laws.Kept.{InOrder, Keeps}
 use Rattle.swarm_model.proofs.Laws.KeptCalls.{kept-worlds}
 use Rattle.swarm_model.proofs.Laws.Room.{has-room}
 use Rattle.swarm_model.specs.Laws.Fits.{Fits, FittingLaw, has_room_for}
-use Rattle.swarm_objects.specs.Rows.{Has}
+use Rattle.swarm_objects.proofs.Tests.{all-pass}
 use Rattle.swarm_objects.specs.World.{Tables}
 
 -- two laws together
@@ -45,15 +42,6 @@ keeps-both P R p r = record {
   ticks = λ t ms q. (p.ticks t ms q.0, r.ticks t ms q.1);
   settings = λ t s e q. (p.settings t s e q.0, r.settings t s e q.1);
 }
-
-all-pass : {X : Type 0} (test : X → Bool) (xs : List X) → ((x : X) → Has xs x → test x ≡ true) → list_all test xs ≡ true
-all-pass test [] each = refl
-all-pass test (x ∷ xs) each = both (test x) (list_all test xs) (each x (inl refl))
-    (all-pass test xs (λ y h. each y (inr h)))
-  where
-    both : (a b : Bool) → a ≡ true → b ≡ true → (a && b) ≡ true
-    both true b e f = f
-    both false b e f = absurd cc
 
 pub fit-keeps : Keeps (λ t. (OwnNumbers t × OwnAddresses t) × OwnPorts t)
 fit-keeps =

@@ -5,7 +5,6 @@ use Rattle.std.specs.List.{list_any}
 use Rattle.std.specs.Option.{option_eq}
 use Rattle.std.specs.Prelude.{None, [], false, ⊤, ◌&&◌, ◌==◌}
 use Rattle.swarm_model.proofs.Base.IsDuty.{IsDuty}
-use Rattle.swarm_model.proofs.Moves.Duties.{and-left, and-right}
 use Rattle.swarm_model.proofs.Moves.EachDuty.{duty-moves}
 use Rattle.swarm_model.proofs.Moves.Rows.{RisesBetween, becomes-cases, between-filter, between-has, between-map, between-one, between-with_row, rows-stay}
 use Rattle.swarm_model.proofs.Moves.Sessions.{with_row-cases}
@@ -13,6 +12,7 @@ use Rattle.swarm_model.proofs.Moves.Worlds.{IsOrderly, TablesMove, TaskMoves}
 use Rattle.swarm_model.specs.Calls.Faults.{lost}
 use Rattle.swarm_model.specs.Laws.Rises.{KeepsNode}
 use Rattle.swarm_objects.proofs.RowLemmas.{Has-filter_cases, Has-flat_map_cases, Has-map_cases}
+use Rattle.swarm_objects.proofs.Tests.{first_so, second_so}
 use Rattle.swarm_objects.specs.Agents.Executors.{at_time, early_step, ending, executor_step, is_early, is_late, is_to_go, late, late_step, moved, stopped_at, wants_to_stop}
 use Rattle.swarm_objects.specs.Agents.Messages.{apply_change, assigned, assigned_task, change_executor, change_of, changes_of, due_set, gone_executor, is_assigned_on, is_sent, left_out, message_for, message_with, names, new_executor, next_message, sent_of, tasks_of_either, update_of, with_sent}
 use Rattle.swarm_objects.specs.Duties.{effect_by}
@@ -145,8 +145,8 @@ due-given t node rises a h =
     let at = Has-filter_cases (is_assigned_on node) t.tasks from.0 from.1 in
     let number = between-has task_id 1 t.next_id t.tasks from.0 rises at.0 in
     let task : from.0.id ≡ a.task = ap (λ (b : Assigned). b.task) from.2 in
-    let up = and-left (nat_le (rank state.Assigned) (rank from.0.state)) (is_on node from.0) at.1 in
-    let on = and-right (nat_le (rank state.Assigned) (rank from.0.state)) (is_on node from.0) at.1 in
+    let up = first_so (nat_le (rank state.Assigned) (rank from.0.state)) (is_on node from.0) at.1 in
+    let on = second_so (nat_le (rank state.Assigned) (rank from.0.state)) (is_on node from.0) at.1 in
     record {
       low = omega (arith, task, number.0);
       below = omega (arith, task, number.1);

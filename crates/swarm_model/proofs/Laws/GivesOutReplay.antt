@@ -65,7 +65,7 @@ Keeps w v = Moves w v → GivesOut w → GivesOut v
 still : (w v : World) → v.sent ≡ w.sent → v.agents ≡ w.agents → Keeps w v
 still w v sent agents m g = gives-still w v m.tables sent agents g
 
-both-hold : {X : Type 0} (P Q R : X → Type 0) (given : Result X Refusal) → ((x : X) → P x → Q x → R x) →
+pub both-hold : {X : Type 0} (P Q R : X → Type 0) (given : Result X Refusal) → ((x : X) → P x → Q x → R x) →
     OnGiven P given →
     OnGiven Q given → OnGiven R given
 both-hold P Q R (Ok x) join p q = join x p q

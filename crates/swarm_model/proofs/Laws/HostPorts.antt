@@ -5,13 +5,11 @@ use Rattle.std.specs.List.{list_any}
 use Rattle.std.specs.Option.{option_eq}
 use Rattle.std.specs.Prelude.{is_some, not, ◌&&◌, ◌≡◌}
 use Rattle.swarm_model.proofs.Laws.Alone.{none-of-any}
-use Rattle.swarm_model.proofs.Laws.Any.{any-has, has-any, never-both, refuted}
 use Rattle.swarm_model.proofs.Laws.Kept.{InOrder, IsNewOf, Keeps, Lightens, lighten-in_state, lighten-same}
 use Rattle.swarm_model.proofs.Laws.OneEach.{no-alike}
 use Rattle.swarm_model.proofs.Laws.Room.{IsLighter, Roomy, address-lighter, admits-all, lighter-by, lighter-same, on-node, on-node-by, roomy-empty, roomy-keeps, unplaced-new}
 use Rattle.swarm_model.proofs.Laws.Timely.{changed-cases, each-becomes, each-changed}
 use Rattle.swarm_model.proofs.Laws.Within.{within-lightens}
-use Rattle.swarm_model.proofs.Moves.Duties.{and-left, and-right}
 use Rattle.swarm_model.proofs.Moves.Placing.{best-is}
 use Rattle.swarm_model.proofs.Moves.Rows.{Becomes, becomes-where, between-one}
 use Rattle.swarm_model.proofs.Moves.Tables.{rank-most}
@@ -20,6 +18,7 @@ use Rattle.swarm_model.specs.Calls.Remote.{begun_tables}
 use Rattle.swarm_model.specs.Laws.Fits.{share_host_port}
 use Rattle.swarm_objects.proofs.RowLemmas.{Has-append_cases, Has-filter}
 use Rattle.swarm_objects.proofs.SameLemmas.{Decides-option_eq, Decides-same_number}
+use Rattle.swarm_objects.proofs.Tests.{any-has, false_from_ne_true, first_so, has-any, never-both, second_so}
 use Rattle.swarm_objects.specs.Changes.{change_task, in_state, placed}
 use Rattle.swarm_objects.specs.Loops.Allocator.{with_addresses}
 use Rattle.swarm_objects.specs.Loops.Scheduler.{is_to_place}
@@ -69,8 +68,8 @@ number-back (Some a) (Some b) e = grind (arith, nat_tests, e)
 
 clash-back : (p q : Port) → is_host_clash p q ≡ true → is_host_clash q p ≡ true
 clash-back p q e =
-    let udp = same-bool-back p.udp q.udp (and-left (same_bool p.udp q.udp) (shares_number p.number q.number) e) in
-    let number = number-back p.number q.number (and-right (same_bool p.udp q.udp)
+    let udp = same-bool-back p.udp q.udp (first_so (same_bool p.udp q.udp) (shares_number p.number q.number) e) in
+    let number = number-back p.number q.number (second_so (same_bool p.udp q.udp)
     (shares_number p.number q.number) e) in
     ap (λ (b : Bool). b && shares_number q.number p.number) udp ∙ number
 
@@ -209,7 +208,7 @@ comes-own t s x new is a b h k c = go (Has-append_cases t.tasks (x ∷ []) a h) 
     none : (y : Task) (node : ℕ) → x ≡ y → is_placed_on node y ≡ true → ⊥
     none y node e on =
         never-both (is_placed x) (unplaced-new x new.state)
-        (and-left (is_placed x) (is_on node x) (ap (is_placed_on node) e ∙ on))
+        (first_so (is_placed x) (is_on node x) (ap (is_placed_on node) e ∙ on))
 
     go : Has t.tasks a ⊎ Has (x ∷ []) a → Has t.tasks b ⊎ Has (x ∷ []) b → a.id ≡ b.id
     go (inl i) (inl j) = is.own a b i j c
@@ -285,15 +284,15 @@ ports-empty = record { roomy = roomy-empty; own = λ a b h k s. absurd h }
 
 port-clash : (a b : Task) → share_host_port a b ≡ true → Clash a b
 port-clash a b e =
-    let four = and-left _ (list_any (is_host_port_used (b ∷ [])) a.template.host_ports) e in
-    let ports = and-right (is_placed a && is_placed b && is_some a.node && option_eq same_number a.node b.node)
+    let four = first_so _ (list_any (is_host_port_used (b ∷ [])) a.template.host_ports) e in
+    let ports = second_so (is_placed a && is_placed b && is_some a.node && option_eq same_number a.node b.node)
     (list_any (is_host_port_used (b ∷ [])) a.template.host_ports) e in
-    let same = and-right (is_placed a && is_placed b && is_some a.node) (option_eq same_number a.node b.node) four in
-    let three = and-left (is_placed a && is_placed b && is_some a.node) (option_eq same_number a.node b.node) four in
-    let some = and-right (is_placed a && is_placed b) (is_some a.node) three in
-    let two = and-left (is_placed a && is_placed b) (is_some a.node) three in
+    let same = second_so (is_placed a && is_placed b && is_some a.node) (option_eq same_number a.node b.node) four in
+    let three = first_so (is_placed a && is_placed b && is_some a.node) (option_eq same_number a.node b.node) four in
+    let some = second_so (is_placed a && is_placed b) (is_some a.node) three in
+    let two = first_so (is_placed a && is_placed b) (is_some a.node) three in
     let found = any-has (is_host_port_used (b ∷ [])) a.template.host_ports ports in
-    go a.node refl some (and-left (is_placed a) (is_placed b) two) (and-right (is_placed a)
+    go a.node refl some (first_so (is_placed a) (is_placed b) two) (second_so (is_placed a)
     (is_placed b) two) same found.0 found.1
     (any-has (λ x. list_any (is_host_clash found.0) x.template.host_ports) (b ∷ []) found.2)
   where
@@ -328,5 +327,5 @@ port-clash a b e =
 pub ports-alike : (t : Tables) → InOrder t → OwnPorts t → has_alike share_host_port t.tasks ≡ false
 ports-alike t order is =
     no-alike share_host_port task_id 1 t.next_id t.tasks order.tasks
-    (λ a b h k less. refuted (share_host_port a b) (λ e. let same = is.own a b h k (port-clash a b e) in absurd
-    (omega (arith, less, same))))
+    (λ a b h k less. false_from_ne_true (share_host_port a b)
+    (λ e. let same = is.own a b h k (port-clash a b e) in absurd (omega (arith, less, same))))

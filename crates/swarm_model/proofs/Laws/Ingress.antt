@@ -4,13 +4,12 @@ use Rattle.std.proofs.lemmas.Bool.Decides.{nat_tests}
 use Rattle.std.specs.List.{list_any}
 use Rattle.std.specs.Option.{option_eq, option_map}
 use Rattle.std.specs.Prelude.{filter, flat_map, not, option_to_list, ◌&&◌, ◌==◌, ◌||◌, ◌≡◌}
-use Rattle.swarm_model.proofs.Laws.Any.{any-has, first-free, has-any, refuted}
+use Rattle.swarm_model.proofs.Laws.Any.{first-free}
 use Rattle.swarm_model.proofs.Laws.GivesOut.{on-is}
 use Rattle.swarm_model.proofs.Laws.Kept.{InOrder, Keeps, Runs}
 use Rattle.swarm_model.proofs.Laws.OneEach.{no-alike}
 use Rattle.swarm_model.proofs.Laws.Sound.{rises-between}
 use Rattle.swarm_model.proofs.Laws.Timely.{changed-cases, each-becomes, each-changed}
-use Rattle.swarm_model.proofs.Moves.Duties.{and-left, and-right}
 use Rattle.swarm_model.proofs.Moves.Rows.{between-one}
 use Rattle.swarm_model.specs.Calls.Refusals.{other_holder, port_taken}
 use Rattle.swarm_model.specs.Calls.Services.{filled, new_service, respecified, with_service}
@@ -18,6 +17,7 @@ use Rattle.swarm_model.specs.Laws.Facts.{takes}
 use Rattle.swarm_model.specs.Laws.Fits.{share_port}
 use Rattle.swarm_objects.proofs.Empty.{filter_empty, flat_map_empty, map_empty}
 use Rattle.swarm_objects.proofs.RowLemmas.{Has-append_cases, Has-append_left, Has-append_right, Has-filter, Has-filter_cases, Has-flat_map, Has-flat_map_cases, Has-from_row_at, Has-map, Has-map_cases, row_at-Some}
+use Rattle.swarm_objects.proofs.Tests.{any-has, false_from_ne_true, first_so, has-any, same_bool_is, second_so}
 use Rattle.swarm_objects.specs.Changes.{change_service}
 use Rattle.swarm_objects.specs.Limits.{first_port, last_port}
 use Rattle.swarm_objects.specs.Loops.Allocator.{port_number, with_port}
@@ -179,19 +179,13 @@ runs-hold clock x y r udp number h =
 
 -- Given numbers.
 
-same-bool-is : (a b : Bool) → same_bool a b ≡ true → a ≡ b
-same-bool-is true true e = refl
-same-bool-is true false e = absurd cc
-same-bool-is false true e = absurd cc
-same-bool-is false false e = refl
-
 named : (udp : Bool) (number : ℕ) (ports : List Port) → list_any (has_port_number udp number) ports ≡ true →
     Has (numbers_named udp ports) number
 named udp number ports e =
     let found = any-has (has_port_number udp number) ports e in
     let p = found.0 in
-    let of = and-left (same_bool p.udp udp) (option_eq same_number p.number (Some number)) found.2 in
-    let at = and-right (same_bool p.udp udp) (option_eq same_number p.number (Some number)) found.2 in
+    let of = first_so (same_bool p.udp udp) (option_eq same_number p.number (Some number)) found.2 in
+    let at = second_so (same_bool p.udp udp) (option_eq same_number p.number (Some number)) found.2 in
     Has-flat_map (λ q. option_to_list q.number) (filter (λ q. same_bool q.udp udp) ports) p number
     (Has-filter (λ q. same_bool q.udp udp) ports p found.1 of)
     (subst (λ o. Has (option_to_list o) number) (sym (on-is p.number number at)) (inl refl))
@@ -201,11 +195,11 @@ given : (udp : Bool) (number : ℕ) (numbers : List PortNumber) → list_any (is
 given udp number numbers e =
     let found = any-has (is_numbered udp number) numbers e in
     let n = found.0 in
-    let of = and-left (same_bool n.udp udp) (n.number == number) found.2 in
+    let of = first_so (same_bool n.udp udp) (n.number == number) found.2 in
     let at : n.number ≡ number = grind (
       arith,
       nat_tests,
-      and-right (same_bool n.udp udp)
+      second_so (same_bool n.udp udp)
           (n.number == number) found.2,
     ) in
     subst (λ (k : ℕ). Has (numbers_given udp numbers) k) at
@@ -253,8 +247,8 @@ port-takes version t s target udp number free u k h =
       | inr (inr c) ↦ (elim (any-append (is_numbered u k) s.numbers (port_number target udp number) c) [
         | inl old ↦ inl (held-by u k s (inr (inr old)))
         | inr new ↦ inr (λ v there holds.
-            let of = same-bool-is udp u (and-left (same_bool udp u) (number == k) new) in
-            let at : number ≡ k = grind (arith, nat_tests, and-right (same_bool udp u) (number == k) new) in
+            let of = same_bool_is udp u (first_so (same_bool udp u) (number == k) new) in
+            let at : number ≡ k = grind (arith, nat_tests, second_so (same_bool udp u) (number == k) new) in
             absurd (nobody-holds t udp number free v there
             (subst (λ (x : Bool). Holds x number v) (sym of) (subst (λ (n : ℕ). Holds u n v) (sym at) holds))))
       ])
@@ -312,9 +306,9 @@ pub untaken : (t : Tables) (own : Option ℕ) (ports : List Port) (udp : Bool) (
 untaken t own ports udp number none e v there holds =
     let found = any-has (has_port_number udp number) ports e in
     let p = found.0 in
-    let of = same-bool-is p.udp udp (and-left (same_bool p.udp udp)
+    let of = same_bool_is p.udp udp (first_so (same_bool p.udp udp)
     (option_eq same_number p.number (Some number)) found.2) in
-    let at = on-is p.number number (and-right (same_bool p.udp udp)
+    let at = on-is p.number number (second_so (same_bool p.udp udp)
     (option_eq same_number p.number (Some number)) found.2) in
     let empty = flat_map_empty (λ q. other_holder t own q q.number) ports p
     (no-first (flat_map (λ q. other_holder t own q q.number) ports) none) found.1 in
@@ -488,4 +482,4 @@ no-share t a b is h k less e =
 pub numbers-alike : (t : Tables) → InOrder t → OwnNumbers t → has_alike share_port t.services ≡ false
 numbers-alike t order is =
     no-alike share_port service_id 1 t.next_id t.services order.services
-    (λ a b h k less. refuted (share_port a b) (no-share t a b is h k less))
+    (λ a b h k less. false_from_ne_true (share_port a b) (no-share t a b is h k less))

@@ -7,13 +7,12 @@ use Rattle.swarm_model.proofs.Base.Answers.{OnGiven, given-found, given-if, give
 use Rattle.swarm_model.proofs.Base.FromLists.{IsDuty-due}
 use Rattle.swarm_model.proofs.Base.Histories.{replay-keeps, room_duty}
 use Rattle.swarm_model.proofs.Laws.GivesOut.{GivesOut}
-use Rattle.swarm_model.proofs.Laws.GivesOutReplay.{gives-empty, whole-step}
+use Rattle.swarm_model.proofs.Laws.GivesOutReplay.{both-hold, gives-empty, whole-step}
 use Rattle.swarm_model.proofs.Laws.Kept.{InOrder, Keeps, Runs, SameRoom, lighten-raised_to, node-keeps, order-of}
 use Rattle.swarm_model.proofs.Laws.KeptDuties.{any-keeps, duty-keeps, runs-same}
 use Rattle.swarm_model.proofs.Laws.Orderly.{orderly-empty}
 use Rattle.swarm_model.proofs.Laws.Steps.{each-world}
 use Rattle.swarm_model.proofs.Moves.Calls.{find-has}
-use Rattle.swarm_model.proofs.Moves.Duties.{and-left}
 use Rattle.swarm_model.proofs.Moves.Operations.{op-moves}
 use Rattle.swarm_model.proofs.Moves.Rows.{becomes-filter, between-one}
 use Rattle.swarm_model.proofs.Moves.Worlds.{IsOrderly, Moves, orderly-moves}
@@ -31,6 +30,7 @@ use Rattle.swarm_model.specs.History.{IsLegal, may_follow, replay, step}
 use Rattle.swarm_model.specs.Laws.Steps.{EachWorld}
 use Rattle.swarm_model.specs.Outcome.{Answered}
 use Rattle.swarm_objects.proofs.RowLemmas.{Has-filter_cases, Has-from_row_at}
+use Rattle.swarm_objects.proofs.Tests.{first_so}
 use Rattle.swarm_objects.specs.Agents.Messages.{is_assigned_on, message_for}
 use Rattle.swarm_objects.specs.Changes.{id_taken}
 use Rattle.swarm_objects.specs.Limits.{most_events, most_ops}
@@ -74,7 +74,7 @@ use Rattle.swarm_objects.specs.declared.watches.Watcher.{Watcher}
 abbrev HoldsOn : (Tables → Type 0) → Done → Type 0
 HoldsOn Q done = OnGiven (λ (d : World × ℕ). Q d.0.tables) done
 
-named-has : {X : Type 0} (name_of : X → List ℕ) (name : List ℕ) (rows : List X) (x : X) →
+pub named-has : {X : Type 0} (name_of : X → List ℕ) (name : List ℕ) (rows : List X) (x : X) →
     row_named name_of name rows ≡ Some x →
     Has rows x
 named-has name_of name rows x e = find-has (has_name name_of name) rows x e
@@ -122,7 +122,7 @@ back-service : (Q : Tables → Type 0) → Keeps Q → (version : ℕ) (w : Worl
 back-service Q keeps version w s None is q there e = tt
 back-service Q keeps version w s (Some spec) is q there e = keeps.rolls_back version w.tables s spec is q there e
 
-respecified-room : (version clock : ℕ) (labels : List (List ℕ × List ℕ)) (r : NodeRole) (a : Availability)
+pub respecified-room : (version clock : ℕ) (labels : List (List ℕ × List ℕ)) (r : NodeRole) (a : Availability)
     (n m : Node) → n ≡ m →
     SameRoom clock m (respecified_node version labels r a n)
 respecified-room version clock labels r a n m e =
@@ -179,12 +179,6 @@ op-keeps Q keeps version w (op.RemoveNetwork name) is q =
 op-keeps Q keeps version w (op.SetCluster settings) is q =
     given-unless (λ (d : World × ℕ). Q d.0.tables) _ _
     (λ e. keeps.settings w.tables settings (unbroken (find (settings_break settings) settings_rules) e) q)
-
-both-hold : {X : Type 0} (P Q R : X → Type 0) (given : Result X Refusal) → ((x : X) → P x → Q x → R x) →
-    OnGiven P given →
-    OnGiven Q given → OnGiven R given
-both-hold P Q R (Ok x) join p q = join x p q
-both-hold P Q R (Err r) join p q = tt
 
 ops-keep-all : (Q : Tables → Type 0) → Keeps Q → (version : ℕ) (w : World) (ops : List Op) → IsOrderly w → Q w.tables →
     OnGiven (λ (d : World × List ℕ). IsOrderly d.0 × Q d.0.tables) (apply_ops version ops w [])
@@ -269,7 +263,7 @@ status-holds Q keeps version w name session task s is q =
     let there = (Has-from_row_at task_id task w.tables.tasks x e).0 in
     let on = not_refused (not (is_assigned_on n.id x)) (refusal.NotThisNode x.id)
     (none_of (refuse (not (is_assigned_on n.id x)) (refusal.NotThisNode x.id)) _ ok).0 in
-    let up = and-left (nat_le (rank state.Assigned) (rank x.state)) (is_on n.id x) (sure (is_assigned_on n.id x) on) in
+    let up = first_so (nat_le (rank state.Assigned) (rank x.state)) (is_on n.id x) (sure (is_assigned_on n.id x) on) in
     any-keeps Q keeps w.tables x.id _ is q
     (λ y h same.
     let row : x ≡ y = between-one task_id 1 w.tables.next_id w.tables.tasks x y is.tasks there h (sym same) in

@@ -7,11 +7,12 @@ use Rattle.swarm_model.proofs.Base.IsDuty.{IsDuty, OfRow}
 use Rattle.swarm_model.proofs.Laws.Alone.{dirty-new, gap-new, new-alone, next-alone, none-of-any, unheld-new}
 use Rattle.swarm_model.proofs.Laws.GivesOut.{GivesOut}
 use Rattle.swarm_model.proofs.Laws.Kept.{InOrder, IsPlaceOf, Keeps, Lightens, Runs, SameRoom, in-order-moves, lighten-closed, lighten-in_state, lighten-noted, lighten-raised, lighten-raised_to, lighten-same, lighten-wanted, node-keeps, order-of}
-use Rattle.swarm_model.proofs.Moves.Duties.{and-left, and-right, attempt-moves, dropped-moves, live-most, order-moves, rejected-moves, shut-task}
+use Rattle.swarm_model.proofs.Moves.Duties.{attempt-moves, dropped-moves, live-most, order-moves, rejected-moves, shut-task}
 use Rattle.swarm_model.proofs.Moves.Rows.{RisesBetween, becomes-change_any, becomes-change_at, becomes-filter, becomes-where, between-one}
 use Rattle.swarm_model.proofs.Moves.Tables.{desired-most, move-where, rank-most}
 use Rattle.swarm_model.proofs.Moves.Worlds.{IsGood, IsOrderly}
 use Rattle.swarm_objects.proofs.RowLemmas.{Has-append_cases, Has-filter, Has-from_row_at, Has-map, Has-map_cases}
+use Rattle.swarm_objects.proofs.Tests.{first_so, never-both, second_so}
 use Rattle.swarm_objects.specs.Agents.Messages.{message_for}
 use Rattle.swarm_objects.specs.Changes.{change_service, change_task, change_where, noted, on_service, on_task, placed, wanted}
 use Rattle.swarm_objects.specs.Duties.{effect_by}
@@ -194,10 +195,6 @@ in-status clock version to s = run-changed clock version (λ run. in_status (to 
 shut-live : (version : ℕ) (x : Task) → IsGood x → is_live (wanted version desired.Shutdown x) ≡ false
 shut-live version x good = grind (arith, nat_tests, good.goal)
 
-not-live : {A : Type 0} (b : Bool) → b ≡ false → b ≡ true → A
-not-live true e f = absurd cc
-not-live false e f = absurd cc
-
 -- what is left of the place, once the task is to stop
 shut-alone : (version : ℕ) (t : Tables) (x : Task) (s : Service) → InOrder t → has_other t s x ≡ false → (y : Task) →
     Has (change_row task_id x.id (wanted version desired.Shutdown) t.tasks) y → is_in_place s x.place y ≡ true →
@@ -209,7 +206,7 @@ shut-alone version t x s is none y h there live =
     go : (z : Task) → Has t.tasks z → (b : Bool) → eqb (task_id z) x.id ≡ b →
         cond b (wanted version desired.Shutdown z) z ≡ y → same_template y.template s.spec.template ≡ false
     go z k true e same =
-        not-live (is_live (wanted version desired.Shutdown z)) (shut-live version z (is.good z k))
+        never-both (is_live (wanted version desired.Shutdown z)) (shut-live version z (is.good z k))
         (ap is_live same ∙ live)
     go z k false e same =
         let z_there : is_in_place s x.place z ≡ true = ap (is_in_place s x.place) same ∙ there in
@@ -219,7 +216,7 @@ shut-alone version t x s is none y h there live =
         (Has-filter (is_in_place s x.place) t.tasks z k z_there) in
         let other : (is_live z && not (z.id == x.id)) ≡ true = ap (λ (b : Bool). b && not
         (z.id == x.id)) z_live ∙ ap not e in
-        not-live (is_live z && not (z.id == x.id)) passed other
+        never-both (is_live z && not (z.id == x.id)) passed other
 
 newest-is : (Q : Tables → Type 0) → Keeps Q → (version : ℕ) (t : Tables) (cause : Closed) (o : Option Task) →
     InOrder t → Q t →
@@ -296,7 +293,7 @@ restart-keeps Q keeps version t id is q of = go (row_at task_id id t.tasks) refl
     go None e = q
     go (Some x) e =
         let found = found-row task_id t.next_id id t.tasks (λ y. wants_restart t y ≡ true) is.tasks of x e in
-        by_service x found.0 (and-left (is_live x) _ (and-left _ _ found.2))
+        by_service x found.0 (first_so (is_live x) _ (first_so _ _ found.2))
         (row_at service_id x.service t.services) refl
 
 -- Updates.
@@ -313,13 +310,13 @@ stopped-alone version t s k is y h there live =
     go : (z : Task) → Has t.tasks z → (b : Bool) → live_of_place s k z ≡ b →
         cond b (wanted version desired.Shutdown z) z ≡ y → same_template y.template s.spec.template ≡ false
     go z j true e same =
-        not-live (is_live (wanted version desired.Shutdown z)) (shut-live version z (is.good z j))
+        never-both (is_live (wanted version desired.Shutdown z)) (shut-live version z (is.good z j))
         (ap is_live same ∙ live)
     go z j false e same =
         let z_there : is_in_place s (place_at s.spec.mode k) z ≡ true = ap
         (is_in_place s (place_at s.spec.mode k)) same ∙ there in
         let z_live : is_live z ≡ true = ap is_live same ∙ live in
-        not-live (live_of_place s k z) e (ap (λ (b : Bool). b && is_live z) z_there ∙ z_live)
+        never-both (live_of_place s k z) e (ap (λ (b : Bool). b && is_live z) z_there ∙ z_live)
 
 order-keeps : (Q : Tables → Type 0) → Keeps Q → (version : ℕ) (t : Tables) (s : Service) (k : ℕ) (o : UpdateOrder) →
     InOrder t → Q t →
@@ -329,7 +326,7 @@ order-keeps Q keeps version t s k order.StopFirst is q there no_job none =
     let lighter : (x : Task) → Has t.tasks x → live_of_place s k x ≡ true → Lightens t.clock x
     (wanted version desired.Shutdown x) =
     (λ x h e. lighten-wanted t.clock version desired.Shutdown x (live-most x (is.good x h)
-    (and-right _ (is_live x) e))) in
+    (second_so _ (is_live x) e))) in
     keeps.comes stopped s (new_task version stopped s (place_at s.spec.mode k) desired.Ready)
     (in-order-moves t stopped is (move-where t (live_of_place s k) (wanted version desired.Shutdown)
     (λ x h e. (lighter x h e).moves)))
@@ -443,7 +440,7 @@ duty-keeps Q keeps version w (duty.Swap s k) is gives of q =
     service-keeps Q w.tables s _ _ (order-of w is) q of
     (λ v h fact. where-keeps Q keeps w.tables _ (wanted version desired.Shutdown) (order-of w is) q
     (λ x there e. lighten-wanted w.tables.clock version desired.Shutdown x
-    (live-most x (is.good x there) (and-left (is_live x) _ (and-right _ (is_live_dirty v x) e)))))
+    (live-most x (is.good x there) (first_so (is_live x) _ (second_so _ (is_live_dirty v x) e)))))
 duty-keeps Q keeps version w (duty.Replace s k) is gives of q =
     service-keeps Q w.tables s _ _ (order-of w is) q of
     (λ v h fact. replace-keeps Q keeps version w.tables k v (order-of w is) q h fact.0

@@ -5,7 +5,6 @@ use Rattle.std.specs.Prelude.{nat_le, not, ◌==◌}
 use Rattle.swarm_model.proofs.Base.Answers.{OnDone, OnGiven, given-found, given-if, given-if_not, given-is, given-unless, given-unless_some, not_refused}
 use Rattle.swarm_model.proofs.Laws.Timely.{each-changed, each-pushed}
 use Rattle.swarm_model.proofs.Moves.Calls.{find-has}
-use Rattle.swarm_model.proofs.Moves.Duties.{and-right}
 use Rattle.swarm_model.specs.Calls.Faults.{on_agent}
 use Rattle.swarm_model.specs.Calls.Networks.{remove_network}
 use Rattle.swarm_model.specs.Calls.Nodes.{remove_node, respecified_node, update_node}
@@ -19,6 +18,7 @@ use Rattle.swarm_model.specs.Calls.{answer, answered, ticked, txn_answer, viewed
 use Rattle.swarm_model.specs.History.{replay_from, step, step_world}
 use Rattle.swarm_model.specs.Outcome.{Answered}
 use Rattle.swarm_objects.proofs.RowLemmas.{Has-filter_cases, Has-from_row_at}
+use Rattle.swarm_objects.proofs.Tests.{second_so}
 use Rattle.swarm_objects.specs.Agents.Messages.{message_for}
 use Rattle.swarm_objects.specs.Changes.{change_service, change_task, noted, on_service, on_task}
 use Rattle.swarm_objects.specs.Duties.{effect_by}
@@ -415,7 +415,7 @@ pulled-counts w node (Some m) = still 200 1000 w.tables
 
 tick-counts : (w : World) (ms : ℕ) → is_tick ms ≡ true → Counts 200 1000 w.tables (ticked w ms).tables
 tick-counts w ms e =
-    let most : nat_le ms longest_tick ≡ true = and-right (nat_le 1 ms) (nat_le ms longest_tick) e in
+    let most : nat_le ms longest_tick ≡ true = second_so (nat_le 1 ms) (nat_le ms longest_tick) e in
     let few : ms ≤ 1000 = grind (arith, nat_tests, most) in
     record { next = omega arith; clock = omega (arith, few); iteration = λ m is s h. omega (arith, is s h) }
 

@@ -8,7 +8,7 @@ use Rattle.swarm_model.proofs.Laws.Kept.{InOrder, IsNewOf, Keeps, Lightens, Runs
 use Rattle.swarm_model.proofs.Laws.KeptCalls.{kept-worlds}
 use Rattle.swarm_model.proofs.Laws.Timely.{Where, each-changed, each-pushed}
 use Rattle.swarm_model.proofs.Laws.Within.{within-lightens}
-use Rattle.swarm_model.proofs.Moves.Duties.{addressed-moves, and-left, and-right}
+use Rattle.swarm_model.proofs.Moves.Duties.{addressed-moves}
 use Rattle.swarm_model.proofs.Moves.Placing.{placed-moves}
 use Rattle.swarm_model.proofs.Moves.Rows.{Becomes, RisesBetween, becomes-cases, becomes-change_at, becomes-where, between-has, between-one}
 use Rattle.swarm_model.proofs.Moves.Tables.{moves-in_state, rank-most}
@@ -20,6 +20,7 @@ use Rattle.swarm_model.specs.Calls.Services.{filled, new_service, next_iteration
 use Rattle.swarm_model.specs.Laws.OneTemplate.{NoTwoAlike, OneTemplateLaw, are_alike, are_alike_in}
 use Rattle.swarm_objects.proofs.RowLemmas.{Has-append_cases, Has-from_row_at}
 use Rattle.swarm_objects.proofs.SameLemmas.{Decides-same_place}
+use Rattle.swarm_objects.proofs.Tests.{first_so, neither, second_so}
 use Rattle.swarm_objects.specs.Changes.{change_service, change_task, in_state, placed}
 use Rattle.swarm_objects.specs.Loops.Allocator.{gets_address, port_number, with_addresses, with_port}
 use Rattle.swarm_objects.specs.Loops.Scheduler.{is_to_place}
@@ -63,7 +64,7 @@ alike-by mode.Global mode.Global e = refl
 alike-by (mode.Job a b) (mode.Job c d) e = refl
 alike-by _ _ e = absurd cc
 
-job-alike : (a b : Mode) → IsAlike a b → is_job a ≡ is_job b
+pub job-alike : (a b : Mode) → IsAlike a b → is_job a ≡ is_job b
 job-alike (mode.Replicated a) (mode.Replicated b) e = refl
 job-alike mode.Global mode.Global e = refl
 job-alike (mode.Job a b) (mode.Job c d) e = refl
@@ -295,7 +296,7 @@ iterated-more (mode.Replicated n) k = omega arith
 iterated-more mode.Global k = omega arith
 iterated-more (mode.Job c n) k = omega arith
 
-iterated-still : (m : Mode) (k : ℕ) → is_job m ≡ false → next_iteration m k ≡ k
+pub iterated-still : (m : Mode) (k : ℕ) → is_job m ≡ false → next_iteration m k ≡ k
 iterated-still (mode.Replicated n) k e = refl
 iterated-still mode.Global k e = refl
 iterated-still (mode.Job c n) k e = absurd cc
@@ -421,10 +422,6 @@ one-each-empty = record {
 
 -- The law.
 
-neither : (a b : Bool) → a ≡ false → b ≡ false → (a || b) ≡ false
-neither true b e f = absurd cc
-neither false b e f = f
-
 pub none-any : {X : Type 0} (test : X → Bool) (xs : List X) → ((x : X) → Has xs x → test x ≡ false) →
     list_any test xs ≡ false
 none-any test [] none = refl
@@ -446,8 +443,8 @@ no-alike alike key low high (x ∷ xs) rises each =
 counted : (s : Service) (x : Task) → counts_for s x ≡ true → (x.service ≡ s.id) ×
     (is_job s.spec.mode ≡ true → x.iteration ≡ s.iteration)
 counted s x e =
-    let of = and-left (x.service == s.id) (not (is_job s.spec.mode) || x.iteration == s.iteration) e in
-    let now = and-right (x.service == s.id) (not (is_job s.spec.mode) || x.iteration == s.iteration) e in
+    let of = first_so (x.service == s.id) (not (is_job s.spec.mode) || x.iteration == s.iteration) e in
+    let now = second_so (x.service == s.id) (not (is_job s.spec.mode) || x.iteration == s.iteration) e in
     (grind (arith, nat_tests, of), λ j. go (is_job s.spec.mode) (x.iteration == s.iteration) refl j now)
   where
     go : (j b : Bool) → (x.iteration == s.iteration) ≡ b → j ≡ true → (not j || b) ≡ true → x.iteration ≡ s.iteration
@@ -473,17 +470,17 @@ alike-none t is a b h k less = go (row_at service_id b.service t.services) refl
     of-service : (s : Service) → Has t.services s → (r : Bool) → are_alike_in a b s ≡ r → r ≡ false
     of-service s there false e = refl
     of-service s there true e =
-        let four = and-left _ (same_template a.template b.template) e in
-        let template = and-right (is_in_place s b.place a && counts_for s b && is_live a && is_live b)
+        let four = first_so _ (same_template a.template b.template) e in
+        let template = second_so (is_in_place s b.place a && counts_for s b && is_live a && is_live b)
         (same_template a.template b.template) e in
-        let live_too = and-right (is_in_place s b.place a && counts_for s b && is_live a) (is_live b) four in
-        let three = and-left (is_in_place s b.place a && counts_for s b && is_live a) (is_live b) four in
-        let live = and-right (is_in_place s b.place a && counts_for s b) (is_live a) three in
-        let two = and-left (is_in_place s b.place a && counts_for s b) (is_live a) three in
-        let cb = and-right (is_in_place s b.place a) (counts_for s b) two in
-        let one = and-left (is_in_place s b.place a) (counts_for s b) two in
-        let ca = and-left (counts_for s a) (same_place a.place b.place) one in
-        let place = is-place a.place b.place (and-right (counts_for s a) (same_place a.place b.place) one) in
+        let live_too = second_so (is_in_place s b.place a && counts_for s b && is_live a) (is_live b) four in
+        let three = first_so (is_in_place s b.place a && counts_for s b && is_live a) (is_live b) four in
+        let live = second_so (is_in_place s b.place a && counts_for s b) (is_live a) three in
+        let two = first_so (is_in_place s b.place a && counts_for s b) (is_live a) three in
+        let cb = second_so (is_in_place s b.place a) (counts_for s b) two in
+        let one = first_so (is_in_place s b.place a) (counts_for s b) two in
+        let ca = first_so (counts_for s a) (same_place a.place b.place) one in
+        let place = is-place a.place b.place (second_so (counts_for s a) (same_place a.place b.place) one) in
         let beside : IsBeside a b = record {
           service = (counted s a ca).0 ∙ sym (counted s b cb).0;
           place = place;

@@ -10,13 +10,14 @@ use Rattle.swarm_model.proofs.Laws.Sound.{rises-between}
 use Rattle.swarm_model.proofs.Laws.Timely.{each-becomes, each-changed, each-pushed, first-none}
 use Rattle.swarm_model.proofs.Laws.Weights.{cpu_of, held, mem_of, weight, weight-all, weight-none}
 use Rattle.swarm_model.proofs.Laws.Within.{within-cpu, within-lightens, within-mem}
-use Rattle.swarm_model.proofs.Moves.Duties.{and-left, and-right, placed-most}
+use Rattle.swarm_model.proofs.Moves.Duties.{placed-most}
 use Rattle.swarm_model.proofs.Moves.Placing.{best-is}
 use Rattle.swarm_model.proofs.Moves.Rows.{Becomes, becomes-change_any, becomes-where, between-has, between-one}
 use Rattle.swarm_model.specs.Calls.Nodes.{is_left_behind, tables_without_node}
 use Rattle.swarm_model.specs.Calls.Remote.{begun_tables, tasks_within, with_resources}
 use Rattle.swarm_model.specs.Laws.Fits.{has_room_for}
 use Rattle.swarm_objects.proofs.RowLemmas.{Has-append_left, Has-filter, Has-filter_cases, Has-map, Has-map_cases, sum_by-change_row, sum_by-filter}
+use Rattle.swarm_objects.proofs.Tests.{first_so, never-both, second_so}
 use Rattle.swarm_objects.specs.Changes.{change_task, id_taken, in_state, placed}
 use Rattle.swarm_objects.specs.Loops.Allocator.{with_addresses}
 use Rattle.swarm_objects.specs.Loops.Scheduler.{is_to_place}
@@ -46,13 +47,13 @@ HasHome nodes x = is_placed x ≡ true → (n : Node) × Has nodes n × (x.node 
 abbrev pub AreHomed : Tables → Type 0
 AreHomed t = (x : Task) → Has t.tasks x → HasHome t.nodes x
 
-is-on-same : (held : Option ℕ) (node : ℕ) → held ≡ Some node → option_eq same_number held (Some node) ≡ true
+pub is-on-same : (held : Option ℕ) (node : ℕ) → held ≡ Some node → option_eq same_number held (Some node) ≡ true
 is-on-same None node e = absurd cc
 is-on-same (Some n) node e = let same : n ≡ node = cc in grind (arith, nat_tests, same)
 
 pub on-node : (x : Task) (node : ℕ) → is_placed_on node x ≡ true → (is_placed x ≡ true) × (x.node ≡ Some node)
 on-node x node e =
-    (and-left (is_placed x) (is_on node x) e, on-is x.node node (and-right (is_placed x) (is_on node x) e))
+    (first_so (is_placed x) (is_on node x) e, on-is x.node node (second_so (is_placed x) (is_on node x) e))
 
 pub on-node-by : (x : Task) (node : ℕ) → is_placed x ≡ true → x.node ≡ Some node → is_placed_on node x ≡ true
 on-node-by x node placed on =
@@ -174,17 +175,13 @@ address-room version t x is = record {
 pub unplaced-new : (x : Task) → x.state ≡ state.New → is_placed x ≡ false
 unplaced-new x e = ap (λ s. nat_le (rank state.Assigned) (rank s) && nat_le (rank s) (rank state.Running)) e
 
-never : {A : Type 0} (b : Bool) → b ≡ false → b ≡ true → A
-never true e f = absurd cc
-never false e f = absurd cc
-
 unplaced-on : (node : ℕ) (x : Task) → is_placed x ≡ false → is_placed_on node x ≡ false
 unplaced-on node x e = ap (λ (b : Bool). b && is_on node x) e
 
 comes-room : (t : Tables) (s : Service) (x : Task) → IsNewOf t s x → Roomy t → Roomy (with_task t x)
 comes-room t s x new is = record {
   homes =
-      each-pushed (HasHome t.nodes) t.tasks x is.homes (λ placed. never (is_placed x)
+      each-pushed (HasHome t.nodes) t.tasks x is.homes (λ placed. never-both (is_placed x)
       (unplaced-new x new.state) placed);
   room = λ n h.
       let none = unplaced-on n.id x (unplaced-new x new.state) in
@@ -226,7 +223,7 @@ admits-all t x m e k h =
     passed false r = absurd cc
 
 pending-unplaced : (x : Task) → is_to_place x ≡ true → is_placed x ≡ false
-pending-unplaced x e = go x.state refl (and-left (is_pending x.state) (is_wanted x) e)
+pending-unplaced x e = go x.state refl (first_so (is_pending x.state) (is_wanted x) e)
   where
     go : (s : TaskState) → x.state ≡ s → is_pending s ≡ true → is_placed x ≡ false
     go state.Pending at p = ap (λ s. nat_le (rank state.Assigned) (rank s) && nat_le (rank s) (rank state.Running)) at
@@ -266,14 +263,14 @@ placed-room version t x m n order there at h none fits is = go (eqb n.id m.id) r
         grind (
           arith,
           nat_tests,
-          and-left (nat_le (reserved_cpu t m.id + x.template.cpu) m.cpu)
+          first_so (nat_le (reserved_cpu t m.id + x.template.cpu) m.cpu)
               (nat_le (reserved_mem t m.id + x.template.mem) m.mem) fits,
         ) in
         let mem_fits : (reserved_mem t m.id + x.template.mem) ≤ m.mem =
         grind (
           arith,
           nat_tests,
-          and-right (nat_le (reserved_cpu t m.id + x.template.cpu) m.cpu)
+          second_so (nat_le (reserved_cpu t m.id + x.template.cpu) m.cpu)
               (nat_le (reserved_mem t m.id + x.template.mem) m.mem) fits,
         ) in
         let here = placed-here version t.clock m.id x in
@@ -286,7 +283,7 @@ placed-room version t x m n order there at h none fits is = go (eqb n.id m.id) r
     go : (b : Bool) → eqb n.id m.id ≡ b → HasRoom (change_row task_id x.id (placed version t.clock m.id) t.tasks) n
     go true e = one (between-one node_id 1 t.next_id t.nodes n m order.nodes h at (grind (arith, nat_tests, e)))
     go false e =
-        let other : n.id ≡ m.id → ⊥ = (λ same. never (eqb n.id m.id) e (grind (arith, nat_tests, same))) in
+        let other : n.id ≡ m.id → ⊥ = (λ same. never-both (eqb n.id m.id) e (grind (arith, nat_tests, same))) in
         let away = placed-elsewhere version t.clock m.id n.id x other in
         record {
           cpu = omega (arith, is.cpu, placed-held cpu_of version t x m.id n.id order there none, weight-none cpu_of n.id (placed version t.clock m.id x) away);
@@ -376,7 +373,7 @@ left-home nodes id x stays home = λ placed.
         let on : is_on id x ≡ true = is-on-same x.node id (at ∙ ap (λ (k : ℕ). Some k) same) in
         let most : rank x.state ≤ rank state.Running = placed-most x placed in
         let over : is_not_over x ≡ true = grind (arith, nat_tests, most) in
-        never (is_left_behind id x) stays (ap (λ (b : Bool). b && is_not_over x) on ∙ over)
+        never-both (is_left_behind id x) stays (ap (λ (b : Bool). b && is_not_over x) on ∙ over)
     other n at placed false e = refl
 
 node-goes : (version : ℕ) (t : Tables) (id : ℕ) → Roomy t → Roomy (tables_without_node version t id)

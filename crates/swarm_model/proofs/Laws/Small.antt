@@ -1,5 +1,5 @@
 -- The numbers of every world of a legal history are far from the ends of their types.
-use Rattle.std.proofs.Common.{Bool, Err, List, None, Ok, Option, Result, Some, [], arith, cond, false, inl, inr, length, nat_lt, refl, subst, sym, true, ℕ, ◌+◌, ◌∷◌, ◌≡◌, ◌≤◌}
+use Rattle.std.proofs.Common.{Bool, Err, List, None, Ok, Option, Result, Some, [], arith, cond, false, length, nat_lt, refl, subst, sym, true, ℕ, ◌+◌, ◌≡◌, ◌≤◌}
 use Rattle.std.proofs.lemmas.Bool.Decides.{nat_tests}
 use Rattle.std.specs.List.{list_all}
 use Rattle.std.specs.Prelude.{not, ◌&&◌, ◌==◌}
@@ -26,6 +26,7 @@ use Rattle.swarm_model.specs.Calls.{answer, answered, ticked, txn_answer, viewed
 use Rattle.swarm_model.specs.History.{IsLegal, may_follow, replay, step}
 use Rattle.swarm_model.specs.Outcome.{Answered}
 use Rattle.swarm_objects.proofs.RowLemmas.{Has-filter_cases, Has-map_cases}
+use Rattle.swarm_objects.proofs.Tests.{all-pass, both}
 use Rattle.swarm_objects.specs.Agents.Messages.{message_for}
 use Rattle.swarm_objects.specs.Bounds.{HasNearTimes, IsSmall, is_near, is_near_agent, is_near_assigned, is_near_change, is_near_end, is_near_executor, is_near_message, is_near_node, is_near_run, is_near_sent, is_near_service, is_near_session, is_near_spec, is_near_task, is_near_template, is_near_workload}
 use Rattle.swarm_objects.specs.Limits.{most_events, most_ops}
@@ -322,15 +323,6 @@ in-time-replay h legal =
 
 near : (n : ℕ) → n ≤ 1000000000 → is_near n ≡ true
 near n le = grind (arith, nat_tests, le)
-
-both : (a b : Bool) → a ≡ true → b ≡ true → (a && b) ≡ true
-both true b e f = f
-both false b e f = e
-
-all-pass : {X : Type 0} (test : X → Bool) (xs : List X) → ((x : X) → Has xs x → test x ≡ true) → list_all test xs ≡ true
-all-pass test [] each = refl
-all-pass test (x ∷ xs) each = both (test x) (list_all test xs) (each x (inl refl))
-    (all-pass test xs (λ y h. each y (inr h)))
 
 near-end : (x : End) → IsShortEnd x → is_near_end x ≡ true
 near-end end.Never is = refl

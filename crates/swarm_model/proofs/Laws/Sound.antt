@@ -1,12 +1,11 @@
 -- The rows of every world of a legal history rise, with ids below the next one.
-use Rattle.std.proofs.Common.{◌≡◌, ℕ, ◌+◌, ◌<◌, Bool, true, false, inl, inr, refl, List, [], ◌∷◌, arith}
-use Rattle.std.specs.List.{list_all}
-use Rattle.std.specs.Prelude.{◌&&◌}
+use Rattle.std.proofs.Common.{ℕ, ◌+◌, ◌<◌, List, [], ◌∷◌, arith}
 use Rattle.swarm_model.proofs.Laws.Orderly.{orderly-replay}
 use Rattle.swarm_model.proofs.Moves.Rows.{RisesBetween}
 use Rattle.swarm_model.proofs.Moves.Worlds.{IsOrderly}
 use Rattle.swarm_model.specs.History.{IsLegal, replay}
-use Rattle.swarm_objects.specs.Rows.{Has, IsBelow, RisesFrom, network_id, node_id, service_id, session_node, task_id, watcher_id}
+use Rattle.swarm_objects.proofs.Tests.{all-pass}
+use Rattle.swarm_objects.specs.Rows.{IsBelow, RisesFrom, network_id, node_id, service_id, session_node, task_id, watcher_id}
 use Rattle.swarm_objects.specs.Sound.{IsBelowNext, IsSound, is_subnet}
 use Rattle.swarm_objects.specs.World.{Tables, World}
 use Rattle.swarm_objects.specs.declared.calls.Entry.{Entry}
@@ -57,14 +56,6 @@ rows-rise-replay h legal = rows-rise (replay h) (orderly-replay h legal)
 
 pub rows-below-replay : (h : List Entry) → IsLegal h → IsBelowNext (replay h).tables
 rows-below-replay h legal = rows-below (replay h) (orderly-replay h legal)
-
-all-pass : {X : Type 0} (test : X → Bool) (xs : List X) → ((x : X) → Has xs x → test x ≡ true) → list_all test xs ≡ true
-all-pass test [] each = refl
-all-pass test (x ∷ xs) each = both (test x) (each x (inl refl)) (all-pass test xs (λ y h. each y (inr h)))
-  where
-    both : (b : Bool) → b ≡ true → list_all test xs ≡ true → (b && list_all test xs) ≡ true
-    both true e rest = rest
-    both false e rest = absurd cc
 
 -- an orderly world is sound
 pub sound : (w : World) → IsOrderly w → IsSound w.tables

@@ -5,9 +5,11 @@ use Rattle.std.proofs.lemmas.List.Sums.{sum_by-cons}
 use Rattle.std.specs.Prelude.{fold, nat_le}
 use Rattle.swarm_model.proofs.Laws.Kept.{Lightens, lighten-in_state, lighten-same}
 use Rattle.swarm_model.proofs.Laws.Weights.{cpu_of, held, mem_of, weight, weight-all, weight-none}
-use Rattle.swarm_model.proofs.Moves.Duties.{and-left, and-right, placed-most}
+use Rattle.swarm_model.proofs.Moves.Duties.{placed-most}
 use Rattle.swarm_model.proofs.Moves.Rows.{Becomes}
+use Rattle.swarm_model.proofs.Moves.Opening.{regroup}
 use Rattle.swarm_model.specs.Calls.Remote.{Kept, fits_in, keep_or_reject, keep_other, keep_task, tasks_within}
+use Rattle.swarm_objects.proofs.Tests.{first_so, second_so}
 use Rattle.swarm_objects.specs.Changes.{in_state}
 use Rattle.swarm_objects.specs.Nodes.Holdings.{is_placed_on}
 use Rattle.swarm_objects.specs.Tasks.Words.{is_on, is_placed}
@@ -33,9 +35,9 @@ one-added version clock node kept x = by_place (is_placed_on node x) refl
         })) x
     by_room true fits e =
         let cpu : x.template.cpu ≤ kept.cpu =
-        grind (arith, nat_tests, and-left (nat_le x.template.cpu kept.cpu) (nat_le x.template.mem kept.mem) fits) in
+        grind (arith, nat_tests, first_so (nat_le x.template.cpu kept.cpu) (nat_le x.template.mem kept.mem) fits) in
         let mem : x.template.mem ≤ kept.mem =
-        grind (arith, nat_tests, and-right (nat_le x.template.cpu kept.cpu) (nat_le x.template.mem kept.mem) fits) in
+        grind (arith, nat_tests, second_so (nat_le x.template.cpu kept.cpu) (nat_le x.template.mem kept.mem) fits) in
         record {
           task = x;
           tasks = refl;
@@ -44,7 +46,7 @@ one-added version clock node kept x = by_place (is_placed_on node x) refl
           mem = omega (arith, mem, weight-all mem_of node x e);
         }
     by_room false fits e =
-        let most = placed-most x (and-left (is_placed x) (is_on node x) e) in
+        let most = placed-most x (first_so (is_placed x) (is_on node x) e) in
         record {
           task = in_state version clock state.Rejected x;
           tasks = refl;
@@ -64,10 +66,6 @@ one-added version clock node kept x = by_place (is_placed_on node x) refl
       cpu = omega (arith, weight-none cpu_of node x e);
       mem = omega (arith, weight-none mem_of node x e);
     }
-
-pub regroup : {X : Type 0} (xs : List X) (y : X) (ys : List X) → (xs ++ y ∷ []) ++ ys ≡ xs ++ y ∷ ys
-regroup [] y ys = refl
-regroup (x ∷ xs) y ys = ap (λ zs. x ∷ zs) (regroup xs y ys)
 
 -- what all of them add
 record AddsAll (clock node : ℕ) (old new : Kept) (xs : List Task) : Type 0 where

@@ -7,6 +7,7 @@ use Rattle.swarm_model.proofs.Moves.Rows.{RisesBetween, between-one, rows-stay}
 use Rattle.swarm_model.proofs.Moves.Tables.{desired-least, good-new, move-add, move-any_task, move-new, move-on_service, move-service, move-task, move-where, moves-by, moves-in_state, moves-wanted}
 use Rattle.swarm_model.proofs.Moves.Worlds.{networks-stay, IsGood, TablesMove, TaskMoves, sessions-same, tables-same, tables-then, turns-ids}
 use Rattle.swarm_objects.proofs.RowLemmas.{Has-from_row_at}
+use Rattle.swarm_objects.proofs.Tests.{first_so, second_so}
 use Rattle.swarm_objects.specs.Changes.{change_task, change_where, in_state, noted, on_service, wanted}
 use Rattle.swarm_objects.specs.Loops.Allocator.{gets_address, with_addresses}
 use Rattle.swarm_objects.specs.Loops.Enforcer.{is_misplaced}
@@ -34,16 +35,13 @@ use Rattle.swarm_objects.specs.declared.tasks.TaskState.TheVariants as state
 
 -- Tests.
 
-pub and-left : (a b : Bool) → (a && b) ≡ true → a ≡ true
-and-left true b e = refl
-and-left false b e = e
-
-pub and-right : (a b : Bool) → (a && b) ≡ true → b ≡ true
-and-right true b e = e
-and-right false b e = absurd cc
-
 pub placed-most : (x : Task) → is_placed x ≡ true → rank x.state ≤ rank state.Running
-placed-most x is = grind (arith, nat_tests, and-right (nat_le (rank state.Assigned) (rank x.state)) (nat_le (rank x.state) (rank state.Running)) is)
+placed-most x is =
+    grind (
+      arith,
+      nat_tests,
+      second_so (nat_le (rank state.Assigned) (rank x.state)) (nat_le (rank x.state) (rank state.Running)) is,
+    )
 
 pub live-most : (x : Task) → IsGood x → is_live x ≡ true → desired_rank x.desired ≤ desired_rank desired.Shutdown
 live-most x good is =
@@ -134,7 +132,7 @@ restart-moves version t id rises good of = go (row_at task_id id t.tasks) refl
     go None e = tables-same t
     go (Some x) e =
         let is = found-is t id (λ x. wants_restart t x ≡ true) rises of x e in
-        let live = and-left (is_live x) _ (and-left _ _ is.2) in
+        let live = first_so (is_live x) _ (first_so _ _ is.2) in
         move-on_service t x.service (restarted version t x)
         (λ s. restarted-moves version t x s rises is.0 (good x is.0) live)
 
@@ -148,25 +146,25 @@ of-task t id Fact f rises of each =
 
 pub raised-moves : (version : ℕ) (t : Tables) (x : Task) → wants_raise t x ≡ true → TaskMoves x (raised version x)
 raised-moves version t x e =
-    let waits : is_to_wait x ≡ true = and-left (is_to_wait x) _ (and-left _ _ (and-left _ _ (and-left _ _ e))) in
+    let waits : is_to_wait x ≡ true = first_so (is_to_wait x) _ (first_so _ _ (first_so _ _ (first_so _ _ e))) in
     let least = desired-least x.goal in
     let is : desired_rank x.desired ≡ desired_rank desired.Ready = grind (arith, nat_tests, waits) in
     moves-by x (raised version x) refl refl refl (omega arith) (omega (arith, least, is))
 
 pub addressed-moves : (version : ℕ) (t : Tables) (x : Task) → gets_address t x ≡ true → TaskMoves x (with_addresses version t x)
 addressed-moves version t x e =
-    let fresh : is_new x.state ≡ true = and-left (is_new x.state) _ (and-left _ _ (and-left _ _ (and-left _ _ e))) in
+    let fresh : is_new x.state ≡ true = first_so (is_new x.state) _ (first_so _ _ (first_so _ _ (first_so _ _ e))) in
     moves-by x (with_addresses version t x) refl refl refl (new-least x.state fresh) (omega arith)
 
 pub dropped-moves : (version clock : ℕ) (x : Task) → is_to_drop x ≡ true → TaskMoves x (in_state version clock state.Shutdown x)
 dropped-moves version clock x e =
-    let below : is_below_assigned x ≡ true = and-left (is_below_assigned x) _ e in
+    let below : is_below_assigned x ≡ true = first_so (is_below_assigned x) _ e in
     moves-in_state version clock state.Shutdown x (grind (arith, nat_tests, below))
 
 pub rejected-moves : (version : ℕ) (t : Tables) (x : Task) → is_misplaced t x ≡ true →
     TaskMoves x (in_state version t.clock state.Rejected x)
 rejected-moves version t x e =
-    let most = placed-most x (and-right (is_live x) (is_placed x) (and-left _ _ e)) in
+    let most = placed-most x (second_so (is_live x) (is_placed x) (first_so _ _ e)) in
     moves-in_state version t.clock state.Rejected x (omega (arith, most))
 
 -- Updates.
@@ -174,7 +172,7 @@ rejected-moves version t x e =
 pub swap-moves : (version : ℕ) (t : Tables) (k : ℕ) (s : Service) → AreGood t → TablesMove t (swap_place version t k s)
 swap-moves version t k s good =
     move-where t (λ x. is_in_place s (place_at s.spec.mode k) x && is_live_dirty s x) (wanted version desired.Shutdown)
-    (λ x h e. shut-moves version x (good x h) (and-left (is_live x) _ (and-right _ (is_live_dirty s x) e)))
+    (λ x h e. shut-moves version x (good x h) (first_so (is_live x) _ (second_so _ (is_live_dirty s x) e)))
 
 pub order-moves : (version : ℕ) (t : Tables) (s : Service) (k : ℕ) (o : UpdateOrder) → AreGood t →
     TablesMove t (by_order version t s k o)
@@ -182,7 +180,7 @@ order-moves version t s k order.StopFirst good =
     let stopped = change_where (live_of_place s k) (wanted version desired.Shutdown) t in
     tables-then t stopped _
     (move-where t (live_of_place s k) (wanted version desired.Shutdown)
-    (λ x h e. shut-moves version x (good x h) (and-right _ (is_live x) e)))
+    (λ x h e. shut-moves version x (good x h) (second_so _ (is_live x) e)))
     (move-new version desired.Ready stopped s k)
 order-moves version t s k order.StartFirst good = move-new version _ t s k
 

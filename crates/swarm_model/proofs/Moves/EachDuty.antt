@@ -119,7 +119,7 @@ pull-moves w node (Some m) is =
     (agent-moves (with_sent w node m) w.tables node (received m) (tables-same w.tables) (λ a. refl))
 
 -- a message that is taken in leaves the agent its node's
-taken-in : (clock : ℕ) (m : Option Message) (a : NodeAgent) → (take_in clock m a).node ≡ a.node
+pub taken-in : (clock : ℕ) (m : Option Message) (a : NodeAgent) → (take_in clock m a).node ≡ a.node
 taken-in clock None a = refl
 taken-in clock (Some m) a = refl
 

@@ -1,12 +1,13 @@
 -- A remote node's session opens with what resources are left: tasks that no longer fit are rejected.
 use Rattle.std.proofs.Common.{◌≡◌, ℕ, ◌<◌, ◌≤◌, Bool, true, false, cond, inr, List, [], ◌∷◌, ◌++◌, refl, sym, ap, ◌∙◌, subst, arith, append-nil}
 use Rattle.std.specs.Prelude.{fold}
-use Rattle.swarm_model.proofs.Moves.Duties.{and-left, placed-most}
+use Rattle.swarm_model.proofs.Moves.Duties.{placed-most}
 use Rattle.swarm_model.proofs.Moves.Rows.{Becomes, becomes-change_any}
 use Rattle.swarm_model.proofs.Moves.Sessions.{opened, opened-rises}
 use Rattle.swarm_model.proofs.Moves.Tables.{moves-in_state}
 use Rattle.swarm_model.proofs.Moves.Worlds.{networks-stay, SameId, TablesMove, TaskMoves, task-same, turns-by, turns-ids}
 use Rattle.swarm_model.specs.Calls.Remote.{Kept, begun_tables, fits_in, keep_or_reject, keep_other, keep_task, tasks_within, with_resources}
+use Rattle.swarm_objects.proofs.Tests.{first_so}
 use Rattle.swarm_objects.specs.Changes.{in_state}
 use Rattle.swarm_objects.specs.Nodes.Holdings.{is_placed_on}
 use Rattle.swarm_objects.specs.Rows.{node_id}
@@ -28,7 +29,7 @@ one-added version clock node kept x = by_place (is_placed_on node x) refl
         Adds kept (cond b (keep_task kept x) (record kept { tasks = kept.tasks ++ in_state version clock state.Rejected x ∷ [] })) x
     by_room true e = record { task = x; tasks = refl; moves = task-same x }
     by_room false e =
-        let most = placed-most x (and-left (is_placed x) (is_on node x) e) in
+        let most = placed-most x (first_so (is_placed x) (is_on node x) e) in
         record {
           task = in_state version clock state.Rejected x;
           tasks = refl;
@@ -40,7 +41,7 @@ one-added version clock node kept x = by_place (is_placed_on node x) refl
     by_place true e = by_room (fits_in kept x) e
     by_place false e = record { task = x; tasks = refl; moves = task-same x }
 
-regroup : {X : Type 0} (xs : List X) (y : X) (ys : List X) → (xs ++ y ∷ []) ++ ys ≡ xs ++ y ∷ ys
+pub regroup : {X : Type 0} (xs : List X) (y : X) (ys : List X) → (xs ++ y ∷ []) ++ ys ≡ xs ++ y ∷ ys
 regroup [] y ys = refl
 regroup (x ∷ xs) y ys = ap (λ zs. x ∷ zs) (regroup xs y ys)
 

@@ -8,6 +8,7 @@ use Rattle.swarm_model.proofs.Moves.Tables.{keeps-made}
 use Rattle.swarm_model.proofs.Moves.Worlds.{IsGood, TaskMoves}
 use Rattle.swarm_model.specs.Laws.Rises.{KeepsNode}
 use Rattle.swarm_objects.proofs.RowLemmas.{Has-filter_cases}
+use Rattle.swarm_objects.proofs.Tests.{first_so}
 use Rattle.swarm_objects.specs.Changes.{placed}
 use Rattle.swarm_objects.specs.Nodes.BestNode.{best_node, node_cmp}
 use Rattle.swarm_objects.specs.Nodes.Filters.{admits, admitting_nodes, is_tested_on, tested_nodes}
@@ -22,7 +23,6 @@ use Rattle.swarm_objects.specs.declared.tasks.Place.TheVariants.{On, Slot}
 use Rattle.swarm_objects.specs.declared.tasks.Task.{Task}
 use Rattle.swarm_objects.specs.declared.tasks.TaskState.{TaskState}
 use Rattle.swarm_objects.specs.declared.tasks.TaskState.TheVariants as state
-use Rattle.swarm_model.proofs.Moves.Duties.{and-left}
 
 kept-is : {X : Type 0} (compare : X → X → Ordering) (best : Option X) (x y : X) → keep_least compare best x ≡ Some y →
     (best ≡ Some y) ⊎ (x ≡ y)
@@ -84,5 +84,5 @@ pub placed-moves : (version : ℕ) (t : Tables) (n : ℕ) (x : Task) → IsGood 
 placed-moves version t n x good goes =
     let best = best-is t x goes.1 goes.2 in
     placed-by version t.clock n x good
-    (pending-below x.state (and-left (is_pending x.state) (is_wanted x) goes.0))
+    (pending-below x.state (first_so (is_pending x.state) (is_wanted x) goes.0))
     (subst (λ k. is_tested_on x.place k ≡ true) goes.3 best.1)

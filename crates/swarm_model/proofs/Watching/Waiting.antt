@@ -1,9 +1,10 @@
 -- The events that a world keeps are those of the history, as far as a watcher waits for them.
 use Rattle.std.proofs.Common.{◌≡◌, ℕ, ◌+◌, ◌≤◌, Bool, true, false, List, [], ◌∷◌, ◌++◌, refl, ap, sym, ◌∙◌, subst, arith, append-nil, append_assoc, nat_lt, Ok, Err, ◌⊎◌, inl, inr}
-use Rattle.std.specs.Prelude.{filter, ◌||◌, ◌&&◌}
+use Rattle.std.specs.Prelude.{filter, ◌&&◌}
 use Rattle.std.proofs.lemmas.Bool.Decides.{nat_tests}
+use Rattle.std.proofs.lemmas.List.Elements.{filter-append}
 use Rattle.swarm_model.proofs.Watching.Changes.{changes-at, changes-none}
-use Rattle.swarm_model.proofs.Watching.Lists.{filter-all, filter-both, filter-none, filter-wider}
+use Rattle.swarm_model.proofs.Watching.Lists.{filter-all}
 use Rattle.swarm_model.proofs.Watching.Watchers.{GivenSees, IsSeen, Sees, answer-sees, duty-watchers, same-sees}
 use Rattle.swarm_model.specs.Calls.{answer, answered, entered}
 use Rattle.swarm_model.specs.Calls.Watches.{filter_admits, is_waited_for, kept_events, waiting_events, waits_for}
@@ -12,6 +13,8 @@ use Rattle.swarm_model.specs.Events.{WaitingLaw, events_from, events_of_history}
 use Rattle.swarm_model.specs.History.{replay, replay_from, step, step_world}
 use Rattle.swarm_model.specs.Outcome.{Answered}
 use Rattle.swarm_objects.proofs.RowLemmas.{Has-append_cases, Has-filter_cases}
+use Rattle.swarm_objects.proofs.Tests.{or_cases, or_left, or_right}
+use Rattle.swarm_objects.proofs.Filters.{filter_again, filter_none}
 use Rattle.swarm_objects.specs.Duties.{effect_by}
 use Rattle.swarm_objects.specs.Rows.{Has}
 use Rattle.swarm_objects.specs.World.{World, empty_world}
@@ -33,27 +36,16 @@ waits_not cursor entry b le = go (nat_lt cursor entry) (grind (arith, nat_tests)
 pub waits-past : (x : Watcher) (e : Event) → e.entry ≤ x.cursor → waits_for x e ≡ false
 waits-past x e le = waits_not x.cursor e.entry (filter_admits x.filter e) le
 
-either-first : (a b : Bool) → a ≡ true → (a || b) ≡ true
-either-first true b e = refl
-either-first false b e = absurd cc
-
-either-second : (a b : Bool) → b ≡ true → (a || b) ≡ true
-either-second true b e = refl
-either-second false b e = e
-
-either-cases : (a b : Bool) → (a || b) ≡ true → (a ≡ true) ⊎ (b ≡ true)
-either-cases true b e = inl refl
-either-cases false b e = inr e
-
 pub waited-by : (xs : List Watcher) (x : Watcher) (e : Event) → Has xs x → waits_for x e ≡ true → is_waited_for xs e ≡ true
 waited-by [] x e h waits = absurd h
-waited-by (y ∷ xs) x e (inl same) waits = either-first (waits_for y e) (is_waited_for xs e) (ap (λ z. waits_for z e) same ∙ waits)
-waited-by (y ∷ xs) x e (inr h) waits = either-second (waits_for y e) (is_waited_for xs e) (waited-by xs x e h waits)
+waited-by (y ∷ xs) x e (inl same) waits =
+    or_left (waits_for y e) (is_waited_for xs e) (ap (λ z. waits_for z e) same ∙ waits)
+waited-by (y ∷ xs) x e (inr h) waits = or_right (waits_for y e) (is_waited_for xs e) (waited-by xs x e h waits)
 
 -- some watcher waits for it
 pub waited-some : (xs : List Watcher) (e : Event) → is_waited_for xs e ≡ true → (x : Watcher) × Has xs x × (waits_for x e ≡ true)
 waited-some [] e waits = absurd cc
-waited-some (y ∷ xs) e waits = go (either-cases (waits_for y e) (is_waited_for xs e) waits) (waited-some xs e)
+waited-some (y ∷ xs) e waits = go (or_cases (waits_for y e) (is_waited_for xs e) waits) (waited-some xs e)
   where
     go : (waits_for y e ≡ true) ⊎ (is_waited_for xs e ≡ true) →
         (is_waited_for xs e ≡ true → (x : Watcher) × Has xs x × (waits_for x e ≡ true)) → (x : Watcher) × Has (y ∷ xs) x × (waits_for x e ≡ true)
@@ -69,17 +61,17 @@ waited-more xs ys e more waits = let r = waited-some xs e waits in waited-by ys 
 pub kept-is : (old new : World) (xs : List Watcher) →
     kept_events old new xs ≡ filter (is_waited_for xs) (old.events ++ changes_between (old.entries + 1) old.tables new.tables)
 kept-is old new [] =
-    sym (filter-none (is_waited_for []) (old.events ++ changes_between (old.entries + 1) old.tables new.tables)
+    sym (filter_none (is_waited_for []) (old.events ++ changes_between (old.entries + 1) old.tables new.tables)
     (λ e h. refl))
 kept-is old new (x ∷ xs) = refl
 
-kept-for : (old new : World) (x : Watcher) → Has new.watchers x →
+pub kept-for : (old new : World) (x : Watcher) → Has new.watchers x →
     waiting_events (entered old new) x
     ≡ filter (waits_for x) old.events ++ filter (waits_for x) (changes_between (old.entries + 1) old.tables new.tables)
 kept-for old new x h =
     ap (filter (waits_for x)) (kept-is old new new.watchers)
-    ∙ filter-wider (waits_for x) (is_waited_for new.watchers) _ (λ e waits. waited-by new.watchers x e h waits)
-    ∙ filter-both (waits_for x) old.events _
+    ∙ filter_again (waits_for x) (is_waited_for new.watchers) _ (λ e waits. waited-by new.watchers x e h waits)
+    ∙ filter-append (waits_for x) old.events _
 
 kept-cases : (old new : World) (xs : List Watcher) (e : Event) → Has (kept_events old new xs) e →
     (Has old.events e ⊎ (e.entry ≡ old.entries + 1)) × (is_waited_for xs e ≡ true)
@@ -110,7 +102,7 @@ past-more n events more past at e h = go (Has-append_cases events more e h)
 -- who has read up to the entry waits for nothing that has been
 pub none-past : (n : ℕ) (events : List Event) (x : Watcher) → UpTo n events → x.cursor ≡ n → filter (waits_for x) events ≡ []
 none-past n events x past at =
-    filter-none (waits_for x) events (λ e h. waits-past x e (let le = past e h in omega (arith, at)))
+    filter_none (waits_for x) events (λ e h. waits-past x e (let le = past e h in omega (arith, at)))
 
 none-kept : (old new : World) (x : Watcher) → UpTo old.entries old.events → x.cursor ≡ old.entries + 1 →
     filter (waits_for x) (kept_events old new new.watchers) ≡ []
@@ -184,7 +176,7 @@ pub kept-stay : (old new : World) → IsWatched old → ((x : Watcher) → Has o
     ≡ old.events ++ filter (is_waited_for new.watchers) (changes_between (old.entries + 1) old.tables new.tables)
 kept-stay old new is more =
     kept-is old new new.watchers
-    ∙ filter-both (is_waited_for new.watchers) old.events _
+    ∙ filter-append (is_waited_for new.watchers) old.events _
     ∙ ap (λ es. es ++ filter (is_waited_for new.watchers) (changes_between (old.entries + 1) old.tables new.tables))
     (filter-all (is_waited_for new.watchers) old.events
     (λ e h. waited-more old.watchers new.watchers e more (is.waited e h)))
@@ -205,7 +197,7 @@ entered-told w v events is so sees = record {
     go x h (inl was) =
         kept-for w v x h
         ∙ ap (λ es. es ++ filter (waits_for x) changes) (so.told x was)
-        ∙ sym (filter-both (waits_for x) events changes)
+        ∙ sym (filter-append (waits_for x) events changes)
     go x h (inr at) =
         none-kept w v x is.past at
         ∙ sym (none-past (w.entries + 1) (events ++ changes) x

@@ -5,9 +5,8 @@ use Rattle.swarm_objects.specs.World.{Tables}
 use Rattle.swarm_objects.specs.declared.calls.Op.{Op}
 use Rattle.swarm_objects.specs.declared.replies.Refusal.{Refusal}
 use Rattle.swarm_objects.specs.declared.replies.Refusal.TheVariants as refusal
-use Rattle.swarm_plain.specs.Operations.{HasRoom}
 use Rattle.swarm_store.specs.Inside.Done.{made}
-use Rattle.swarm_store.specs.Inside.State.{Stands, tables_now, world_now}
+use Rattle.swarm_store.specs.Inside.State.{tables_now, world_now}
 use Rattle.swarm_store.specs.declared.state.State.{State}
 
 -- it was done and gave this, as is expected, or was refused so; or memory was wanting
@@ -18,8 +17,3 @@ Reached expected (Err r) t = (r ≡ refusal.NoMemory) ⊎ (expected ≡ Err r)
 -- an operation of the entry with this number; after a refusal the rows may be any that can be taken back
 abbrev pub Does : ℕ → Op → State → Result ℕ Refusal → State → Type 0
 Does version op before result after = Reached (made (apply_op version (world_now before) op)) result (tables_now after)
-
--- rows stand in order, and there are numbers for so many further operations
-pub record IsOpen (n : ℕ) (t : Tables) : Type 0 where
-  pub stands : Stands t
-  pub room : HasRoom n t

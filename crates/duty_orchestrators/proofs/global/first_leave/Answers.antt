@@ -10,5 +10,5 @@ returns-then-is_some c =
     let t = tables_of c.args.plain.now in
     given_first
     (λ (s : Service). leave_duties t s s.spec.mode) c.as_slice-service-items.result.now c.loop-service.service-index
-    c.service-item.result c.in_ok-duty.duty _ c.loop-service-test.true c.service-item.is c.loop-service.invariant
-    c.in_ok-duty.ensures (sym c.is_some.ensures ∙ c.if-is_some.true)
+    c.service-item.result c.first_leave_of-duty.result _ c.loop-service-test.true c.service-item.is c.loop-service.invariant
+    c.first_leave_of-duty.ensures (sym c.is_some.ensures ∙ c.if-is_some.true)

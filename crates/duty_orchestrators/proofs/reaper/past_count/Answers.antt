@@ -1,9 +1,9 @@
 use Rattle.std.proofs.Common.{rules, ◌≡◌, ◌∙◌}
 use Rattle.std.specs.Prelude.{count_by, ◌&&◌}
+use Rattle.swarm_objects.proofs.Filters.{count_both}
 use Rattle.swarm_objects.specs.Loops.Reaper.{is_past}
 use Rattle.swarm_objects.specs.Tasks.Places.{is_in_place}
 use Rattle.swarm_objects.specs.declared.tasks.Task.{Task}
-use Rattle.duty_orchestrators.proofs.Pasts.{count_both}
 use Rattle.duty_orchestrators.proofs.reaper.past_count.Goals as goal
 
 pub returns : goal.returns

@@ -1,6 +1,6 @@
 use Rattle.std.proofs.Common.{◌+◌, arith}
+use Rattle.swarm_objects.proofs.FreeNumbers.{address_found, next_address, no_address}
 use Rattle.swarm_plain.specs.Plain.{tables_of}
-use Rattle.duty_placement.proofs.FreeNumbers.{address_found, next_address, no_address}
 use Rattle.duty_placement.proofs.free_numbers.free_in.Goals as goal
 
 pub returns-then-not-is_address_held-clause-value : goal.returns-then-not-is_address_held-clause-value

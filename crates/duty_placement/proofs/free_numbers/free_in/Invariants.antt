@@ -1,6 +1,6 @@
+use Rattle.swarm_objects.proofs.FreeNumbers.{AreTaken, lowest}
 use Rattle.swarm_objects.specs.Tasks.Addresses.{addresses_held}
 use Rattle.swarm_plain.specs.Plain.{tables_of}
-use Rattle.duty_placement.proofs.FreeNumbers.{AreTaken, lowest}
 use Rattle.duty_placement.proofs.free_numbers.free_in.Given as goal
 
 abbrev pub invariant-loop-number : goal.invariant-loop-number

@@ -1,6 +1,6 @@
 use Rattle.std.proofs.Common.{arith}
+use Rattle.swarm_objects.proofs.FreeNumbers.{next_port, no_port, port_found}
 use Rattle.swarm_plain.specs.Plain.{tables_of}
-use Rattle.duty_placement.proofs.FreeNumbers.{next_port, no_port, port_found}
 use Rattle.duty_placement.proofs.free_numbers.free_port.Goals as goal
 
 pub returns-then-not-is_port_held : goal.returns-then-not-is_port_held

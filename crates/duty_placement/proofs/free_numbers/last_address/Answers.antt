@@ -1,5 +1,5 @@
 use Rattle.std.proofs.Common.{arith, rules}
-use Rattle.duty_placement.proofs.FreeNumbers.{last_fits}
+use Rattle.swarm_objects.proofs.Subnets.{last_fits}
 use Rattle.duty_placement.proofs.free_numbers.last_address.Goals as goal
 
 pub returns-clause-fits : goal.returns-clause-fits

@@ -1,6 +1,6 @@
 use Rattle.std.proofs.Common.{ltb, rules}
 use Rattle.std.proofs.lemmas.List.Sorted.{IsPartitionPoint-from_clause}
-use Rattle.duty_rows.proofs.Halves.{lesser_first}
+use Rattle.swarm_objects.proofs.Halves.{lesser_first}
 use Rattle.duty_rows.proofs.halving.lesser.Goals as goal
 
 pub returns-clause-parted : goal.returns-clause-parted

@@ -1,5 +1,5 @@
 use Rattle.std.proofs.Common.{◌∙◌}
-use Rattle.duty_rows.proofs.LivePlaces.{suspects}
+use Rattle.duty_rows.proofs.LeastNumber.{suspects}
 use Rattle.swarm_plain.specs.Plain.{tables_of}
 use Rattle.duty_rows.proofs.places.has_dirty_place.Goals as goal
 

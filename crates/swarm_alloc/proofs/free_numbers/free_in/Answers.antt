@@ -1,5 +1,5 @@
 use Rattle.std.proofs.Common.{◌+◌, arith}
-use Rattle.swarm_alloc.proofs.FreeNumbers.{address_found, next_address, no_address}
+use Rattle.swarm_objects.proofs.FreeNumbers.{address_found, next_address, no_address}
 use Rattle.swarm_alloc.proofs.free_numbers.free_in.Goals as goal
 
 pub returns-then-not-is_address_held : goal.returns-then-not-is_address_held

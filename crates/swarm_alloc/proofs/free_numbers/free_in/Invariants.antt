@@ -1,5 +1,5 @@
+use Rattle.swarm_objects.proofs.FreeNumbers.{AreTaken, lowest}
 use Rattle.swarm_objects.specs.Tasks.Addresses.{addresses_held}
-use Rattle.swarm_alloc.proofs.FreeNumbers.{AreTaken, lowest}
 use Rattle.swarm_alloc.proofs.free_numbers.free_in.Given as goal
 
 abbrev pub invariant-loop-number : goal.invariant-loop-number

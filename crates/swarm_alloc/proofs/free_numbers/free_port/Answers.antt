@@ -1,5 +1,5 @@
 use Rattle.std.proofs.Common.{arith}
-use Rattle.swarm_alloc.proofs.FreeNumbers.{next_port, no_port, port_found}
+use Rattle.swarm_objects.proofs.FreeNumbers.{next_port, no_port, port_found}
 use Rattle.swarm_alloc.proofs.free_numbers.free_port.Goals as goal
 
 pub returns-then-not-is_port_held : goal.returns-then-not-is_port_held

@@ -1,5 +1,5 @@
+use Rattle.swarm_objects.proofs.FreeNumbers.{AreTaken, all_ports}
 use Rattle.swarm_objects.specs.Limits.{first_port}
-use Rattle.swarm_alloc.proofs.FreeNumbers.{AreTaken, all_ports}
 use Rattle.swarm_alloc.proofs.free_numbers.free_port.Given as goal
 
 abbrev pub invariant-loop-number : goal.invariant-loop-number

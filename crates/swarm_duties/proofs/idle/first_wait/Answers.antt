@@ -9,6 +9,6 @@ returns c =
     let p = c.args.plain.now in
     least_five wait_cmp (flat_map (start_wait (tables_of p)) p.tasks) (flat_map (update_wait (tables_of p)) p.services)
     (flat_map executor_wait p.agents) (flat_map (session_wait (world_of p)) p.nodes)
-    (flat_map (remote_wait (tables_of p)) p.tasks) c.start_waits-started.result c.in_ok-updated.updated
+    (flat_map (remote_wait (tables_of p)) p.tasks) c.start_waits-started.result c.update_waits-updated.result
     c.executor_waits-executed.result c.session_waits-heard.result c.remote_waits.result c.start_waits-started.ensures
-    c.in_ok-updated.ensures c.executor_waits-executed.ensures c.session_waits-heard.ensures c.remote_waits.ensures
+    c.update_waits-updated.ensures c.executor_waits-executed.ensures c.session_waits-heard.ensures c.remote_waits.ensures

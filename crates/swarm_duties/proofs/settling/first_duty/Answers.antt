@@ -15,9 +15,9 @@ agents_first-requires c = record {
 
 pub returns-in-Some : goal.returns-in-Some
 returns-in-Some c =
-    table_first_of_all (world_of c.args.plain.now) c.in-Some.duty (sym c.in_ok-duty.ensures ∙ c.in-Some.is)
+    table_first_of_all (world_of c.args.plain.now) c.in-Some.duty (sym c.first_by_tables.ensures ∙ c.in-Some.is)
 
 pub returns-in-None : goal.returns-in-None
 returns-in-None c =
-    all_first (world_of c.args.plain.now) c.agents_first.result (sym c.in_ok-duty.ensures ∙ c.in-None.is)
+    all_first (world_of c.args.plain.now) c.agents_first.result (sym c.first_by_tables.ensures ∙ c.in-None.is)
     c.agents_first.ensures

@@ -10,5 +10,5 @@ pub loop-service-preserved : goal.loop-service-preserved
 loop-service-preserved c =
     let waits = update_wait (tables_of c.args.plain.now) in
     least_next wait_cmp waits c.as_slice-service-items.result.now c.loop-service.service-index c.service-item.result
-    c.loop-service.least c.in_ok-least.least (least_by wait_cmp c.args.best (flat_map waits c.args.plain.now.services))
-    (omega arith) c.service-item.is c.in_ok-least.ensures c.loop-service.invariant
+    c.loop-service.least c.update_wait-least.result (least_by wait_cmp c.args.best (flat_map waits c.args.plain.now.services))
+    (omega arith) c.service-item.is c.update_wait-least.ensures c.loop-service.invariant

@@ -1,7 +1,7 @@
 use Rattle.std.proofs.Common.{ltb, rules}
 use Rattle.std.proofs.lemmas.List.Sorted.{IsPartitionPoint-from_clause}
+use Rattle.swarm_objects.proofs.Halves.{lesser_first}
 use Rattle.swarm_objects.specs.Rows.{session_node}
-use Rattle.swarm_sessions.proofs.Placing.{lesser_first}
 use Rattle.swarm_sessions.proofs.searching.parting.Goals as goal
 
 pub returns-clause-parted : goal.returns-clause-parted

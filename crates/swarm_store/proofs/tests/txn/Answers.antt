@@ -1,8 +1,5 @@
-use Rattle.swarm_store.proofs.Usable.{txn_follows, usable_follows}
+use Rattle.swarm_store.proofs.Usable.{txn_follows}
 use Rattle.swarm_store.proofs.tests.txn.Goals as goal
-
-pub txn-requires : goal.txn-requires
-txn-requires c = usable_follows c.args.entries c.args.store.now c.requires.follows
 
 pub returns-in-Ok : goal.returns-in-Ok
 returns-in-Ok c =

@@ -5,4 +5,4 @@ use Rattle.swarm_walks.proofs.steps.do_next.Goals as goal
 
 pub do_duty-requires-clause-due : goal.do_duty-requires-clause-due
 do_duty-requires-clause-due c =
-    due_of_first c.args.role (world_of c.args.plain.now) c.in-Some.duty (sym c.in_ok-duty.ensures ∙ c.in-Some.is)
+    due_of_first c.args.role (world_of c.args.plain.now) c.in-Some.duty (sym c.next_duty.ensures ∙ c.in-Some.is)

@@ -1,7 +1,8 @@
 use Rattle.std.proofs.Common.{◌≡◌, length}
 use Rattle.swarm_roles.specs.Changes.{CanApplyAll, apply_changes}
+use Rattle.swarm_store.proofs.Rooms.{Drawn}
 use Rattle.swarm_store.proofs.state.State.apply_changes.Given as goal
-use Rattle.swarm_store.specs.Inside.State.{Stands, tables_now, tables_start}
+use Rattle.swarm_store.specs.Inside.State.{Stands, tables_now}
 
 -- the changes that are left decide
 abbrev pub invariant-loop-change : goal.invariant-loop-change
@@ -9,7 +10,7 @@ invariant-loop-change l = record {
   stands : Stands (tables_now l.self);
   can : CanApplyAll (tables_now l.self) l.left.items;
   left : apply_changes (tables_now l.self) l.left.items ≡ apply_changes (tables_now l.fn.self) l.fn.changes;
-  start : tables_start l.self ≡ tables_start l.fn.self;
+  drawn : Drawn (length l.fn.changes) (length l.left.items) l.fn.self l.self;
 }
 
 abbrev pub decreases-loop-change : goal.decreases-loop-change

@@ -1,14 +1,7 @@
 use Rattle.std.proofs.Common.{rules, ◌≡◌, ◌<◌, ◌∷◌, ◌++◌, [], length, ◌∙◌}
-use Rattle.swarm_store.proofs.Transacting.{open-next, open-rest, ops-next}
+use Rattle.swarm_store.proofs.Transacting.{next-stands, ops-next}
 use Rattle.swarm_store.proofs.state.State.apply_ops.Goals as goal
 use Rattle.swarm_store.specs.Inside.State.{tables_now}
-
-pub apply_op-requires : goal.apply_op-requires
-apply_op-requires c =
-    let ops = c.args.ops.now in
-    let i = c.loop-op.op-index in
-    let below : i < length ops = search rules in
-    open-next ops i (tables_now c.loop-op.self) below c.loop-op.invariant.open'
 
 pub loop-op-preserved : goal.loop-op-preserved
 loop-op-preserved c =
@@ -23,6 +16,6 @@ loop-op-preserved c =
     record {
       left = c.loop-op.invariant.left
           ∙ ops-next c.args.version ops i op t u c.loop-op.ids c.push.new.self id below c.op-item.is c.in_ok-id.ensures.done more;
-      open' = open-rest c.args.version ops i t u op id below c.loop-op.invariant.open' c.in_ok-id.ensures.done;
+      stands = next-stands c.args.version t u op id c.loop-op.invariant.stands c.in_ok-id.ensures.done;
       start = c.apply_op.ensures.start ∙ c.loop-op.invariant.start;
     }

@@ -9,7 +9,8 @@ pub returns-clause-done : goal.returns-clause-done
 returns-clause-done c =
     let t = tables_now c.args.self.now in
     network-created c.args.version t c.args.name.now c.args.base c.args.bits
-    (new_network c.args.version t.next_id c.in_ok-name.name c.args.base c.args.bits) c.put.new.self.rows c.requires.stands
+    (new_network c.args.version t.next_id c.in_ok-name.name c.args.base c.args.bits) c.put.new.self.rows
+    c.in_ok-next_id.next_id c.requires c.in_ok-next_id.ensures.id
     (ap (λ name. new_network c.args.version t.next_id name c.args.base c.args.bits) c.in_ok-name.ensures)
     (passed c.check_new_network.result c.in_ok-check_new_network.field-0 _ c.check_new_network.ensures c.in_ok-check_new_network.was)
     c.in_ok-put.ensures.ok

@@ -1,25 +1,18 @@
-use Rattle.std.proofs.Common.{◌∙◌, ap, sym, refl, arith}
+use Rattle.std.proofs.Common.{◌∙◌, ap, sym, arith}
 use Rattle.std.specs.Option.{option_copied}
 use Rattle.swarm_model.specs.Calls.Refusals.{conflict, has_name, service_name}
 use Rattle.swarm_objects.specs.Rows.{service_id}
-use Rattle.swarm_plain.proofs.Rooms.{found-room}
 use Rattle.swarm_plain.proofs.Updates.{passed}
 use Rattle.swarm_store.proofs.Ops.{found-above, service-rolled-back}
 use Rattle.swarm_store.proofs.state.State.rollback_service.Goals as goal
 use Rattle.swarm_store.specs.Inside.State.{tables_now}
-
-pub respecified-requires : goal.respecified-requires
-respecified-requires c =
-    let t = tables_now c.args.self.now in
-    found-room 1 t t.services c.args.name.now (option_copied c.service_named.result) c.in-Some.service.now refl
-    c.service_named.ensures (ap option_copied c.in-Some.is) c.requires.room.iterations
 
 pub put-requires : goal.put-requires
 put-requires c =
     let t = tables_now c.args.self.now in
     let s = c.in-Some.service.now in
     let there = sym c.service_named.ensures ∙ ap option_copied c.in-Some.is in
-    let above = found-above service_id (has_name service_name c.args.name.now) t.services s c.requires.stands.ordered.services there in
+    let above = found-above service_id (has_name service_name c.args.name.now) t.services s c.requires.ordered.services there in
     omega (arith, above, ap service_id c.in_ok-new.ensures)
 
 pub returns-clause-done : goal.returns-clause-done
@@ -28,7 +21,7 @@ returns-clause-done c =
     let s = c.in-Some.service.now in
     let there = sym c.service_named.ensures ∙ ap option_copied c.in-Some.is in
     service-rolled-back c.args.version t c.args.name.now c.args.asked s c.in_ok-new.new c.in_ok-spec.spec c.in-Some-previous.previous
-    c.put.new.self.rows c.requires.stands there
+    c.put.new.self.rows c.requires there
     (passed c.check_version.result c.in_ok-check_version.field-0 (conflict c.args.asked s.version) c.check_version.ensures
     c.in_ok-check_version.was)
     c.in-Some-previous.is c.in_ok-spec.ensures c.in_ok-new.ensures c.in_ok-put.ensures.ok

@@ -1,7 +1,6 @@
 use Rattle.std.proofs.Common.{rules, ◌≡◌, arith}
 use Rattle.std.specs.Prelude.{filter}
 use Rattle.swarm_objects.specs.Tasks.Words.{is_of}
-use Rattle.swarm_roles.proofs.Few.{few_tasks}
 use Rattle.swarm_store.proofs.Queries.{fewer, running-all}
 use Rattle.swarm_store.proofs.state.State.running_of.Goals as goal
 use Rattle.swarm_store.specs.Inside.State.{tables_now}
@@ -14,9 +13,3 @@ loop-task-init c =
     let sum = running-all s t.tasks c.into_iter-task-iterator.result items in
     let fits = fewer (is_of s.id) t.tasks c.into_iter-task-iterator.result items in
     record { sum = omega (arith, sum); fits = omega (arith, fits) }
-
-pub overflow_add-count : goal.overflow_add-count
-overflow_add-count c =
-    let few = few_tasks (tables_now c.args.self.now) c.requires in
-    let fits = c.loop-task.invariant.fits in
-    omega (arith, few, fits)

@@ -1,0 +1,4 @@
+pub mod Noting
+pub mod Numbers
+pub mod Stepping
+pub mod Tallying

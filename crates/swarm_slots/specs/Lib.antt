@@ -1,0 +1,4 @@
+pub mod Marks
+pub mod Slots
+pub mod Tallies
+pub mod Windows
