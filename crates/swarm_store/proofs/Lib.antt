@@ -8,6 +8,7 @@ pub mod Rooms
 pub mod Standing
 pub mod Ops
 pub mod Orphans
+pub mod Ports
 pub mod Least
 pub mod Transacting
 pub mod Usable

@@ -4,13 +4,11 @@ use Rattle.std.proofs.lemmas.List.{length-append}
 use Rattle.swarm_model.proofs.Base.Halting.{halted-call}
 use Rattle.swarm_model.proofs.Base.Histories.{IsLegalFrom-snoc, admitted, entries-replay, replay-snoc}
 use Rattle.swarm_model.proofs.Laws.GivesOutReplay.{IsSound-replay}
-use Rattle.swarm_model.proofs.Laws.Numbers.{replay-counts}
 use Rattle.swarm_model.proofs.Laws.Small.{IsSmall-replay}
 use Rattle.swarm_model.specs.Calls.{answered, call_outcome, txn}
 use Rattle.swarm_model.specs.History.{replay}
 use Rattle.std.specs.Prelude.{is_some}
 use Rattle.swarm_objects.proofs.RowLemmas.{Has-from_row_at}
-use Rattle.swarm_objects.specs.Bounds.{far_end}
 use Rattle.swarm_objects.specs.CallWords.{is_halt}
 use Rattle.swarm_objects.specs.Rows.{has_row, row_at}
 use Rattle.swarm_objects.specs.World.{World, empty_tables, empty_world}
@@ -68,11 +66,6 @@ pub near_follows : (n : ℕ) (s : Stored) → Follows n s → HasNearTasks s.tab
 near_follows n s is =
     let usable = usable_follows n s is in
     record { next_id = usable.next_id; times = usable.times.tasks }
-
--- there are ids for a few more
-pub few_ids : (n : ℕ) (s : Stored) → Follows n s → n < 1000 → s.tables.next_id + 1 < far_end
-few_ids n s is few =
-    omega (arith, few, (replay-counts empty_world is.history).next, is.count, ap (λ t. t.next_id) is.stands)
 
 pub new_follows : (s : Stored) → s.tables ≡ empty_tables → Follows 0 s
 new_follows s new = record { history = []; legal = tt; count = refl; running = refl; stands = new }

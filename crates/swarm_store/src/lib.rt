@@ -8,11 +8,10 @@ mod held;
 mod names;
 mod networks;
 mod nodes;
+mod service_rows;
 mod services;
 mod state;
 mod store;
-#[cfg(test)]
-mod tests;
 mod theorems;
 mod tracked;
 mod transactions;

@@ -25,7 +25,9 @@ impl State {
         requires { IsOrdered (tables_now self.now) }
         ensures { option_copied result ≡ service_by (tables_now self.now) name.now }
     {
-        self.services.next_by_key(NAME, &IndexKey::Text(name), 0)
+        self.services
+            .rows()
+            .next_by_key(NAME, &IndexKey::Text(name), 0)
     }
 
     #[tactic(auto, using(crate::proofs::Lookups::named_network))]

@@ -247,8 +247,8 @@ impl State {
         Ok(spec)
     }
 
-    // The first other service that holds this number of the port's protocol.
-    fn other_holder(&self, own: Option<Id>, port: Port, number: u16) -> Option<Id>
+    // The first other service that holds this number of the port's protocol, by a scan.
+    fn scanned_holder(&self, own: Option<Id>, port: Port, number: u16) -> Option<Id>
         requires { Stands (tables_now self.now) }
         ensures { result ≡ first_of (other_holder (tables_now self.now) own port (Some number)) }
     {
@@ -260,6 +260,19 @@ impl State {
             after = service.id;
         }
         None
+    }
+
+    // The same; the services are gone through only where there may be one.
+    #[tactic(auto, using(crate::proofs::Ports::none_first))]
+    fn other_holder(&self, own: Option<Id>, port: Port, number: u16) -> Option<Id>
+        requires { Stands (tables_now self.now) }
+        ensures { result ≡ first_of (other_holder (tables_now self.now) own port (Some number)) }
+    {
+        if self.services.may_hold(own, port.udp, number) {
+            self.scanned_holder(own, port, number)
+        } else {
+            None
+        }
     }
 
     // The first other service that holds the port's number.
@@ -368,7 +381,7 @@ impl State {
         }
         self.check_networks(draft.networks.as_slice())?;
         self.check_ports(None, draft.spec.ports.as_slice())?;
-        let count = self.services.len();
+        let count = self.services.rows().len();
         if count >= MOST_SERVICES {
             return Err(Refusal::TooMany(Kind::Service, count as u64));
         }

@@ -8,6 +8,7 @@ ghost use Rattle.swarm_objects.specs.World.{empty_tables};
 ghost use Rattle.swarm_store.specs.Inside.State.{HasRooms, IsSettled, changed_rows, origin, tables_now, tables_start};
 
 use crate::attempts::Attempts;
+use crate::service_rows::Services;
 use crate::tracked::Tracked;
 use std::alloc::Global;
 use swarm_index::IndexKey;
@@ -22,7 +23,7 @@ pub(crate) struct State {
     pub(crate) clock: Ms,
     pub(crate) next_id: Id,
     pub(crate) nodes: Tracked<Node>,
-    pub(crate) services: Tracked<Service>,
+    pub(crate) services: Services,
     pub(crate) tasks: Tracked<Task>,
     pub(crate) networks: Tracked<Network>,
     pub(crate) attempts: Attempts,
@@ -33,23 +34,23 @@ pub(crate) struct State {
 }
 
 impl State {
-    pub(crate) fn new(alloc: Global) -> State
-        ensures tables { tables_now result ≡ empty_tables }
-        ensures settled { IsSettled result }
+    pub(crate) fn new(alloc: Global) -> Result<State, NoMemory>
+        ensures tables { IfOk result (λ state. tables_now state ≡ empty_tables) }
+        ensures settled { IfOk result (λ state. IsSettled state) }
     {
-        State {
+        Ok(State {
             alloc,
             clock: 0,
             next_id: 1,
             nodes: Tracked::new(alloc),
-            services: Tracked::new(alloc),
+            services: Services::new(alloc)?,
             tasks: Tracked::new(alloc),
             networks: Tracked::new(alloc),
             attempts: Attempts::new(alloc),
             settings: Settings::usual(),
             next_id_before: 1,
             settings_before: Settings::usual(),
-        }
+        })
     }
 
     // The id after the next one; want of memory where the numbers are at an end.
@@ -112,7 +113,11 @@ impl State {
         ensures some { IfSome result (λ n. n ≡ changed_rows self.now) }
         ensures none { IfNone result (2 ^ 64 ≤ changed_rows self.now) }
     {
-        let Some(rows) = self.nodes.changed().checked_add(self.services.changed()) else {
+        let Some(rows) = self
+            .nodes
+            .changed()
+            .checked_add(self.services.rows().changed())
+        else {
             return None;
         };
         let Some(rows) = rows.checked_add(self.tasks.changed()) else {
@@ -144,7 +149,9 @@ impl State {
         ensures places { vec_capacity events.new ≡ vec_capacity events.old }
     {
         self.nodes.put_events(version, Kind::Node, events);
-        self.services.put_events(version, Kind::Service, events);
+        self.services
+            .rows()
+            .put_events(version, Kind::Service, events);
         self.tasks.put_events(version, Kind::Task, events);
         self.networks.put_events(version, Kind::Network, events);
     }
@@ -184,7 +191,7 @@ impl Rows for State {
     }
 
     fn service(&self, id: Id) -> Option<&Service> {
-        self.services.get(id)
+        self.services.rows().get(id)
     }
 
     fn task(&self, id: Id) -> Option<&Task> {
@@ -200,7 +207,7 @@ impl Rows for State {
     }
 
     fn next_service(&self, after: Id) -> Option<&Service> {
-        self.services.next(after)
+        self.services.rows().next(after)
     }
 
     fn next_task(&self, after: Id) -> Option<&Task> {

@@ -49,7 +49,7 @@ impl Store {
         ensures { IfOk result (λ store. (store.tables ≡ empty_tables) × (store.changes ≡ []) × (store.room ≡ 0)) }
     {
         Ok(Store {
-            state: State::new(alloc),
+            state: State::new(alloc)?,
             changes: Vec::new(alloc),
             room: 0,
         })

@@ -101,9 +101,10 @@ impl<R: Row + Drop> Tracked<R> {
         Ok(())
     }
 
-    // How many rows changed.
+    // How many rows changed; where none did, all are what they were.
     pub(crate) fn changed(&self) -> usize
-        ensures { result ≡ self.now.changed }
+        ensures count { result ≡ self.now.changed }
+        ensures none { result ≡ 0 → self.now.start ≡ self.now.rows }
     {
         self.before.len()
     }
@@ -120,6 +121,13 @@ impl<R: Row + Drop> Tracked<R> {
         ensures { length self.now.rows < 2 ^ 64 }
     {
         self.len();
+    }
+
+    // That they stand by rising id; it is called for its clause.
+    pub(crate) fn rise(&self)
+        ensures { RisesFrom R.id_of 0 self.now.rows }
+    {
+        let _ = &self.rows;
     }
 
     pub(crate) fn get(&self, id: Id) -> Option<&R>
@@ -374,8 +382,8 @@ fn lesser_ids<R>(before: &[Before<R>], id: Id) -> usize
     ensures { result ≡ rows_before before_id id before.now }
 {
     let mut count = 0;
-    for image in before {
-        if id <= image.id {
+    for earlier in before {
+        if id <= earlier.id {
             return count;
         }
         count += 1;

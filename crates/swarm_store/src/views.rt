@@ -82,7 +82,7 @@ impl State {
         ensures { IfOk result (λ rows. rows ≡ map (service_row (tables_now self.now)) (tables_now self.now).services) }
     {
         let mut rows = List::new(self.alloc);
-        for service in all(&self.services) {
+        for service in all(self.services.rows()) {
             add(&mut rows, self.service_row(service)?)?;
         }
         Ok(rows)

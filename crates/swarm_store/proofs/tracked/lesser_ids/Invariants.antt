@@ -4,8 +4,8 @@ use Rattle.swarm_store.specs.Inside.Tracking.{before_id}
 use Rattle.swarm_store.proofs.tracked.lesser_ids.Given as goal
 
 -- the ids so far are less
-abbrev pub invariant-loop-image : goal.invariant-loop-image
-invariant-loop-image g l = record {
-  count : l.count ≡ l.image-index;
-  left : rows_before before_id l.id l.before ≡ l.count + rows_before before_id l.id (drop l.image-index l.before);
+abbrev pub invariant-loop-earlier : goal.invariant-loop-earlier
+invariant-loop-earlier g l = record {
+  count : l.count ≡ l.earlier-index;
+  left : rows_before before_id l.id l.before ≡ l.count + rows_before before_id l.id (drop l.earlier-index l.before);
 }

@@ -6,7 +6,7 @@ use Rattle.swarm_objects.specs.Same.{same_number}
 use Rattle.swarm_objects.specs.Services.Ports.{holds_port}
 use Rattle.swarm_objects.specs.declared.services.Service.{Service}
 use Rattle.std.proofs.Common.{Some}
-use Rattle.swarm_store.proofs.state.State.other_holder.Given as goal
+use Rattle.swarm_store.proofs.state.State.scanned_holder.Given as goal
 
 -- the services that are left decide
 abbrev pub invariant-loop-service : goal.invariant-loop-service

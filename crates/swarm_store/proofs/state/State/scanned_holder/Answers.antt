@@ -6,7 +6,7 @@ use Rattle.swarm_objects.specs.Rows.{service_id}
 use Rattle.swarm_objects.specs.Same.{same_number}
 use Rattle.swarm_objects.specs.Services.Ports.{holds_port}
 use Rattle.swarm_objects.specs.declared.services.Service.{Service}
-use Rattle.swarm_store.proofs.state.State.other_holder.Goals as goal
+use Rattle.swarm_store.proofs.state.State.scanned_holder.Goals as goal
 
 pub loop-service-init : goal.loop-service-init
 loop-service-init c =

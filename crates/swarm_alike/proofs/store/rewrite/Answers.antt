@@ -1,7 +1,7 @@
 use Rattle.std.proofs.Common.{◌≡◌, subst, sym, true}
+use Rattle.swarm_alike.proofs.store.rewrite.Goals as goal
 use Rattle.swarm_objects.specs.Rows.{has_row, service_id}
 use Rattle.swarm_store.proofs.Usable.{is_there}
-use Rattle.swarm_store.proofs.tests.rewrite.Goals as goal
 
 pub put-requires : goal.put-requires
 put-requires c =
