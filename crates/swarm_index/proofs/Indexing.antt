@@ -34,6 +34,17 @@ put_again {X} key new xs r some =
     go true o h = ap (λ b. cond b (Some new) None) (sym (h refl))
     go false o h = refl
 
+-- the row with this id goes, and another with it comes
+pub place_free : {X : Type 0} (key : X → ℕ) (k : ℕ) (new same : X) (xs fewer : List X) → k ≡ key new → same ≡ new → fewer ≡ drop_row key k xs → row_at key (key same) fewer ≡ None
+place_free key k new same xs fewer is s f = ap (λ x. row_at key (key x) fewer) s ∙ ap (row_at key (key new)) f ∙ at_drop key k xs (key new) ∙ ap (λ b. cond b None (row_at key (key new) xs)) own
+  where
+    own : eqb k (key new) ≡ true
+    own = grind (arith, nat_tests, is)
+
+pub put_in_place : {X : Type 0} (key : X → ℕ) (k : ℕ) (new same old : X) (xs fewer again : List X) → IsRising key xs → k ≡ key new → same ≡ new → Some old ≡ row_at key k xs → fewer ≡ drop_row key k xs → again ≡ with_row key same fewer → again ≡ put_row key new xs
+put_in_place key k new same old xs fewer again r is s there f e =
+    e ∙ ap (λ x. with_row key x fewer) s ∙ ap (with_row key new) (f ∙ ap (λ n. drop_row key n xs) is) ∙ put_again key new xs r (ap is_some (sym (there ∙ ap (λ n. row_at key n xs) is)))
+
 module _ {X : Type 0} (key : X → ℕ) (table spare seen : List X) (was : IsIndex key table spare) (view : with_all key spare table ≡ seen) where
   at_seen : (k : ℕ) → row_at key k seen ≡ first_some (row_at key k spare) (row_at key k table)
   at_seen k = ap (row_at key k) (sym view) ∙ at_all key spare table k
@@ -110,76 +121,65 @@ module _ {X : Type 0} (key : X → ℕ) (table spare seen : List X) (was : IsInd
 
   -- another row in the place of one
 
-  pub again_new : (k : ℕ) (new : X) (fewer : List X) → k ≡ key new → fewer ≡ drop_row key k spare → row_at key (key new) fewer ≡ None
-  again_new k new fewer is f = ap (row_at key (key new)) f ∙ at_drop key k spare (key new) ∙ ap (λ b. cond b None (row_at key (key new) spare)) same
-    where
-      same : eqb k (key new) ≡ true
-      same = grind (arith, nat_tests, is)
-
-  pub again_in_spare : (k : ℕ) (new x : X) (fewer again : List X) → k ≡ key new → Some x ≡ row_at key k spare → fewer ≡ drop_row key k spare → again ≡ with_row key new fewer → Shows key table again (put_row key new seen)
-  again_in_spare k new x fewer again is there f e = subst (λ s. Shows key table s (put_row key new seen)) (sym whole) (record {
+  pub again_in_spare : (new old : X) (again : List X) → row_at key (key new) spare ≡ Some old → again ≡ put_row key new spare → Shows key table again (put_row key new seen)
+  again_in_spare new old again there e = subst (λ s. Shows key table s (put_row key new seen)) (sym e) (record {
     index = record {
       table_rises = was.table_rises;
       spare_rises = rising_put key new spare was.spare_rises;
       apart = apart_put_first key new spare table was.apart;
     };
-    rows = put_first key new spare table was.spare_rises was.table_rises some ∙ ap (put_row key new) view;
+    rows = put_first key new spare table was.spare_rises was.table_rises (ap is_some there) ∙ ap (put_row key new) view;
   })
-    where
-      some : is_some (row_at key (key new) spare) ≡ true
-      some = ap is_some (sym (there ∙ ap (λ n. row_at key n spare) is))
 
-      whole : again ≡ put_row key new spare
-      whole = e ∙ ap (with_row key new) (f ∙ ap (λ n. drop_row key n spare) is) ∙ put_again key new spare was.spare_rises some
+  module _ (new : X) (none : row_at key (key new) spare ≡ None) where
+    seen_in_table : row_at key (key new) seen ≡ row_at key (key new) table
+    seen_in_table = at_seen (key new) ∙ ap (λ o. first_some o (row_at key (key new) table)) none
 
-  pub has_table : (k : ℕ) (new : X) → k ≡ key new → None ≡ row_at key k spare → is_some (row_at key (key new) seen) ≡ true → is_some (row_at key (key new) table) ≡ true
-  has_table k new is none some = ap is_some (sym (at_seen (key new) ∙ ap (λ o. first_some o (row_at key (key new) table)) (sym (none ∙ ap (λ n. row_at key n spare) is)))) ∙ some
+    pub has_table : (same : X) → same ≡ new → is_some (row_at key (key new) seen) ≡ true → is_some (row_at key (key same) table) ≡ true
+    has_table same s some = ap (λ x. is_some (row_at key (key x) table)) s ∙ ap is_some (sym seen_in_table) ∙ some
 
-  pub again_in_table : (k : ℕ) (new : X) (still more : List X) → k ≡ key new → None ≡ row_at key k spare → still ≡ drop_row key k spare → more ≡ put_row key new table → Shows key more still (put_row key new seen)
-  again_in_table k new still more is none f e = subst (λ s. Shows key more s (put_row key new seen)) (sym (f ∙ dropped_none key k spare (sym none))) (subst (λ t. Shows key t spare (put_row key new seen)) (sym e) (record {
-    index = record {
-      table_rises = rising_put key new table was.table_rises;
-      spare_rises = was.spare_rises;
-      apart = apart_put_second key new spare table was.apart;
-    };
-    rows = put_second key new spare table was.table_rises (sym (none ∙ ap (λ n. row_at key n spare) is)) ∙ ap (put_row key new) view;
-  }))
-
-  pub was_in_table : (k : ℕ) (new old : X) → k ≡ key new → None ≡ row_at key k spare → row_at key (key new) table ≡ Some old → row_at key (key new) seen ≡ Some old
-  was_in_table k new old is none there = at_seen (key new) ∙ ap (λ o. first_some o (row_at key (key new) table)) (sym (none ∙ ap (λ n. row_at key n spare) is)) ∙ there
-
-  pub moved : (k j : ℕ) (new row old : X) (still same fewer more : List X) → k ≡ key new → j ≡ key row → row ≡ new → None ≡ row_at key k spare → still ≡ drop_row key k spare → same ≡ table → Some old ≡ row_at key j same → fewer ≡ drop_row key j same → more ≡ with_row key row still
-      → Shows key fewer more (put_row key new seen) × (row_at key (key new) seen ≡ Some old)
-  moved k j new row old still same fewer more is js rs none f t there g e = (
-    subst (λ s. Shows key fewer s (put_row key new seen)) (sym whole) (subst (λ ts. Shows key ts (with_row key new spare) (put_row key new seen)) (sym left) (record {
+    pub again_in_table : (same : X) (still more : List X) → same ≡ new → still ≡ spare → more ≡ put_row key same table → Shows key more still (put_row key new seen)
+    again_in_table same still more s f e = subst (λ ys. Shows key more ys (put_row key new seen)) (sym f) (subst (λ t. Shows key t spare (put_row key new seen)) (sym (e ∙ ap (λ x. put_row key x table) s)) (record {
       index = record {
-        table_rises = rising_drop key (key new) table was.table_rises;
-        spare_rises = IsRising-with_row key new spare was.spare_rises;
-        apart = apart_with_first key new spare (drop_row key (key new) table) (apart_drop_second key (key new) spare table was.apart) (at_drop key (key new) table (key new) ∙ ap (λ b. cond b None (row_at key (key new) table)) own);
+        table_rises = rising_put key new table was.table_rises;
+        spare_rises = was.spare_rises;
+        apart = apart_put_second key new spare table was.apart;
       };
-      rows = put_moved key new spare table was.table_rises (ap is_some at) ∙ ap (put_row key new) view;
-    })),
-    was_in_table k new old is none at,
-  )
-    where
-      jn : j ≡ key new
-      jn = js ∙ ap key rs
+      rows = put_second key new spare table was.table_rises none ∙ ap (put_row key new) view;
+    }))
 
-      own : eqb (key new) (key new) ≡ true
-      own = grind (arith, nat_tests)
+    pub was_in_table : (same old : X) → same ≡ new → row_at key (key same) table ≡ Some old → row_at key (key new) seen ≡ Some old
+    was_in_table same old s there = seen_in_table ∙ ap (λ x. row_at key (key x) table) (sym s) ∙ there
 
-      at : row_at key (key new) table ≡ Some old
-      at = sym (there ∙ ap (row_at key j) t ∙ ap (λ n. row_at key n table) jn)
+    -- it goes from the table to the spare rows
+    pub moved : (j : ℕ) (row old : X) (still same fewer more : List X) → j ≡ key row → row ≡ new → still ≡ spare → same ≡ table → Some old ≡ row_at key j same → fewer ≡ drop_row key j same → more ≡ with_row key row still
+        → Shows key fewer more (put_row key new seen) × (row_at key (key new) seen ≡ Some old)
+    moved j row old still same fewer more js rs f t there g e = (
+      subst (λ ys. Shows key fewer ys (put_row key new seen)) (sym whole) (subst (λ ts. Shows key ts (with_row key new spare) (put_row key new seen)) (sym left) (record {
+        index = record {
+          table_rises = rising_drop key (key new) table was.table_rises;
+          spare_rises = IsRising-with_row key new spare was.spare_rises;
+          apart = apart_with_first key new spare (drop_row key (key new) table) (apart_drop_second key (key new) spare table was.apart) (at_drop key (key new) table (key new) ∙ ap (λ b. cond b None (row_at key (key new) table)) own);
+        };
+        rows = put_moved key new spare table was.table_rises (ap is_some at) ∙ ap (put_row key new) view;
+      })),
+      seen_in_table ∙ at,
+    )
+      where
+        jn : j ≡ key new
+        jn = js ∙ ap key rs
 
-      whole : more ≡ with_row key new spare
-      whole = e ∙ ap (λ z. with_row key z still) rs ∙ ap (with_row key new) (f ∙ dropped_none key k spare (sym none))
+        own : eqb (key new) (key new) ≡ true
+        own = grind (arith, nat_tests)
 
-      left : fewer ≡ drop_row key (key new) table
-      left = g ∙ ap (drop_row key j) t ∙ ap (λ n. drop_row key n table) jn
+        at : row_at key (key new) table ≡ Some old
+        at = sym (there ∙ ap (row_at key j) t ∙ ap (λ n. row_at key n table) jn)
 
-  -- the place for a row that was moved
-  pub moved_new : (k : ℕ) (new row : X) (still : List X) → k ≡ key new → row ≡ new → None ≡ row_at key k spare → still ≡ drop_row key k spare → row_at key (key row) still ≡ None
-  moved_new k new row still is rs none f = ap (λ n. row_at key n still) (ap key rs ∙ sym is) ∙ ap (row_at key k) (f ∙ dropped_none key k spare (sym none)) ∙ sym none
+        whole : more ≡ with_row key new spare
+        whole = e ∙ ap (λ z. with_row key z still) rs ∙ ap (with_row key new) f
+
+        left : fewer ≡ drop_row key (key new) table
+        left = g ∙ ap (drop_row key j) t ∙ ap (λ n. drop_row key n table) jn
 
 -- what is seen of an index whose parts stayed
 pub view_same : {X : Type 0} (key : X → ℕ) (table same : List X) (spare still now : RowsWithRoom X) → same ≡ table → still ≡ spare → record { rows = with_all key spare.rows table; room = spare.room } ≡ now

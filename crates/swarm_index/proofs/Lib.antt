@@ -7,3 +7,4 @@ pub mod Places
 pub mod RowsAt
 pub mod Tables
 pub mod Trees
+pub mod Unboxed

@@ -9,7 +9,7 @@ use Rattle.std.specs.Ordering.{is_gt}
 use Rattle.std.specs.Prelude.{Err, Ok, OnOk, Result, filter, is_some, not}
 use Rattle.std.specs.declared.cmp.Ordering.TheVariants.{Less}
 use Rattle.std.specs.declared.ops.Bound.TheVariants.{Excluded, Unbounded}
-use Rattle.swarm_index.specs.Inside.Marks.{AddsMarks, AreMarksOf, DropsMarks, HasNone, IsNextMark, KeepsMarks, digest, digest_at, fresh, fresh_digests, has_mark, id_of_mark, is_mark, is_mark_at, is_marked, mark_cmp, same_mark}
+use Rattle.swarm_index.specs.Inside.Marks.{AddsMarks, AreMarksOf, DropsMarks, ExchangesMarks, HasNone, IsNextMark, KeepsMarks, digest, digest_at, fresh, fresh_digests, has_mark, id_of_mark, is_mark, is_mark_at, is_marked, mark_cmp, same_mark}
 use Rattle.swarm_index.specs.Keys.{KeyValue, Num, Pair, Text, has_key, same_key}
 use Rattle.swarm_index.proofs.Nexts.{IsNext, next_holds, next_is}
 use Rattle.swarm_index.proofs.RowsAt.{at_drop, at_member, at_put, at_with}
@@ -304,10 +304,10 @@ module _ {R X : Type 0} (id_of : R → ℕ) (key_of : ℕ → R → Option KeyVa
           ∙ ap (λ o. ltb w count && option_eq same_number o (Some d)) (sym (fresh_of_none (digest_at key_of w row))))
       go false f = are w d i
 
-  pub marked_put : (rows : List R) (a b c : BTreeMap (ℕ × ℕ × ℕ) X) (new old : R) (id : ℕ) → AreMarksOf id_of key_of count rows a → id ≡ id_of new → row_at id_of id rows ≡ Some old
-      → AddsMarks a b (is_mark (fresh_digests key_of new (Some old)) count id) → DropsMarks b c (is_mark (fresh_digests key_of old (Some new)) count id) → AreMarksOf id_of key_of count (put_row id_of new rows) c
-  marked_put rows a b c new old id are is there h g w d i =
-      g w d i ∙ ap (λ t. not (is_mark (fresh_digests key_of old (Some new)) count id w d i) && t) (h w d i)
+  pub marked_put : (rows : List R) (a c : BTreeMap (ℕ × ℕ × ℕ) X) (new old : R) (id : ℕ) → AreMarksOf id_of key_of count rows a → id ≡ id_of new → row_at id_of id rows ≡ Some old
+      → ExchangesMarks a c (is_mark (fresh_digests key_of new (Some old)) count id) (is_mark (fresh_digests key_of old (Some new)) count id) → AreMarksOf id_of key_of count (put_row id_of new rows) c
+  marked_put rows a c new old id are is there g w d i =
+      g w d i
       ∙ subst (λ n. (not (eqb id i && fresh_old) && ((eqb id i && fresh_new) || has_mark a w d i)) ≡ is_marked key_of count (cond (eqb n i) (cond (is_some (row_at id_of i rows)) (Some new) None) (row_at id_of i rows)) w d) is (go (eqb id i) refl)
       ∙ ap (λ o. is_marked key_of count o w d) (sym (at_put id_of new rows i))
     where

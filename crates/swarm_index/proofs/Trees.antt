@@ -2,14 +2,15 @@
 use Rattle.std.proofs.Common.{◌≡◌, ℕ, ◌≤◌, cond, eqb, List, [], ◌∷◌, Some, refl, ap, ◌∙◌, arith}
 use Rattle.std.specs.BTreeMap.{insert_entry, is_at}
 use Rattle.std.specs.BTreeMap.Range.{entries_between}
-use Rattle.std.specs.Map.{lookup, remove_entry, values_of}
+use Rattle.std.specs.Map.{lookup, remove_entry, set_value, values_of}
 use Rattle.std.specs.Option.{option_map}
 use Rattle.std.specs.Ordering.{is_eq, nat_cmp}
 use Rattle.std.specs.Prelude.{map}
 use Rattle.std.specs.declared.ops.Bound.TheVariants.{Excluded, Unbounded}
 use Rattle.std.proofs.lemmas.Bool.Decides.{nat_tests}
 use Rattle.swarm_index.specs.Inside.Marks.{with_id}
-use Rattle.swarm_objects.specs.Rows.{IsRising, RisesFrom, drop_row, first_of, row_above, row_at, with_row}
+use Rattle.swarm_objects.proofs.RowLemmas.{change_row_above}
+use Rattle.swarm_objects.specs.Rows.{IsRising, RisesFrom, drop_row, first_of, put_row, row_above, row_at, with_row}
 
 at_is : (i k : ℕ) → is_eq (nat_cmp i k) ≡ eqb k i
 at_is i k = grind (arith, nat_tests)
@@ -33,6 +34,14 @@ none_left key n i (x ∷ rows) r le = grind (arith, nat_tests, none_left key (ke
 pub remove_rows : {X : Type 0} (key : X → ℕ) (i : ℕ) (rows : List X) → IsRising key rows → remove_entry (is_at (nat_cmp i)) (map (with_id key) rows) ≡ map (with_id key) (drop_row key i rows)
 remove_rows key i [] r = refl
 remove_rows {X} key i (x ∷ rows) r = grind (arith, nat_tests, remove_rows key i rows (weaker rows r), none_left key (key x) (key x) rows r)
+  where
+    weaker : (ys : List X) → RisesFrom key (key x) ys → IsRising key ys
+    weaker [] q = tt
+    weaker (y ∷ ys) q = q.1
+
+pub set_rows : {X : Type 0} (key : X → ℕ) (new : X) (rows : List X) → IsRising key rows → set_value (is_at (nat_cmp (key new))) (map (with_id key) rows) new ≡ map (with_id key) (put_row key new rows)
+set_rows key new [] r = refl
+set_rows {X} key new (x ∷ rows) r = grind (arith, nat_tests, set_rows key new rows (weaker rows r), change_row_above key (key x) (key new) (λ _. new) rows r)
   where
     weaker : (ys : List X) → RisesFrom key (key x) ys → IsRising key ys
     weaker [] q = tt

@@ -10,6 +10,7 @@ use crate::table::Table;
 use crate::{IndexKey, Row};
 use std::alloc::Global;
 use std::marker::Model;
+use std::mem;
 use swarm_objects::{Id, NoMemory};
 
 /// Rows by rising id, found by id and by each of their keys in a time that grows with the logarithm of their number.
@@ -92,22 +93,18 @@ impl<R: Row + Drop> Indexed<R> {
         ensures back { IfErr result (λ same. same ≡ row) }
         ensures order { IsRising R.id_of self.new.rows }
     {
-        if let Some(old) = self.spare.remove(row.id()) {
-            self.spare.insert(row);
-            return Ok(old);
+        let mut row = row;
+        if self.spare.exchange(&mut row) {
+            return Ok(row);
         }
-        let row = match self.table.replace(row) {
-            Ok(old) => return Ok(old),
-            Err(row) => row,
+        let Err(NoMemory) = self.table.exchange(&mut row) else {
+            return Ok(row);
         };
         if self.spare.is_full() {
             return Err(row);
         }
-        let Some(old) = self.table.remove(row.id()) else {
-            unreachable!();
-        };
-        self.spare.insert(row);
-        Ok(old)
+        move_row(&mut self.table, &mut self.spare, &mut row);
+        Ok(row)
     }
 
     /// Takes the row with this id out, if it is there. It takes no memory.
@@ -154,6 +151,23 @@ impl<R: Row + Drop> Indexed<R> {
             self.table.next_by_key(which, key, after),
         )
     }
+}
+
+// The row goes to the spare rows, and the one with its id out of the table is given.
+fn move_row<R: Row + Drop>(table: &mut Table<R>, spare: &mut Spare<R>, row: &mut R)
+    requires there { IsTrue (has_row R.id_of (R.id_of row.old) table.old) }
+    requires new_id { row_at R.id_of (R.id_of row.old) spare.old.rows ≡ None }
+    requires fits { 0 < spare.old.room }
+    ensures table { table.new ≡ drop_row R.id_of (R.id_of row.old) table.old }
+    ensures spare { spare.new.rows ≡ with_row R.id_of row.old spare.old.rows }
+    ensures room { spare.old.room ≤ spare.new.room + 1 }
+    ensures old { row_at R.id_of (R.id_of row.old) table.old ≡ Some row.new }
+    ensures order { IsRising R.id_of table.new }
+{
+    let Some(old) = table.remove(row.id()) else {
+        unreachable!();
+    };
+    spare.insert(mem::replace(row, old));
 }
 
 // The one with the lesser id.

@@ -1,6 +1,7 @@
 // Rows by rising id, found by id and by keys.
 #![tactic(auto)]
 
+mod boxes;
 mod indexed;
 pub mod keys;
 mod marks;

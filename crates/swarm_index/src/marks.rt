@@ -1,14 +1,18 @@
 // The marks by which rows are found by their keys: for each key of each row its number, its digest and the row's id. A
 // digest is a number, so that a look-up makes no copy of a name; rows of different keys may have one digest.
-ghost use Rattle.std.specs.Prelude.{◌≡◌, ◌<◌, ◌≤◌, ℕ, OnErr, OnOk, false};
-ghost use Rattle.std.specs.Option.{option_copied};
+ghost use Rattle.std.specs.Prelude.{◌≡◌, ◌<◌, ◌≤◌, ◌==◌, ℕ, OnErr, OnOk, Some, false};
+ghost use Rattle.std.specs.Bool.{OnTrue};
+ghost use Rattle.std.specs.Option.{option_copied, option_eq};
 ghost use Rattle.swarm_index.specs.Inside.Marks.{
   AddsMarks,
   DropsMarks,
+  ExchangesMarks,
   HasNone,
   IsNextMark,
   KeepsMarks,
+  digest,
   digest_at,
+  digest_in,
   fresh_digests,
   has_mark,
   id_of_mark,
@@ -16,8 +20,10 @@ ghost use Rattle.swarm_index.specs.Inside.Marks.{
   is_mark_at,
   same_mark,
 };
+ghost use Rattle.swarm_index.specs.Keys.{value_of};
+ghost use Rattle.swarm_objects.specs.Same.{same_number};
 
-use crate::Row;
+use crate::{IndexKey, Row};
 use std::alloc::Global;
 use std::collections::BTreeMap;
 use std::ops::Bound;
@@ -83,30 +89,37 @@ fn id_of_mark(mark: &(u32, u64, u64), which: u32, digest: u64) -> Option<Id>
     }
 }
 
-// The digest of the row's key of this number.
-fn digest_at<R: Row>(row: &R, which: u32) -> Option<u64>
-    requires { which < R.KEYS }
-    ensures { result ≡ digest_at R.key_of which row.now }
+// Whether both keys have one digest. Equal keys have; so a name that stays isn't gone through number by number.
+fn has_one_digest(key: &IndexKey<'_>, other: &IndexKey<'_>) -> bool
+    ensures { result ≡ (digest (value_of key.now) == digest (value_of other.now)) }
 {
-    match row.key(which) {
-        Some(key) => Some(key.digest()),
-        None => None,
+    key.same(other) || key.digest() == other.digest()
+}
+
+// Whether the row is there and its key of this number has the digest of the other key.
+fn has_digest_of<'a, R: Row>(row: Option<&'a R>, which: u32, other: &IndexKey<'_>) -> bool
+    requires { which < R.KEYS }
+    ensures { result ≡ option_eq same_number (digest_in R.key_of which (option_copied row.entry)) (Some (digest (value_of other.now))) }
+{
+    match row {
+        Some(row) => match row.key(which) {
+            Some(key) => has_one_digest(&key, other),
+            None => false,
+        },
+        None => false,
     }
 }
 
-// The same, where the other row's isn't equal.
+// The digest of the row's key of this number, where the other row's isn't equal.
 fn fresh_digest<'a, R: Row>(row: &'a R, other: Option<&'a R>, which: u32) -> Option<u64>
     requires { which < R.KEYS }
     ensures { result ≡ fresh_digests R.key_of row.now (option_copied other.entry) which }
 {
-    let digest = digest_at(row, which)?;
-    let Some(other) = other else {
-        return Some(digest);
-    };
-    match digest_at(other, which) {
-        Some(same) if same == digest => None,
-        _ => Some(digest),
+    let key = row.key(which)?;
+    if has_digest_of(other, which, &key) {
+        return None;
     }
+    Some(key.digest())
 }
 
 // The row's mark of one key comes, if the other one hasn't it.
@@ -176,4 +189,48 @@ pub fn remove_marks<'a, R: Row>(marks: &mut Marks, row: &'a R, other: Option<&'a
     for which in 0..count {
         remove_mark(marks, row, other, which);
     }
+}
+
+// Whether both rows have one digest of their keys of this number, or none.
+fn keeps_digest<'a, R: Row>(row: &'a R, old: &'a R, which: u32) -> bool
+    requires { which < R.KEYS }
+    ensures { result ≡ option_eq same_number (digest_at R.key_of which row.now) (digest_at R.key_of which old.now) }
+{
+    match row.key(which) {
+        Some(key) => has_digest_of(Some(old), which, &key),
+        None => old.key(which).is_none(),
+    }
+}
+
+// Whether both rows have the same digests of their keys, or they may differ.
+fn keeps_digests<'a, R: Row>(row: &'a R, old: &'a R) -> bool
+    ensures { OnTrue result ((which : ℕ) → which < R.KEYS →
+        digest_at R.key_of which row.now ≡ digest_at R.key_of which old.now) }
+{
+    for which in 0..R::KEYS {
+        if !keeps_digest(row, old, which) {
+            return false;
+        }
+    }
+    true
+}
+
+// The row's marks take the place of the old one's, or all stays as it is for want of memory.
+pub fn exchange_marks<'a, R: Row>(marks: &mut Marks, row: &'a R, old: &'a R) -> Result<(), NoMemory>
+    requires { HasNone marks.old.map (is_mark (fresh_digests R.key_of row.now (Some old.now)) R.KEYS (R.id_of row.now)) }
+    ensures ok { OnOk result (
+        ExchangesMarks marks.old.map marks.new.map
+        (is_mark (fresh_digests R.key_of row.now (Some old.now)) R.KEYS (R.id_of row.now))
+        (is_mark (fresh_digests R.key_of old.now (Some row.now)) R.KEYS (R.id_of old.now))
+        ) }
+    ensures err { OnErr result (KeepsMarks marks.old.map marks.new.map) }
+{
+    if keeps_digests(row, old) {
+        return Ok(());
+    }
+    let Ok(()) = add_marks(marks, row, Some(old)) else {
+        return Err(NoMemory);
+    };
+    remove_marks(marks, old, Some(row), R::KEYS);
+    Ok(())
 }

@@ -11,19 +11,23 @@ ghost use Rattle.std.specs.Prelude.{
   OnErr,
   OnOk,
   OnSome,
+  Some,
   [],
   filter,
   nat_lt,
   slice_get,
 };
+ghost use Rattle.std.specs.Bool.{OnFalse, OnTrue};
 ghost use Rattle.std.specs.Option.{option_copied};
 ghost use Rattle.swarm_index.specs.Keys.{has_key, value_of};
-ghost use Rattle.swarm_objects.specs.Rows.{IsRising, drop_row, is_some_and, row_above, row_at, rows_before, with_row};
+ghost use Rattle.swarm_objects.specs.Rows.{IsRising, drop_row, is_some_and, put_row, row_above, row_at};
+ghost use Rattle.swarm_objects.specs.Rows.{rows_before, with_row};
 
 use crate::table::has_key;
 use crate::{IndexKey, Row};
 use std::alloc::Global;
 use std::marker::Model;
+use std::mem;
 use swarm_objects::{Id, NoMemory};
 
 #[derive(Drop)]
@@ -102,6 +106,7 @@ impl<R: Row + Drop> Spare<R> {
         ensures room { self.old.room ≤ self.new.room }
         ensures more { OnSome result (self.new.room ≡ self.old.room + 1) }
         ensures same { IfNone result (self.new ≡ self.old) }
+        ensures order { IsRising R.id_of self.old.rows }
     {
         let at = lesser_ids(self.rows.as_slice(), id);
         if has_id_at(self.rows.as_slice(), at, id) {
@@ -109,6 +114,34 @@ impl<R: Row + Drop> Spare<R> {
         } else {
             None
         }
+    }
+
+    // The row is exchanged with the one that has its id, if that is there.
+    pub fn exchange(&mut self, row: &mut R) -> bool
+        ensures rows { OnTrue result (self.new.rows ≡ put_row R.id_of row.old self.old.rows) }
+        ensures old { OnTrue result (row_at R.id_of (R.id_of row.old) self.old.rows ≡ Some row.new) }
+        ensures room { self.old.room ≤ self.new.room + 1 }
+        ensures none { OnFalse result (row_at R.id_of (R.id_of row.old) self.old.rows ≡ None) }
+        ensures same { OnFalse result (self.new ≡ self.old) }
+        ensures back { OnFalse result (row.new ≡ row.old) }
+    {
+        !self.rows.is_empty() && self.exchange_kept(row)
+    }
+
+    // The same, where there are rows: what copies them stands apart, since an index mostly has none here.
+    fn exchange_kept(&mut self, row: &mut R) -> bool
+        ensures rows { OnTrue result (self.new.rows ≡ put_row R.id_of row.old self.old.rows) }
+        ensures old { OnTrue result (row_at R.id_of (R.id_of row.old) self.old.rows ≡ Some row.new) }
+        ensures room { self.old.room ≤ self.new.room + 1 }
+        ensures none { OnFalse result (row_at R.id_of (R.id_of row.old) self.old.rows ≡ None) }
+        ensures same { OnFalse result (self.new ≡ self.old) }
+        ensures back { OnFalse result (row.new ≡ row.old) }
+    {
+        let Some(old) = self.remove(row.id()) else {
+            return false;
+        };
+        self.insert(mem::replace(row, old));
+        true
     }
 
     // The row with this id.

@@ -1,20 +1,19 @@
 // Rows by rising id with the marks of their keys.
-ghost use Rattle.std.specs.Prelude.{◌≡◌, ◌<◌, IfErr, IfOk, IsTrue, None, OnErr, OnOk, Some, [], filter};
+ghost use Rattle.std.specs.Prelude.{◌≡◌, ◌<◌, IfErr, IsTrue, None, OnErr, OnOk, Some, [], filter};
 ghost use Rattle.std.specs.Option.{option_copied};
 ghost use Rattle.swarm_index.specs.Keys.{has_key, value_of};
 ghost use Rattle.swarm_objects.specs.Rows.{IsRising, drop_row, has_row, is_some_and, put_row, row_above, row_at, with_row};
 
+use crate::boxes::Boxes;
 use crate::marks::{Marks, add_marks, remove_marks};
 use crate::{IndexKey, Row};
 use std::alloc::Global;
-use std::collections::BTreeMap;
 use std::marker::Model;
-use std::ops::Bound;
-use swarm_objects::Id;
+use swarm_objects::{Id, NoMemory};
 
 #[derive(Drop)]
 pub struct Table<R: Row + Drop> {
-    rows: BTreeMap<Id, R>,
+    rows: Boxes<R>,
     marks: Marks,
 }
 
@@ -25,7 +24,7 @@ impl<R: Row + Drop> Model for Table<R> {
 
     ghost Value = { Seq R };
 
-    ghost view = { λ t. values_of t.rows.entries };
+    ghost view = { λ t. values_of t.rows };
 
     ghost invariant = { λ t. IsTable R.id_of R.key_of R.KEYS t.rows t.marks.map };
 }
@@ -36,7 +35,7 @@ impl<R: Row + Drop> Table<R> {
         ensures { result ≡ [] }
     {
         Table {
-            rows: BTreeMap::new(alloc),
+            rows: Boxes::new(alloc),
             marks: Marks::new(alloc),
         }
     }
@@ -53,36 +52,27 @@ impl<R: Row + Drop> Table<R> {
             return Err(row);
         }
         match self.rows.insert(row.id(), row) {
-            Ok(_) => Ok(()),
-            Err(refused) => {
-                let (_, row) = refused.value;
+            Ok(()) => Ok(()),
+            Err(row) => {
                 remove_marks(&mut self.marks, &row, None, R::KEYS);
                 Err(row)
             }
         }
     }
 
-    // The row takes the place of the one with its id, or is handed back for want of memory.
-    pub fn replace(&mut self, row: R) -> Result<R, R>
-        requires { IsTrue (has_row R.id_of (R.id_of row) self.old) }
-        ensures ok { OnOk result (self.new ≡ put_row R.id_of row self.old) }
-        ensures old { IfOk result (λ old. row_at R.id_of (R.id_of row) self.old ≡ Some old) }
+    // The row is exchanged with the one that has its id, or all stays as it is for want of memory.
+    pub fn exchange(&mut self, row: &mut R) -> Result<(), NoMemory>
+        requires { IsTrue (has_row R.id_of (R.id_of row.old) self.old) }
+        ensures ok { OnOk result (self.new ≡ put_row R.id_of row.old self.old) }
+        ensures old { OnOk result (row_at R.id_of (R.id_of row.old) self.old ≡ Some row.new) }
         ensures err { OnErr result (self.new ≡ self.old) }
-        ensures back { IfErr result (λ same. same ≡ row) }
+        ensures back { OnErr result (row.new ≡ row.old) }
         ensures order { IsRising R.id_of self.new }
     {
-        let id = row.id();
-        let Some(old) = self.rows.get(&id) else {
-            unreachable!();
+        let Ok(()) = self.rows.exchange(&mut self.marks, row) else {
+            return Err(NoMemory);
         };
-        if add_marks(&mut self.marks, &row, Some(old)).is_err() {
-            return Err(row);
-        }
-        remove_marks(&mut self.marks, old, Some(&row), R::KEYS);
-        match self.rows.insert(id, row) {
-            Ok(Some(old)) => Ok(old),
-            _ => unreachable!(),
-        }
+        Ok(())
     }
 
     // Takes the row with this id out, if it is there.
@@ -91,7 +81,7 @@ impl<R: Row + Drop> Table<R> {
         ensures rows { self.new ≡ drop_row R.id_of id self.old }
         ensures order { IsRising R.id_of self.new }
     {
-        match self.rows.remove(&id) {
+        match self.rows.remove(id) {
             Some(row) => {
                 remove_marks(&mut self.marks, &row, None, R::KEYS);
                 Some(row)
@@ -105,7 +95,7 @@ impl<R: Row + Drop> Table<R> {
         ensures value { option_copied result ≡ row_at R.id_of id self.now }
         ensures order { IsRising R.id_of self.now }
     {
-        self.rows.get(&id)
+        self.rows.get(id)
     }
 
     // The row with the least id above this one.
@@ -113,14 +103,7 @@ impl<R: Row + Drop> Table<R> {
         ensures value { option_copied result ≡ row_above R.id_of after self.now }
         ensures order { IsRising R.id_of self.now }
     {
-        match self
-            .rows
-            .range((Bound::Excluded(after), Bound::Unbounded))
-            .next()
-        {
-            Some((_, row)) => Some(row),
-            None => None,
-        }
+        self.rows.next(after)
     }
 
     // Of the rows whose key of the number `which` is this one, that with the least id above `after`.
@@ -133,7 +116,7 @@ impl<R: Row + Drop> Table<R> {
         let digest = key.digest();
         let mut passed = after;
         while let Some(id) = self.marks.next(which, digest, passed) {
-            let row = self.rows.get(&id);
+            let row = self.rows.get(id);
             if is_keyed(row, which, key) {
                 return row;
             }

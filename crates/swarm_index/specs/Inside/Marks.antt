@@ -70,6 +70,10 @@ module _ {X : Type 0} (old new : BTreeMap (ℕ × ℕ × ℕ) X) where
   abbrev pub DropsMarks : (ℕ → ℕ → ℕ → Bool) → Type 0
   DropsMarks is_old = (w d i : ℕ) → has_mark new w d i ≡ (not (is_old w d i) && has_mark old w d i)
 
+  -- some come, and some of what there was then go
+  abbrev pub ExchangesMarks : (ℕ → ℕ → ℕ → Bool) → (ℕ → ℕ → ℕ → Bool) → Type 0
+  ExchangesMarks is_new is_old = (w d i : ℕ) → has_mark new w d i ≡ (not (is_old w d i) && (is_new w d i || has_mark old w d i))
+
 -- the least id above the number with this mark
 abbrev pub IsNextMark : {X : Type 0} → BTreeMap (ℕ × ℕ × ℕ) X → ℕ → ℕ → ℕ → Option ℕ → Type 0
 IsNextMark marks w d after None = (i : ℕ) → after < i → has_mark marks w d i ≡ false
@@ -93,15 +97,15 @@ module _ {R : Type 0} (id_of : R → ℕ) (key_of : ℕ → R → Option KeyValu
 abbrev pub with_id : {R : Type 0} → (R → ℕ) → R → ℕ × R
 with_id id_of row = (id_of row, row)
 
--- a map of rows by id, and the marks of their keys
+-- rows by their ids, and the marks of their keys
 pub record IsTable
     {R X : Type 0}
     (id_of : R → ℕ)
     (key_of : ℕ → R → Option KeyValue)
     (count : ℕ)
-    (rows : BTreeMap ℕ R)
+    (entries : List (ℕ × R))
     (marks : BTreeMap (ℕ × ℕ × ℕ) X)
     : Type 0 where
-  pub by_id : rows.entries ≡ map (with_id id_of) (values_of rows.entries)
-  pub rising : IsRising id_of (values_of rows.entries)
-  pub marked : AreMarksOf id_of key_of count (values_of rows.entries) marks
+  pub by_id : entries ≡ map (with_id id_of) (values_of entries)
+  pub rising : IsRising id_of (values_of entries)
+  pub marked : AreMarksOf id_of key_of count (values_of entries) marks

@@ -21,3 +21,6 @@ returns-then-has_id_at-clause-value g c = (remove_place g.R.Row.id_of c.args.id 
 
 pub returns-then-has_id_at-clause-rows : goal.returns-then-has_id_at-clause-rows
 returns-then-has_id_at-clause-rows g c = c.remove.ensures.items ∙ (remove_place g.R.Row.id_of c.args.id c.args.self.now.rows c.self.inside.rows.items c.as_slice.result.now c.as_slice-2.result.now c.lesser_ids-at.result c.remove.result c.as_slice.ensures.value c.as_slice-2.ensures.value (ap (λ v. v.rows) c.self.view_is) c.lesser_ids-at.ensures (subst (IsRising g.R.Row.id_of) (ap (λ v. v.rows) c.self.view_is) c.self.invariant) (sym c.has_id_at.ensures ∙ c.if-has_id_at.true) c.remove.ensures.value).1
+
+pub returns-then-has_id_at-clause-order : goal.returns-then-has_id_at-clause-order
+returns-then-has_id_at-clause-order g c = subst (IsRising g.R.Row.id_of) (ap (λ v. v.rows) c.self.view_is) c.self.invariant
