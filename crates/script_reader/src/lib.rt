@@ -7,8 +7,6 @@ mod entries;
 mod lines;
 mod openings;
 mod operations;
-#[cfg(test)]
-mod tests;
 mod values;
 
 pub use entries::read_entry;

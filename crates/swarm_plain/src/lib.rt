@@ -13,11 +13,7 @@ pub mod places;
 mod reads;
 pub mod remote;
 pub mod services;
-#[cfg(test)]
-mod tests;
 mod transactions;
-#[cfg(test)]
-mod view_tests;
 mod views;
 mod watches;
 

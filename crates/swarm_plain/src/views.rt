@@ -34,8 +34,8 @@ use swarm_objects::{
 };
 
 impl Plain {
-    // What the query shows, or why it is refused.
-    pub(crate) fn shows(&self, query: &Query) -> Result<ViewReply, Refusal>
+    /// What the query shows of the rows, or why it is refused.
+    pub fn shows(&self, query: &Query) -> Result<ViewReply, Refusal>
         ensures { Gets (shows (tables_of self.now) query.now) result }
     {
         match query {

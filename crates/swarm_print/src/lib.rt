@@ -7,8 +7,6 @@ mod notes;
 mod objects;
 mod refusals;
 mod replies;
-#[cfg(test)]
-mod tests;
 mod words;
 
 pub use replies::reply_text;

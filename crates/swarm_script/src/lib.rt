@@ -2,6 +2,8 @@
 #![tactic(auto)]
 
 #[cfg(test)]
+mod read_lines;
+#[cfg(test)]
 mod tests;
 
 pub use script_grammar::{Line, LineFault};

@@ -1,5 +1,4 @@
 // Texts of replies, as they are printed.
-use crate::reply_text;
 use std::alloc::Global;
 use std::test::Fail;
 use swarm_objects::views::{
@@ -11,6 +10,7 @@ use swarm_objects::{
     Message, Mode, Name, NodeRole, NodeState, Port, Refusal, Reply, RunStatus, Settle, SpecRule,
     TaskState, Verb, ViewReply, Wanted, Workload, list_of,
 };
+use swarm_print::reply_text;
 
 fn prints(alloc: Global, reply: Reply, want: &str) -> Result<(), Fail> {
     let text = reply_text(alloc, &reply)?;

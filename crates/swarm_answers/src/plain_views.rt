@@ -1,11 +1,11 @@
 // Each answer to a query, asked for once: want of memory may come in place of any, and no contract refuses that.
-use crate::Plain;
 use std::alloc::Global;
 use std::test::Fail;
 use swarm_objects::{
-    Availability, Desired, Draft, Kind, List, Mode, Name, Network, NoMemory, Node, NodeRole,
+    Availability, Call, Desired, Draft, Kind, List, Mode, Name, Network, NoMemory, Node, NodeRole,
     NodeState, Place, Query, Refusal, Reply, Service, Task, TaskState, ViewReply, Wanted, add,
 };
+use swarm_plain::Plain;
 
 // What is told of an answer: how many rows a list has, the id of an inspected object, the number that was asked for.
 #[derive(Clone, Copy, Debug, PartialEq, Eq)]
@@ -177,8 +177,8 @@ fn names_that_nothing_has(rt: HostRuntime) -> Result<(), Fail> {
 }
 
 // Whether the query is answered by what it shows.
-fn is_viewed(alloc: Global, query: &Query) -> bool {
-    matches!(Plain::new(alloc).viewed(query), Ok(Reply::View(_)))
+fn is_viewed(alloc: Global, query: Query) -> bool {
+    matches!(Plain::new(alloc).call(&Call::View(query)), Reply::View(_))
 }
 
 #[test]
@@ -186,7 +186,7 @@ fn tasks_by_id(rt: HostRuntime) -> Result<(), Fail> {
     let alloc = rt.alloc();
     assert_eq!(rt; answer_to(alloc, &Query::InspectTask(3))?, Told::Task(3));
     assert_eq!(rt; answer_to(alloc, &Query::InspectTask(1))?, Told::NoTask(1));
-    assert!(rt; is_viewed(alloc, &Query::Clock));
-    assert!(rt; !is_viewed(alloc, &Query::InspectTask(1)));
+    assert!(rt; is_viewed(alloc, Query::Clock));
+    assert!(rt; !is_viewed(alloc, Query::InspectTask(1)));
     Ok(())
 }

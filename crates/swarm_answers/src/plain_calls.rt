@@ -2,13 +2,13 @@
 ghost use Rattle.std.specs.Prelude.{◌≡◌, false};
 ghost use Rattle.swarm_objects.specs.CallWords.{is_settle};
 
-use crate::Plain;
 use std::alloc::Global;
 use std::test::Fail;
 use swarm_objects::{
     Call, Draft, Filter, Kind, List, Mode, Name, NoMemory, NodeDraft, Op, Query, Refusal, Reply,
     SpecRule, ViewReply, Wanted, Watcher, add, list_of,
 };
+use swarm_plain::Plain;
 
 // What is told of a reply.
 #[derive(Clone, Copy, Debug, PartialEq, Eq)]
