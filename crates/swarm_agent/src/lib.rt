@@ -6,8 +6,6 @@ mod executors;
 mod looks;
 mod messages;
 mod steps;
-#[cfg(test)]
-mod tests;
 pub mod theorems;
 
 pub use agent::{Agent, ApplyFault};

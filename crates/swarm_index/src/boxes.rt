@@ -109,7 +109,8 @@ impl<R: Row + Drop> Boxes<R> {
         requires there { IsTrue (is_some (lookup (is_at (nat_cmp (R.id_of row.old))) self.old)) }
         requires fresh { HasNone marks.old.map (
             is_mark
-            (fresh_digests R.key_of row.old (lookup (is_at (nat_cmp (R.id_of row.old))) self.old)) R.KEYS (R.id_of row.old)
+            (fresh_digests R.key_of row.old (lookup (is_at (nat_cmp (R.id_of row.old))) self.old))
+            R.KEYS (R.id_of row.old)
             ) }
         ensures rows { OnOk result (self.new ≡ set_value (is_at (nat_cmp (R.id_of row.old))) self.old row.old) }
         ensures old { OnOk result (lookup (is_at (nat_cmp (R.id_of row.old))) self.old ≡ Some row.new) }

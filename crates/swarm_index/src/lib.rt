@@ -8,8 +8,6 @@ mod marks;
 mod rows;
 mod spare;
 mod table;
-#[cfg(test)]
-mod tests;
 
 pub use indexed::Indexed;
 pub use keys::{IndexKey, Row};

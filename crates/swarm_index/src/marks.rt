@@ -89,7 +89,7 @@ fn id_of_mark(mark: &(u32, u64, u64), which: u32, digest: u64) -> Option<Id>
     }
 }
 
-// Whether both keys have one digest. Equal keys have; so a name that stays isn't gone through number by number.
+// Whether both keys have one digest. Equal keys have, so the digest of a name that stays isn't worked out.
 fn has_one_digest(key: &IndexKey<'_>, other: &IndexKey<'_>) -> bool
     ensures { result ≡ (digest (value_of key.now) == digest (value_of other.now)) }
 {
@@ -99,7 +99,8 @@ fn has_one_digest(key: &IndexKey<'_>, other: &IndexKey<'_>) -> bool
 // Whether the row is there and its key of this number has the digest of the other key.
 fn has_digest_of<'a, R: Row>(row: Option<&'a R>, which: u32, other: &IndexKey<'_>) -> bool
     requires { which < R.KEYS }
-    ensures { result ≡ option_eq same_number (digest_in R.key_of which (option_copied row.entry)) (Some (digest (value_of other.now))) }
+    ensures { result
+        ≡ option_eq same_number (digest_in R.key_of which (option_copied row.entry)) (Some (digest (value_of other.now))) }
 {
     match row {
         Some(row) => match row.key(which) {
@@ -202,7 +203,7 @@ fn keeps_digest<'a, R: Row>(row: &'a R, old: &'a R, which: u32) -> bool
     }
 }
 
-// Whether both rows have the same digests of their keys, or they may differ.
+// True only where all keys of both rows have the same digests.
 fn keeps_digests<'a, R: Row>(row: &'a R, old: &'a R) -> bool
     ensures { OnTrue result ((which : ℕ) → which < R.KEYS →
         digest_at R.key_of which row.now ≡ digest_at R.key_of which old.now) }
@@ -217,7 +218,8 @@ fn keeps_digests<'a, R: Row>(row: &'a R, old: &'a R) -> bool
 
 // The row's marks take the place of the old one's, or all stays as it is for want of memory.
 pub fn exchange_marks<'a, R: Row>(marks: &mut Marks, row: &'a R, old: &'a R) -> Result<(), NoMemory>
-    requires { HasNone marks.old.map (is_mark (fresh_digests R.key_of row.now (Some old.now)) R.KEYS (R.id_of row.now)) }
+    requires { HasNone marks.old.map
+        (is_mark (fresh_digests R.key_of row.now (Some old.now)) R.KEYS (R.id_of row.now)) }
     ensures ok { OnOk result (
         ExchangesMarks marks.old.map marks.new.map
         (is_mark (fresh_digests R.key_of row.now (Some old.now)) R.KEYS (R.id_of row.now))

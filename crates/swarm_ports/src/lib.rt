@@ -3,7 +3,5 @@
 #![tactic(auto)]
 
 mod counts;
-#[cfg(test)]
-mod tests;
 
 pub use counts::{PortCounts, times};

@@ -3,8 +3,6 @@
 
 mod reading;
 mod tallies;
-#[cfg(test)]
-mod tests;
 mod window;
 
 pub use reading::{ServiceSlots, slots};

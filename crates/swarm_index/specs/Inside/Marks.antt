@@ -72,7 +72,8 @@ module _ {X : Type 0} (old new : BTreeMap (ℕ × ℕ × ℕ) X) where
 
   -- some come, and some of what there was then go
   abbrev pub ExchangesMarks : (ℕ → ℕ → ℕ → Bool) → (ℕ → ℕ → ℕ → Bool) → Type 0
-  ExchangesMarks is_new is_old = (w d i : ℕ) → has_mark new w d i ≡ (not (is_old w d i) && (is_new w d i || has_mark old w d i))
+  ExchangesMarks is_new is_old =
+      (w d i : ℕ) → has_mark new w d i ≡ (not (is_old w d i) && (is_new w d i || has_mark old w d i))
 
 -- the least id above the number with this mark
 abbrev pub IsNextMark : {X : Type 0} → BTreeMap (ℕ × ℕ × ℕ) X → ℕ → ℕ → ℕ → Option ℕ → Type 0

@@ -1,8 +1,8 @@
 // Each answer of the index, at networks, which have their names as keys.
-use crate::keys::NAME;
-use crate::{IndexKey, Indexed, Row};
 use std::alloc::Global;
 use std::test::Fail;
+use swarm_index::keys::NAME;
+use swarm_index::{IndexKey, Indexed, Row};
 use swarm_objects::{Id, Name, Network, NoMemory};
 
 // Puts a network of this id and name into the index, where none has the id.

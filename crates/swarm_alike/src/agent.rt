@@ -2,9 +2,9 @@
 ghost use Rattle.std.specs.Prelude.{◌<◌};
 ghost use Rattle.swarm_objects.specs.Bounds.{far_end};
 
-use crate::{Agent, ApplyFault};
 use std::alloc::Global;
 use std::test::Fail;
+use swarm_agent::{Agent, ApplyFault};
 use swarm_objects::{
     AgentMode, AssignChange, Assigned, Desired, End, Id, List, Message, Ms, NoMemory, TaskState,
     Workload, add,
