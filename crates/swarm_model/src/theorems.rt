@@ -14,7 +14,8 @@ pub fn tasks_rise()
     ensures { RisingLaw }
 {}
 
-/// On each node tasks reserve at most what it has; no ingress number, address or host port is held twice.
+/// On each node tasks reserve at most what it has; no ingress number is held by two services, no address by two tasks,
+/// and no host port twice on a node.
 pub fn reservations_fit()
     ensures { FittingLaw }
 {}
@@ -29,7 +30,8 @@ pub fn places_have_one_task_a_template()
     ensures { OneTemplateLaw }
 {}
 
-/// The events of an entry are exactly what happened to objects; a poll tells all that its filter admits, and once.
+/// The events of an entry are exactly what happened to objects; a poll tells all that its filter admits, and once, or how
+/// many wait where these are more than 10,000.
 pub fn polls_tell_every_change_once()
     ensures changes { ChangesLaw }
     ensures waiting { WaitingLaw }

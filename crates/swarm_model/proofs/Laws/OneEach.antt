@@ -17,7 +17,7 @@ use Rattle.swarm_model.specs.Calls.Nodes.{is_left_behind, tables_without_node}
 use Rattle.swarm_model.specs.Calls.Refusals.{same_mode}
 use Rattle.swarm_model.specs.Calls.Remote.{begun_tables, tasks_within, with_resources}
 use Rattle.swarm_model.specs.Calls.Services.{filled, new_service, next_iteration, respecified, with_service}
-use Rattle.swarm_model.specs.Laws.OneTemplate.{NoTwoAlike, OneTemplateLaw, are_alike, are_alike_in}
+use Rattle.swarm_model.specs.Laws.OneTemplate.{NoTwoAlike, OneTemplateLaw, are_alike, is_of_no_job}
 use Rattle.swarm_objects.proofs.RowLemmas.{Has-append_cases, Has-from_row_at}
 use Rattle.swarm_objects.proofs.SameLemmas.{Decides-same_place}
 use Rattle.swarm_objects.proofs.Tests.{first_so, neither, second_so}
@@ -440,59 +440,56 @@ no-alike alike key low high (x ∷ xs) rises each =
     (let above = between-has key (key x + 1) high xs b rises.2 h in omega (arith, above.0))))
     (no-alike alike key (key x + 1) high xs rises.2 (λ a b h k less. each a b (inr h) (inr k) less))
 
-counted : (s : Service) (x : Task) → counts_for s x ≡ true → (x.service ≡ s.id) ×
-    (is_job s.spec.mode ≡ true → x.iteration ≡ s.iteration)
-counted s x e =
-    let of = first_so (x.service == s.id) (not (is_job s.spec.mode) || x.iteration == s.iteration) e in
-    let now = second_so (x.service == s.id) (not (is_job s.spec.mode) || x.iteration == s.iteration) e in
-    (grind (arith, nat_tests, of), λ j. go (is_job s.spec.mode) (x.iteration == s.iteration) refl j now)
+-- tasks of a service that is there and is no job have its iteration
+same-iteration : (t : Tables) (a b : Task) → OneEach t → Has t.tasks a → Has t.tasks b → a.service ≡ b.service →
+    (a.iteration == b.iteration || is_of_no_job t b) ≡ true → a.iteration ≡ b.iteration
+same-iteration t a b is h k of e = one (a.iteration == b.iteration) refl e
   where
-    go : (j b : Bool) → (x.iteration == s.iteration) ≡ b → j ≡ true → (not j || b) ≡ true → x.iteration ≡ s.iteration
-    go true true at k e = grind (arith, nat_tests, at)
-    go true false at k e = absurd cc
-    go false b at k e = absurd cc
+    plain : (j : Bool) → not j ≡ true → j ≡ false
+    plain true f = absurd cc
+    plain false f = refl
 
-same-iteration : (t : Tables) (s : Service) (a b : Task) → OneEach t → Has t.services s → Has t.tasks a →
-    Has t.tasks b →
-    counts_for s a ≡ true → counts_for s b ≡ true → a.iteration ≡ b.iteration
-same-iteration t s a b is there h k ca cb = go (is_job s.spec.mode) refl
-  where
-    go : (j : Bool) → is_job s.spec.mode ≡ j → a.iteration ≡ b.iteration
-    go true e = (counted s a ca).1 e ∙ sym ((counted s b cb).1 e)
-    go false e =
-        (is.iterations a s h there (counted s a ca).0).only e ∙ sym
-        ((is.iterations b s k there (counted s b cb).0).only e)
+    two : (o : Option Service) → row_at service_id b.service t.services ≡ o →
+        is_some_and (λ s. not (is_job s.spec.mode)) o ≡ true → a.iteration ≡ b.iteration
+    two None at f = absurd cc
+    two (Some s) at f =
+        let found = Has-from_row_at service_id b.service t.services s at in
+        let no_job = plain (is_job s.spec.mode) f in
+        (is.iterations a s h found.0 (of ∙ sym found.1)).only no_job
+        ∙ sym ((is.iterations b s k found.0 (sym found.1)).only no_job)
+
+    one : (c : Bool) → (a.iteration == b.iteration) ≡ c → (c || is_of_no_job t b) ≡ true → a.iteration ≡ b.iteration
+    one true at f = grind (arith, nat_tests, at)
+    one false at f = two (row_at service_id b.service t.services) refl f
 
 alike-none : (t : Tables) → OneEach t → (a b : Task) → Has t.tasks a → Has t.tasks b → a.id < b.id →
     are_alike t a b ≡ false
-alike-none t is a b h k less = go (row_at service_id b.service t.services) refl
+alike-none t is a b h k less = go (are_alike t a b) refl
   where
-    of-service : (s : Service) → Has t.services s → (r : Bool) → are_alike_in a b s ≡ r → r ≡ false
-    of-service s there false e = refl
-    of-service s there true e =
-        let four = first_so _ (same_template a.template b.template) e in
-        let template = second_so (is_in_place s b.place a && counts_for s b && is_live a && is_live b)
+    go : (r : Bool) → are_alike t a b ≡ r → r ≡ false
+    go false e = refl
+    go true e =
+        let in_one = a.iteration == b.iteration || is_of_no_job t b in
+        let five = first_so _ (same_template a.template b.template) e in
+        let template = second_so (a.service == b.service && same_place a.place b.place && in_one && is_live a && is_live b)
         (same_template a.template b.template) e in
-        let live_too = second_so (is_in_place s b.place a && counts_for s b && is_live a) (is_live b) four in
-        let three = first_so (is_in_place s b.place a && counts_for s b && is_live a) (is_live b) four in
-        let live = second_so (is_in_place s b.place a && counts_for s b) (is_live a) three in
-        let two = first_so (is_in_place s b.place a && counts_for s b) (is_live a) three in
-        let cb = second_so (is_in_place s b.place a) (counts_for s b) two in
-        let one = first_so (is_in_place s b.place a) (counts_for s b) two in
-        let ca = first_so (counts_for s a) (same_place a.place b.place) one in
-        let place = is-place a.place b.place (second_so (counts_for s a) (same_place a.place b.place) one) in
+        let live_too = second_so (a.service == b.service && same_place a.place b.place && in_one && is_live a) (is_live b) five in
+        let four = first_so (a.service == b.service && same_place a.place b.place && in_one && is_live a) (is_live b) five in
+        let live = second_so (a.service == b.service && same_place a.place b.place && in_one) (is_live a) four in
+        let three = first_so (a.service == b.service && same_place a.place b.place && in_one) (is_live a) four in
+        let in_one_is = second_so (a.service == b.service && same_place a.place b.place) in_one three in
+        let two = first_so (a.service == b.service && same_place a.place b.place) in_one three in
+        let place = second_so (a.service == b.service) (same_place a.place b.place) two in
+        let of = first_so (a.service == b.service) (same_place a.place b.place) two in
+        let service : a.service ≡ b.service = grind (arith, nat_tests, of) in
         let beside : IsBeside a b = record {
-          service = (counted s a ca).0 ∙ sym (counted s b cb).0;
-          place = place;
-          iteration = same-iteration t s a b is there h k ca cb;
+          service = service;
+          place = is-place a.place b.place place;
+          iteration = same-iteration t a b is h k service in_one_is;
           live = live;
           live_too = live_too;
         } in
         sym template ∙ is.alone a b h k less beside
-
-    go : (o : Option Service) → row_at service_id b.service t.services ≡ o → is_some_and (are_alike_in a b) o ≡ false
-    go None e = refl
-    go (Some s) e = of-service s (Has-from_row_at service_id b.service t.services s e).0 (are_alike_in a b s) refl
 
 pub no-two-alike : (t : Tables) → InOrder t → OneEach t → NoTwoAlike t
 no-two-alike t order is = no-alike (are_alike t) task_id 1 t.next_id t.tasks order.tasks (alike-none t is)

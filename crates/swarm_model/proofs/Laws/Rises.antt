@@ -18,24 +18,26 @@ pub all-has : {X : Type 0} (P : X → Type 0) (xs : List X) → ((x : X) → Has
 all-has P xs each = λ k d less. each (slice_index_or xs k d) (has-index xs k d less)
 
 come-above : {X : Type 0} (key : X → ℕ) (R : X → X → Type 0) (Asked : X → Type 0) (next high : ℕ) (old new : List X) →
-    ((x y : X) → R x y → key y ≡ key x) → Turns key R Asked next high old new → ComeAbove key next old new
+    ((x y : X) → R x y → key y ≡ key x) → Turns key R Asked next high old new → ComeAbove key next high old new
 come-above key R Asked next high old new keeps turns =
-    all-has (λ row. (has_row key (key row) old ≡ true) ⊎ (next ≤ key row)) new (λ y h. go y (becomes-cases R turns.more old new turns.rows y h))
+    all-has (λ row. (has_row key (key row) old ≡ true) ⊎ ((next ≤ key row) × (key row < high))) new
+    (λ y h. go y (becomes-cases R turns.more old new turns.rows y h))
   where
     go : (y : _) → ((x : _) × Has old x × R x y) ⊎ Has turns.more y →
-        (has_row key (key y) old ≡ true) ⊎ (next ≤ key y)
+        (has_row key (key y) old ≡ true) ⊎ ((next ≤ key y) × (key y < high))
     go y (inl r) = inl (has_row-Has key old r.0 (key y) r.1 (sym (keeps r.0 y r.2)))
-    go y (inr m) = inr (between-has key next high turns.more y turns.fresh m).0
+    go y (inr m) = inr (let found = between-has key next high turns.more y turns.fresh m in (found.0, found.1))
 
 sessions-above : (next high : ℕ) (old new : List NodeSession) →
-    ((s : NodeSession) → Has new s → ComesFrom old next high s) → ComeAbove session_id next old new
+    ((s : NodeSession) → Has new s → ComesFrom old next high s) → ComeAbove session_id next high old new
 sessions-above next high old new each =
-    all-has (λ row. (has_row session_id (session_id row) old ≡ true) ⊎ (next ≤ session_id row)) new (λ s h. go s (each s h))
+    all-has (λ row. (has_row session_id (session_id row) old ≡ true) ⊎ ((next ≤ session_id row) × (session_id row < high))) new
+    (λ s h. go s (each s h))
   where
     go : (s : NodeSession) → ComesFrom old next high s →
-        (has_row session_id (session_id s) old ≡ true) ⊎ (next ≤ session_id s)
+        (has_row session_id (session_id s) old ≡ true) ⊎ ((next ≤ session_id s) × (session_id s < high))
     go s (inl r) = inl (has_row-Has session_id old r.0 (session_id s) r.1 r.3)
-    go s (inr n) = inr n.0
+    go s (inr n) = inr n
 
 tasks-rise : (next high : ℕ) (old new : List Task) → RisesBetween task_id 1 next old →
     Turns task_id TaskMoves IsGood next high old new → EachTaskRises old new
@@ -52,7 +54,7 @@ tasks-rise next high old new rises turns x y hx hy same =
         absurd (omega (arith, above.0, below.1, same))
 
 ids-above : {X : Type 0} (key : X → ℕ) (next high : ℕ) (old new : List X) → Turns key (SameId key) Any next high old new →
-    ComeAbove key next old new
+    ComeAbove key next high old new
 ids-above key next high old new turns = come-above key (SameId key) Any next high old new (λ x y h. h) turns
 
 -- every move of an orderly world is a rise

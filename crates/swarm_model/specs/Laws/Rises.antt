@@ -1,5 +1,5 @@
 -- Tasks rise, and no id comes back.
-use Rattle.std.specs.Prelude.{◌≡◌, None, Option, Some, ℕ, ⊤, ◌≤◌, List, All, true, ◌⊎◌}
+use Rattle.std.specs.Prelude.{◌≡◌, None, Option, Some, ℕ, ⊤, ◌≤◌, ◌<◌, List, All, true, ◌⊎◌}
 use Rattle.swarm_model.specs.History.{IsLegal}
 use Rattle.swarm_model.specs.Laws.Steps.{EachStep}
 use Rattle.swarm_objects.specs.Rows.{Has, has_row, watcher_id, network_id, node_id, service_id, task_id}
@@ -37,20 +37,20 @@ pub record TaskRises (old new : Task) : Type 0 where
 abbrev pub EachTaskRises : List Task → List Task → Type 0
 EachTaskRises old new = (x y : Task) → Has old x → Has new y → x.id ≡ y.id → TaskRises x y
 
--- each id that is new is none that was given before
-abbrev pub ComeAbove : {X : Type 0} → (X → ℕ) → ℕ → List X → List X → Type 0
-ComeAbove key next old new = All (λ row. (has_row key (key row) old ≡ true) ⊎ (next ≤ key row)) new
+-- each id that is new is none that was given before, and is given now: it lies from the next id before on, below the next one after
+abbrev pub ComeAbove : {X : Type 0} → (X → ℕ) → ℕ → ℕ → List X → List X → Type 0
+ComeAbove key next end old new = All (λ row. (has_row key (key row) old ≡ true) ⊎ ((next ≤ key row) × (key row < end))) new
 
 abbrev pub session_id : NodeSession → ℕ
 session_id s = s.session.id
 
 pub record NoIdComesBack (old new : World) : Type 0 where
-  pub nodes : ComeAbove node_id old.tables.next_id old.tables.nodes new.tables.nodes
-  pub services : ComeAbove service_id old.tables.next_id old.tables.services new.tables.services
-  pub tasks : ComeAbove task_id old.tables.next_id old.tables.tasks new.tables.tasks
-  pub networks : ComeAbove network_id old.tables.next_id old.tables.networks new.tables.networks
-  pub sessions : ComeAbove session_id old.tables.next_id old.tables.sessions new.tables.sessions
-  pub watchers : ComeAbove watcher_id old.tables.next_id old.watchers new.watchers
+  pub nodes : ComeAbove node_id old.tables.next_id new.tables.next_id old.tables.nodes new.tables.nodes
+  pub services : ComeAbove service_id old.tables.next_id new.tables.next_id old.tables.services new.tables.services
+  pub tasks : ComeAbove task_id old.tables.next_id new.tables.next_id old.tables.tasks new.tables.tasks
+  pub networks : ComeAbove network_id old.tables.next_id new.tables.next_id old.tables.networks new.tables.networks
+  pub sessions : ComeAbove session_id old.tables.next_id new.tables.next_id old.tables.sessions new.tables.sessions
+  pub watchers : ComeAbove watcher_id old.tables.next_id new.tables.next_id old.watchers new.watchers
   pub next_id : old.tables.next_id ≤ new.tables.next_id
 
 pub record Rises (old new : World) : Type 0 where
