@@ -2,12 +2,15 @@ pub mod Along
 pub mod Audit
 pub mod Calls
 pub mod Due
+pub mod Edges
 pub mod Illegal
 pub mod Journals
 pub mod LawTests
 pub mod Lines
 pub mod NoMatch
+pub mod OneTemplate
 pub mod OutOfOrder
 pub mod Refusals
 pub mod Settle
+pub mod Usual
 pub mod Words

@@ -4,7 +4,7 @@ use Rattle.std.specs.Prelude.{codes}
 use Rattle.swarm_objects.specs.Defaults.{usual_draft, usual_node, usual_settings}
 use Rattle.swarm_objects.specs.Limits.{most_entries, most_ops, most_nodes, most_services, most_networks, most_watchers}
 use Rattle.swarm_objects.specs.Limits.{most_events, longest_tick, largest_budget, longest_script, longest_line}
-use Rattle.swarm_objects.specs.Limits.{longest_entry}
+use Rattle.swarm_objects.specs.Limits.{first_port, last_port, longest_entry}
 use Rattle.swarm_objects.specs.Rules.Networks.{subnet_breaks}
 use Rattle.swarm_objects.specs.Rules.Nodes.{resources_break}
 use Rattle.swarm_objects.specs.Rules.Services.{wants_too_many, is_too_long, is_too_many, broken_rule}
@@ -55,6 +55,9 @@ kept = (refl, refl)
 -- those that no rule of a specification has
 objects : (most_nodes ≡ 1000) × (most_services ≡ 1000) × (most_networks ≡ 100) × (most_watchers ≡ 100)
 objects = (refl, refl, refl, refl)
+
+ports : (first_port ≡ 30000) × (last_port ≡ 32767)
+ports = (refl, refl)
 
 histories : (most_entries ≡ 300000) × (most_ops ≡ 200) × (most_events ≡ 10000)
 histories = (refl, refl, refl)

@@ -1,7 +1,8 @@
 -- Executors that match, and executors that don't.
-use Rattle.std.specs.Prelude.{List, [], false, refl, true, ◌∷◌, ◌≡◌}
+use Rattle.std.specs.Prelude.{Bool, List, [], false, refl, true, ◌∷◌, ◌≡◌}
+use Rattle.std.specs.List.{list_all}
 use Rattle.swarm_matching.proofs.Examples.Worlds.{executor, with_executors}
-use Rattle.swarm_model.specs.Laws.Matches.{matches_world}
+use Rattle.swarm_model.specs.Laws.Matches.{matches_agent, matches_world}
 use Rattle.swarm_objects.proofs.Examples.Rows.{down_node, node, placed_task, replicas, tables}
 use Rattle.swarm_objects.specs.World.{World, empty_world}
 use Rattle.swarm_objects.specs.declared.agents.Executor.{Executor}
@@ -26,6 +27,16 @@ it_failed = refl
 
 it_is_missing : matches_world (beside []) ≡ false
 it_is_missing = refl
+
+-- one that still starts for a task that was reported RUNNING is none that runs
+abbrev agents_match : List Executor → Bool
+agents_match executors = list_all (matches_agent (beside executors).tables) (beside executors).agents
+
+agent_runs : agents_match (executor state.Running 3 ∷ []) ≡ true
+agent_runs = refl
+
+agent_is_starting : agents_match (executor state.Starting 3 ∷ []) ≡ false
+agent_is_starting = refl
 
 -- one for no task
 another_runs : matches_world (beside (executor state.Running 3 ∷ executor state.Running 9 ∷ [])) ≡ false

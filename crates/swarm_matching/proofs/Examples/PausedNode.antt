@@ -1,7 +1,10 @@
 -- A node goes on PAUSE, and keeps its task of a global service.
-use Rattle.std.specs.Prelude.{None, [], false, refl, List, ◌∷◌, codes}
+use Rattle.std.specs.Prelude.{None, [], refl, List, ◌∷◌, codes}
 use Rattle.swarm_model.proofs.Examples.Audit.{IsPlayed, Told, asked, did, entries_of, played}
+use Rattle.swarm_model.proofs.Examples.Usual.{draft, made, ticks}
+use Rattle.swarm_model.proofs.Examples.Words.{one}
 use Rattle.swarm_model.specs.History.{replay}
+use Rattle.swarm_objects.specs.Defaults.{usual_node, usual_spec}
 use Rattle.swarm_objects.specs.World.{empty_world}
 use Rattle.swarm_objects.specs.declared.calls.Call.TheVariants as call
 use Rattle.swarm_objects.specs.declared.calls.Entry.{Entry}
@@ -9,67 +12,18 @@ use Rattle.swarm_objects.specs.declared.calls.Op.TheVariants as op
 use Rattle.swarm_objects.specs.declared.duties.Duty.TheVariants as duty
 use Rattle.swarm_objects.specs.declared.duties.Settle.TheVariants as settle
 use Rattle.swarm_objects.specs.declared.nodes.Availability.TheVariants as availability
-use Rattle.swarm_objects.specs.declared.nodes.NodeDraft.{NodeDraft}
 use Rattle.swarm_objects.specs.declared.nodes.NodeRole.TheVariants as node_role
 use Rattle.swarm_objects.specs.declared.replies.Reply.TheVariants as reply
-use Rattle.swarm_objects.specs.declared.services.FailureAction.TheVariants as action
 use Rattle.swarm_objects.specs.declared.services.Mode.TheVariants as mode
-use Rattle.swarm_objects.specs.declared.services.ServiceSpec.{ServiceSpec}
-use Rattle.swarm_objects.specs.declared.services.UpdateOrder.TheVariants as order
-use Rattle.swarm_objects.specs.declared.templates.End.TheVariants as end
-use Rattle.swarm_objects.specs.declared.templates.RestartCondition.TheVariants as condition
-use Rattle.swarm_objects.specs.declared.templates.Template.{Template}
-
-abbrev draft : NodeDraft
-draft = record {
-  labels = [];
-  role = node_role.Worker;
-  availability = availability.Active;
-  cpu = 4000;
-  mem = 8589934592;
-  os = codes "linux";
-  arch = codes "amd64";
-  engine = [];
-  remote = false;
-}
-
-abbrev template : Template
-template = record {
-  workload = record { prepare = 1; start = 1; stop = 1; end = end.Never };
-  cpu = 0;
-  mem = 0;
-  constraints = [];
-  spread = [];
-  platforms = [];
-  max_replicas = 0;
-  networks = [];
-  host_ports = [];
-  restart = record { condition = condition.Any; delay = 5000; max_attempts = 0; window = 0 };
-}
-
-abbrev spec : ServiceSpec
-spec = record {
-  mode = mode.Global;
-  template = template;
-  ports = [];
-  update = record {
-    parallelism = 1;
-    delay = 0;
-    monitor = 5000;
-    action = action.Pause;
-    ratio = 0;
-    order = order.StopFirst;
-  };
-}
 
 abbrev pub journal : List Told
 journal =
-    asked 0 (call.Txn (op.CreateNode (codes "n1") draft ∷ [])) (reply.Txn (1 ∷ []))
+    asked 0 (one (op.CreateNode (codes "n1") usual_node)) (made 1)
     ∷ did 0 (duty.Register 1)
     ∷ did 0 (duty.Pull 1)
     ∷ did 0 (duty.Apply 1)
     ∷ asked 0 (call.Settle 100000) (reply.Settle 100000 settle.Settled)
-    ∷ asked 0 (call.Txn (op.CreateService (codes "agent") (record { spec = spec; networks = [] }) ∷ [])) (reply.Txn (3 ∷ []))
+    ∷ asked 0 (one (op.CreateService (codes "agent") (draft (record usual_spec { mode = mode.Global })))) (made 3)
     ∷ did 0 (duty.GlobalCreate 3 1)
     ∷ did 0 (duty.Address 4)
     ∷ did 0 (duty.Place 4 1)
@@ -77,15 +31,15 @@ journal =
     ∷ did 0 (duty.Apply 1)
     ∷ did 0 (duty.Exec 1 4)
     ∷ did 0 (duty.Report 1 4)
-    ∷ asked 0 (call.Tick 1) reply.Ticked
+    ∷ ticks 1
     ∷ did 0 (duty.Exec 1 4)
     ∷ did 0 (duty.Exec 1 4)
     ∷ did 0 (duty.Report 1 4)
-    ∷ asked 0 (call.Tick 1) reply.Ticked
+    ∷ ticks 1
     ∷ did 0 (duty.Exec 1 4)
     ∷ did 0 (duty.Report 1 4)
-    ∷ asked 0 (call.Tick 8) reply.Ticked
-    ∷ asked 0 (call.Txn (op.UpdateNode (codes "n1") None [] node_role.Worker availability.Pause ∷ [])) (reply.Txn (1 ∷ []))
+    ∷ ticks 8
+    ∷ asked 0 (one (op.UpdateNode (codes "n1") None [] node_role.Worker availability.Pause)) (made 1)
     ∷ asked 0 (call.Settle 100000) (reply.Settle 100000 settle.Settled)
     ∷ []
 

@@ -1,8 +1,8 @@
 -- Places that match, and places that don't.
 use Rattle.std.specs.Prelude.{List, Some, [], codes, false, refl, true, ℕ, ◌∷◌, ◌≡◌}
 use Rattle.swarm_matching.proofs.Examples.Worlds.{running, running_on}
-use Rattle.swarm_model.specs.Laws.Matches.{matches_world}
-use Rattle.swarm_objects.proofs.Examples.Rows.{global_service, in_zone, job, node, placed_task, replicas, task, template, templated, with_desired}
+use Rattle.swarm_model.specs.Laws.Matches.{matches_world, stands_in}
+use Rattle.swarm_objects.proofs.Examples.Rows.{global_service, in_zone, job, node, placed_task, replicas, tables, task, template, templated, with_desired, with_template}
 use Rattle.swarm_objects.specs.Changes.{with_tables}
 use Rattle.swarm_objects.specs.World.{World}
 use Rattle.swarm_objects.specs.declared.nodes.Availability.{Availability}
@@ -95,6 +95,27 @@ held_on_none : matches_world
     (with_tables (held_on (node 1)) (record (held_on (node 1)).tables { nodes = [] })) ≡ false
 held_on_none = refl
 
+-- A task of a replicated service, which is to run on a node of zone a.
+
+abbrev slot_in : Node → World
+slot_in n =
+    running_on n (templated (record template { constraints = in_zone (codes "a") ∷ [] }) (replicas 1))
+    (with_template (record template { constraints = in_zone (codes "a") ∷ [] }) (up 3 1) ∷ [])
+
+runs_in_zone : matches_world (slot_in (node 1)) ≡ true
+runs_in_zone = refl
+
+runs_elsewhere : matches_world (slot_in (in_zone_b (node 1))) ≡ false
+runs_elsewhere = refl
+
+-- A task stands only in a place that is held.
+
+stands_nowhere : stands_in (tables [] (replicas 1 ∷ []) []) (up 3 1) (replicas 1) ≡ false
+stands_nowhere = refl
+
+stands_in_its_place : stands_in (tables [] (replicas 1 ∷ []) (up 3 1 ∷ [])) (up 3 1) (replicas 1) ≡ true
+stands_in_its_place = refl
+
 -- A job of so many tasks at a time and in all.
 
 abbrev done : ℕ → ℕ → Task
@@ -108,6 +129,10 @@ as_many_at_a_time = refl
 
 too_many_at_a_time : matches_world (at_work 1 3 (done 3 0 ∷ done 4 1 ∷ [])) ≡ false
 too_many_at_a_time = refl
+
+-- also where these are all
+all_at_a_time : matches_world (at_work 1 2 (done 3 0 ∷ done 4 1 ∷ [])) ≡ false
+all_at_a_time = refl
 
 too_few_at_a_time : matches_world (at_work 3 3 (done 3 0 ∷ done 4 1 ∷ [])) ≡ false
 too_few_at_a_time = refl

@@ -1,11 +1,13 @@
 -- What each call does, on small worlds.
 use Rattle.std.specs.Prelude.{List, None, Option, Some, [], codes, false, map, refl, true, ℕ, ◌++◌, ◌∷◌, ◌≡◌}
+use Rattle.swarm_model.proofs.Examples.Usual.{agent_row, assigned, executor_row, node_row, service_row, session_row, task_row, task_seen}
 use Rattle.swarm_model.proofs.Examples.Words.{add_network, all_events, create, draft_of, join, join_remote, leaves, on_networks, one, plain_draft, plain_node, plain_spec, plain_template, port, remote_draft, says, update, with_template, world_after}
 use Rattle.swarm_model.specs.Calls.{call_outcome}
 use Rattle.swarm_model.specs.Calls.Nodes.{new_node}
 use Rattle.swarm_model.specs.Outcome.{Outcome}
 use Rattle.swarm_objects.proofs.Examples.Rows.{service, task}
 use Rattle.swarm_objects.specs.Changes.{with_tables}
+use Rattle.swarm_objects.specs.Defaults.{usual_workload}
 use Rattle.swarm_objects.specs.Rows.{first_of}
 use Rattle.swarm_objects.specs.World.{World, empty_tables, empty_world}
 use Rattle.swarm_objects.specs.declared.agents.AgentMode.{AgentMode}
@@ -23,9 +25,12 @@ use Rattle.swarm_objects.specs.declared.nodes.Availability.TheVariants as availa
 use Rattle.swarm_objects.specs.declared.nodes.Node.{Node}
 use Rattle.swarm_objects.specs.declared.nodes.NodeRole.TheVariants as node_role
 use Rattle.swarm_objects.specs.declared.nodes.NodeState.TheVariants as node_state
+use Rattle.swarm_objects.specs.declared.replies.Refusal.TheVariants as refusal
+use Rattle.swarm_objects.specs.declared.replies.Reply.{Reply}
 use Rattle.swarm_objects.specs.declared.replies.Reply.TheVariants as reply
 use Rattle.swarm_objects.specs.declared.replies.ViewReply.TheVariants as view
 use Rattle.swarm_objects.specs.declared.services.Draft.{Draft}
+use Rattle.swarm_objects.specs.declared.services.Mode.{Mode}
 use Rattle.swarm_objects.specs.declared.services.Mode.TheVariants as mode
 use Rattle.swarm_objects.specs.declared.services.PortNumber.{PortNumber}
 use Rattle.swarm_objects.specs.declared.services.Service.{Service}
@@ -33,7 +38,7 @@ use Rattle.swarm_objects.specs.declared.tasks.Attempt.{Attempt}
 use Rattle.swarm_objects.specs.declared.tasks.Closed.TheVariants as closed
 use Rattle.swarm_objects.specs.declared.tasks.Desired.TheVariants as desired
 use Rattle.swarm_objects.specs.declared.tasks.Note.TheVariants as note
-use Rattle.swarm_objects.specs.declared.tasks.Place.TheVariants.{Slot}
+use Rattle.swarm_objects.specs.declared.tasks.Place.TheVariants.{On, Slot}
 use Rattle.swarm_objects.specs.declared.tasks.Task.{Task}
 use Rattle.swarm_objects.specs.declared.tasks.TaskState.{TaskState}
 use Rattle.swarm_objects.specs.declared.tasks.TaskState.TheVariants as state
@@ -67,24 +72,9 @@ joined : leaves [] (join (codes "n")) ≡ record empty_world {
   entries = 1;
   tables = record empty_tables {
     next_id = 2;
-    nodes = record {
-      id = 1;
-      version = 1;
-      name = codes "n";
-      labels = [];
-      role = node_role.Worker;
-      availability = availability.Active;
-      state = node_state.Unknown;
-      down_since = 0;
-      cpu = 1000;
-      mem = 0;
-      os = codes "linux";
-      arch = codes "amd64";
-      engine = [];
-      remote = false;
-    } ∷ [];
+    nodes = record (node_row 1 1 (codes "n") plain_node) { state = node_state.Unknown } ∷ [];
   };
-  agents = record { node = 1; mode = agent_mode.On; inbox = None; applied = 0; executors = [] } ∷ [];
+  agents = agent_row 1 0 [] ∷ [];
 }
 joined = refl
 
@@ -108,25 +98,7 @@ node_written = refl
 -- A node that is removed: its tasks up to RUNNING are orphans, placed or not.
 
 abbrev task_on : ℕ → Option ℕ → TaskState → Task
-task_on id on s = record {
-  id = id;
-  version = 1;
-  service = 5;
-  place = Slot 1;
-  iteration = 0;
-  template = plain_template;
-  born = 1;
-  goal = desired.Running;
-  node = on;
-  state = s;
-  since = 0;
-  desired = desired.Running;
-  created = 0;
-  raise_at = 0;
-  addresses = [];
-  note = note.Empty;
-  closed = None;
-}
+task_on id on s = record (task_row id 1 5 1 (Slot 1) plain_template) { node = on; state = s }
 
 abbrev with_tasks : World → List Task → World
 with_tasks w tasks = with_tables w (record w.tables { tasks = tasks })
@@ -159,18 +131,7 @@ abbrev first_service : World → Option Service
 first_service w = first_of w.tables.services
 
 abbrev web : Service
-web = record {
-  id = 1;
-  version = 1;
-  name = codes "web";
-  spec = plain_spec (mode.Replicated 1);
-  previous = None;
-  template_version = 1;
-  rolling_back = false;
-  iteration = 0;
-  numbers = [];
-  run = None;
-}
+web = service_row 1 1 (codes "web") (plain_spec (mode.Replicated 1))
 
 created : leaves [] (create (codes "web") plain_draft) ≡ record empty_world {
   entries = 1;
@@ -268,6 +229,28 @@ network_added = refl
 network_removed : (leaves (add_network (codes "lan") ∷ []) (one (op.RemoveNetwork (codes "lan")))).tables.networks ≡ []
 network_removed = refl
 
+abbrev with_lan : Task → Task
+with_lan x = record x { template = record plain_template { networks = 1 ∷ [] } }
+
+-- a task that ended doesn't use it any more
+unused_network_removed :
+    (call_outcome
+    (with_tasks (world_after (add_network (codes "lan") ∷ [])) (with_lan (task_on 6 (Some 1) state.Failed) ∷ []))
+    (one (op.RemoveNetwork (codes "lan")))).after.tables.networks ≡ []
+unused_network_removed = refl
+
+-- of those who use it the least id is told, be it a task's
+used_by_least : (call_outcome (with_tables empty_world (record empty_tables {
+  services = record web {
+    id = 7;
+    spec = record web.spec { template = record plain_template { networks = 1 ∷ [] } };
+  } ∷ [];
+  tasks = with_lan (task_on 6 (Some 1) state.Running) ∷ [];
+  networks = record { id = 1; version = 1; name = codes "lan"; base = 167772416; length = 29 } ∷ [];
+})) (one (op.RemoveNetwork (codes "lan")))).reply
+    ≡ reply.Refused (refusal.InUse 6)
+used_by_least = refl
+
 set : leaves [] (one (op.SetCluster (record { heartbeat = 1000; orphan = 1; history = 0 }))) ≡ record empty_world {
   entries = 1;
   tables = record empty_tables { settings = record { heartbeat = 1000; orphan = 1; history = 0 } };
@@ -282,36 +265,53 @@ viewed = refl
 shows_id_of_gone :
     (call_outcome (with_tasks empty_world (task_on 6 (Some 1) state.Running ∷ []))
     (call.View (query.ListTasks None))).reply
-    ≡ reply.View (view.Tasks (record {
-      id = 6;
-      service = by.Id 5;
-      place = place_shown.Slot 1;
-      node = Some (by.Id 1);
-      state = state.Running;
-      desired = desired.Running;
-      note = note_shown.Empty;
-    } ∷ []))
+    ≡ reply.View (view.Tasks (
+    record (task_seen 6 [] (place_shown.Slot 1) [] state.Running) { service = by.Id 5; node = Some (by.Id 1) } ∷ []))
 shows_id_of_gone = refl
 
+abbrev counts_of : Mode → List Task → Reply
+counts_of m tasks =
+    (call_outcome (with_tasks (world_after (create (codes "web") (draft_of m) ∷ [])) tasks)
+    (call.View query.ListServices)).reply
+
+abbrev counted : Mode → ℕ → ℕ → Reply
+counted m running wanted =
+    reply.View (view.Services (record {
+      id = 1;
+      name = codes "web";
+      mode = m;
+      running = running;
+      wanted = wanted;
+      update = None;
+    } ∷ []))
+
 -- live tasks that run are counted, beside those that are wanted
-running_counted : (call_outcome (with_tasks (world_after (create (codes "web") (draft_of (mode.Replicated 4)) ∷ [])) (
+running_counted : counts_of (mode.Replicated 4) (
     record (task_on 6 (Some 1) state.Running) { service = 1 }
     ∷ record (task_on 7 (Some 1) state.Starting) { service = 1 }
     ∷ record (task_on 8 (Some 1) state.Running) { service = 1; desired = desired.Shutdown }
     ∷ task_on 9 (Some 1) state.Running
-    ∷ [])) (call.View query.ListServices)).reply
-    ≡ reply.View (view.Services (record {
-      id = 1;
-      name = codes "web";
-      mode = mode.Replicated 4;
-      running = 1;
-      wanted = 4;
-      update = None;
-    } ∷ []))
+    ∷ [])
+    ≡ counted (mode.Replicated 4) 1 4
 running_counted = refl
 
+abbrev on_node : ℕ → ℕ → TaskState → Task
+on_node id node s = record (task_on id (Some node) s) { service = 1; place = On node }
+
+-- of a global service the held places are wanted, of a job its total
+wanted_of_global : counts_of mode.Global (on_node 6 1 state.Running ∷ on_node 7 2 state.Starting ∷ [])
+    ≡ counted mode.Global 1 2
+wanted_of_global = refl
+
+wanted_of_job : counts_of (mode.Job 1 3) [] ≡ counted (mode.Job 1 3) 0 3
+wanted_of_job = refl
+
 abbrev closed_one : Task
-closed_one = record (task_on 6 None state.Pending) { note = note.NoPort true; closed = Some closed.Done }
+closed_one = record (task_on 6 None state.Pending) {
+  addresses = record { network = 8; number = 1002 } ∷ [];
+  note = note.NoPort true;
+  closed = Some closed.Done;
+}
 
 -- why its place is closed stands before why it waits
 shows_cause : (call_outcome (with_tasks empty_world (closed_one ∷ [])) (call.View (query.InspectTask 6))).reply
@@ -323,7 +323,7 @@ shows_cause : (call_outcome (with_tasks empty_world (closed_one ∷ [])) (call.V
       node = None;
       state = state.Pending;
       desired = desired.Running;
-      addresses = [];
+      addresses = 1002 ∷ [];
       note = note_shown.Closed closed.Done;
     }))
 shows_cause = refl
@@ -365,6 +365,23 @@ no_event_of_refused :
     (call.Txn (op.CreateService (codes "web") plain_draft ∷ op.RemoveService (codes "api") ∷ []))).events ≡ []
 no_event_of_refused = refl
 
+-- by kind, in this order
+events_by_kind :
+    (call_outcome
+    (with_tasks (world_after (join (codes "n") ∷ call.WatchBegin all_events ∷ []))
+    (task_on 6 (Some 1) state.Running ∷ []))
+    (call.Txn
+    (op.CreateNetwork (codes "lan") 167772416 29
+    ∷ op.CreateService (codes "web") plain_draft
+    ∷ op.RemoveNode (codes "n") true
+    ∷ []))).after.events
+    ≡ record { entry = 3; verb = verb.Deleted; kind = kind.Node; id = 1 }
+    ∷ record { entry = 3; verb = verb.Created; kind = kind.Service; id = 4 }
+    ∷ record { entry = 3; verb = verb.Updated; kind = kind.Task; id = 6 }
+    ∷ record { entry = 3; verb = verb.Created; kind = kind.Network; id = 3 }
+    ∷ []
+events_by_kind = refl
+
 -- Time.
 
 ticked_on : leaves [] (call.Tick 1000)
@@ -374,27 +391,18 @@ ticked_on = refl
 -- Faults.
 
 abbrev executor : ℕ → TaskState → Executor
-executor task s = record {
-  task = task;
-  desired = desired.Running;
-  workload = plain_template.workload;
-  state = s;
-  since = 0;
-  stopping = None;
-  reported = None;
-  gone = false;
-}
+executor task s = record (executor_row task usual_workload s 0) { reported = None }
 
 abbrev with_executors : List Executor → World
 with_executors executors = record (world_after (join (codes "n") ∷ call.Tick 7 ∷ [])) {
-  agents = record { node = 1; mode = agent_mode.On; inbox = None; applied = 0; executors = executors } ∷ [];
+  agents = agent_row 1 0 executors ∷ [];
 }
 
 abbrev agents_after : World → Call → List NodeAgent
 agents_after w c = (call_outcome w c).after.agents
 
 abbrev in_mode : AgentMode → List Executor → List NodeAgent
-in_mode m executors = record { node = 1; mode = m; inbox = None; applied = 0; executors = executors } ∷ []
+in_mode m executors = record (agent_row 1 0 executors) { mode = m } ∷ []
 
 abbrev four_executors : List Executor
 four_executors =
@@ -451,7 +459,7 @@ remote_begun : (call_outcome (with_tasks remote (
             ∷ record (task_on 7 (Some 1) state.Rejected) { template = record plain_template { cpu = 300 }; version = 2 }
             ∷ task_on 8 (Some 1) state.Running
             ∷ [];
-        sessions = record { node = 1; session = record { id = 2; deadline = 15000; beat = 0 } } ∷ [];
+        sessions = session_row 1 2 15000 0 ∷ [];
       };
     }
 remote_begun = refl
@@ -460,11 +468,11 @@ abbrev opened : World
 opened = world_after (join_remote (codes "r") ∷ call.RemoteBegin (codes "r") None None ∷ call.Tick 1000 ∷ [])
 
 remote_beaten : (call_outcome opened (call.RemoteBeat (codes "r") 2)).after.tables.sessions
-    ≡ record { node = 1; session = record { id = 2; deadline = 16000; beat = 1000 } } ∷ []
+    ≡ session_row 1 2 16000 1000 ∷ []
 remote_beaten = refl
 
 abbrev assigned_six : Assigned
-assigned_six = record { task = 6; desired = desired.Running; workload = plain_template.workload }
+assigned_six = assigned 6 desired.Running usual_workload
 
 remote_pulled :
     (call_outcome (with_tasks opened (task_on 6 (Some 1) state.Assigned ∷ []))
@@ -489,6 +497,13 @@ status_passed : reports state.Running state.Ready ≡ record {
   after = record (with_tasks opened (task_on 6 (Some 1) state.Running ∷ [])) { entries = 4 };
 }
 status_passed = refl
+
+-- nor does the very state
+status_again : reports state.Running state.Running ≡ record {
+  reply = reply.Status false state.Running;
+  after = record (with_tasks opened (task_on 6 (Some 1) state.Running ∷ [])) { entries = 4 };
+}
+status_again = refl
 
 -- Settle and Halt.
 

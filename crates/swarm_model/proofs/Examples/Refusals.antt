@@ -1,5 +1,6 @@
 -- For each refusal, calls that are answered it.
 use Rattle.std.specs.Prelude.{List, None, Some, [], codes, false, refl, replicate, true, ℕ, ◌∷◌, ◌≡◌}
+use Rattle.swarm_model.proofs.Examples.Usual.{draft, no_row, task_row}
 use Rattle.swarm_model.proofs.Examples.Words.{add_network, all_events, create, draft_of, join, join_remote, leaves, on_networks, one, plain_draft, plain_node, plain_spec, plain_template, port, says, update, with_ports, with_template, world_after}
 use Rattle.swarm_model.specs.Calls.{call_outcome, outcome}
 use Rattle.swarm_model.specs.Calls.Networks.{new_network}
@@ -8,6 +9,7 @@ use Rattle.swarm_model.specs.Calls.Services.{new_service}
 use Rattle.swarm_model.specs.Calls.Watches.{polled}
 use Rattle.swarm_model.specs.History.{may_follow}
 use Rattle.swarm_objects.specs.Changes.{with_tables}
+use Rattle.swarm_objects.specs.Defaults.{usual_update, usual_workload}
 use Rattle.swarm_objects.specs.World.{World, empty_tables, empty_world}
 use Rattle.swarm_objects.specs.declared.calls.Call.{Call}
 use Rattle.swarm_objects.specs.declared.calls.Call.TheVariants as call
@@ -15,7 +17,6 @@ use Rattle.swarm_objects.specs.declared.calls.Op.TheVariants as op
 use Rattle.swarm_objects.specs.declared.calls.Query.TheVariants as query
 use Rattle.swarm_objects.specs.declared.calls.What.TheVariants as what
 use Rattle.swarm_objects.specs.declared.duties.Duty.TheVariants as duty
-use Rattle.swarm_objects.specs.declared.ids.Kind.{Kind}
 use Rattle.swarm_objects.specs.declared.ids.Kind.TheVariants as kind
 use Rattle.swarm_objects.specs.declared.nodes.Availability.TheVariants as availability
 use Rattle.swarm_objects.specs.declared.nodes.NodeRole.TheVariants as node_role
@@ -26,11 +27,7 @@ use Rattle.swarm_objects.specs.declared.replies.Reply.TheVariants as reply
 use Rattle.swarm_objects.specs.declared.replies.Wanted.TheVariants as wanted_by
 use Rattle.swarm_objects.specs.declared.rules.SpecRule.{SpecRule}
 use Rattle.swarm_objects.specs.declared.rules.SpecRule.TheVariants as rule
-use Rattle.swarm_objects.specs.declared.services.FailureAction.TheVariants as action
 use Rattle.swarm_objects.specs.declared.services.Mode.TheVariants as mode
-use Rattle.swarm_objects.specs.declared.services.UpdateOrder.TheVariants as order
-use Rattle.swarm_objects.specs.declared.tasks.Desired.TheVariants as desired
-use Rattle.swarm_objects.specs.declared.tasks.Note.TheVariants as note
 use Rattle.swarm_objects.specs.declared.tasks.Place.TheVariants.{Slot}
 use Rattle.swarm_objects.specs.declared.tasks.Task.{Task}
 use Rattle.swarm_objects.specs.declared.tasks.TaskState.{TaskState}
@@ -41,9 +38,6 @@ use Rattle.swarm_objects.specs.declared.watches.Event.{Event}
 use Rattle.swarm_objects.specs.declared.watches.Verb.TheVariants as verb
 
 -- Rows that aren't there.
-
-abbrev no_row : Kind → List ℕ → Reply
-no_row k name = reply.Refused (refusal.NotFound k (wanted_by.Name name))
 
 no_node : says [] (call.NodeFail (codes "n")) ≡ no_row kind.Node (codes "n")
 no_node = refl
@@ -81,12 +75,24 @@ network_name_taken : says (add_network (codes "lan") ∷ []) (add_network (codes
     ≡ reply.Refused (refusal.NameTaken 1)
 network_name_taken = refl
 
+-- the name comes before a network that isn't there
+name_before_network : says (create (codes "web") plain_draft ∷ [])
+    (create (codes "web") (on_networks (codes "lan" ∷ []))) ≡ reply.Refused (refusal.NameTaken 1)
+name_before_network = refl
+
 -- Versions.
 
 node_conflict : says (join (codes "n") ∷ [])
     (one (op.UpdateNode (codes "n") (Some 9) [] node_role.Worker availability.Pause))
     ≡ reply.Refused (refusal.SequenceConflict 1)
 node_conflict = refl
+
+-- the version comes before the rules
+node_conflict_first : says (join (codes "n") ∷ [])
+    (one
+    (op.UpdateNode (codes "n") (Some 9) (replicate 33 (codes "k", codes "v")) node_role.Worker availability.Active))
+    ≡ reply.Refused (refusal.SequenceConflict 1)
+node_conflict_first = refl
 
 service_conflict : says (create (codes "web") plain_draft ∷ []) (update (codes "web") (Some 9) plain_draft)
     ≡ reply.Refused (refusal.SequenceConflict 1)
@@ -113,8 +119,7 @@ concurrent = refl
 
 time : says []
     (create (codes "web")
-    (with_template
-    (record plain_template { workload = record { prepare = 0; start = 1; stop = 1; end = end.Never } })))
+    (with_template (record plain_template { workload = record usual_workload { prepare = 0 } })))
     ≡ breaks rule.Time
 time = refl
 
@@ -145,20 +150,9 @@ spread : says [] (create (codes "web") (with_template (record plain_template { s
     ≡ breaks rule.Spread
 spread = refl
 
-ratio : says [] (create (codes "web") (record {
-  spec = record (plain_spec mode.Global) {
-    update =
-        record {
-          parallelism = 0;
-          delay = 0;
-          monitor = 0;
-          action = action.Pause;
-          ratio = 1001;
-          order = order.StopFirst;
-        };
-  };
-  networks = [];
-})) ≡ breaks rule.Ratio
+ratio : says []
+    (create (codes "web") (draft (record (plain_spec mode.Global) { update = record usual_update { ratio = 1001 } })))
+    ≡ breaks rule.Ratio
 ratio = refl
 
 resources : says [] (one (op.CreateNode (codes "n") (record plain_node { cpu = 1000001 }))) ≡ breaks rule.Resources
@@ -182,10 +176,19 @@ settings = refl
 
 -- the first rule in the stated order
 first_rule : says []
-    (create (codes "web")
-    (record { spec = record (plain_spec (mode.Job 0 10001)) { ports = port 0 None ∷ [] }; networks = [] }))
+    (create (codes "web") (draft (record (plain_spec (mode.Job 0 10001)) { ports = port 0 None ∷ [] })))
     ≡ breaks rule.Replicas
 first_rule = refl
+
+-- the rules come before the mode
+rule_before_mode : says (create (codes "web") plain_draft ∷ []) (update (codes "web") None (draft_of (mode.Job 0 1)))
+    ≡ breaks rule.Concurrent
+rule_before_mode = refl
+
+-- and before the name
+rule_before_name : says (add_network (codes "lan") ∷ []) (one (op.CreateNetwork (codes "lan") 167772417 29))
+    ≡ breaks rule.Subnet
+rule_before_name = refl
 
 -- Uses.
 
@@ -212,6 +215,13 @@ port_kept : says (create (codes "web") (with_ports (port 80 (Some 90) ∷ [])) �
     (update (codes "web") None (with_ports (port 81 (Some 90) ∷ [])))
     ≡ reply.Txn (1 ∷ [])
 port_kept = refl
+
+-- a network that isn't there comes before the ports
+network_before_port : says
+    (create (codes "web") (with_ports (port 80 (Some 90) ∷ [])) ∷ create (codes "api") plain_draft ∷ [])
+    (update (codes "api") None (record (with_ports (port 81 (Some 90) ∷ [])) { networks = codes "lan" ∷ [] }))
+    ≡ no_row kind.Network (codes "lan")
+network_before_port = refl
 
 -- What can't be done as things are.
 
@@ -264,26 +274,13 @@ expired_session : (call_outcome at_deadline (call.RemoteBeat (codes "r") 2)).rep
     ≡ reply.Refused (refusal.SessionExpired 15000)
 expired_session = refl
 
+-- another session is that at any time
+session_before_deadline : (call_outcome at_deadline (call.RemoteBeat (codes "r") 9)).reply
+    ≡ reply.Refused (refusal.InvalidSession (Some 2))
+session_before_deadline = refl
+
 abbrev with_task : TaskState → List Task
-with_task s = record {
-  id = 9;
-  version = 1;
-  service = 5;
-  place = Slot 1;
-  iteration = 0;
-  template = plain_template;
-  born = 1;
-  goal = desired.Running;
-  node = Some 1;
-  state = s;
-  since = 0;
-  desired = desired.Running;
-  created = 0;
-  raise_at = 0;
-  addresses = [];
-  note = note.Empty;
-  closed = None;
-} ∷ []
+with_task s = record (task_row 9 1 5 1 (Slot 1) plain_template) { node = Some 1; state = s } ∷ []
 
 abbrev remote_with : TaskState → World
 remote_with s = with_tables (world_after open_remote) (record (world_after open_remote).tables { tasks = with_task s })
@@ -301,6 +298,12 @@ no_report_of_orphan :
     (call_outcome (remote_with state.Assigned) (call.RemoteStatus (codes "r") 2 9 state.Orphaned)).reply
     ≡ reply.Refused (refusal.BadState state.Orphaned)
 no_report_of_orphan = refl
+
+-- whose task it is comes before the state
+task_before_state :
+    (call_outcome (remote_with state.Pending) (call.RemoteStatus (codes "r") 2 9 state.Orphaned)).reply
+    ≡ reply.Refused (refusal.NotThisNode 9)
+task_before_state = refl
 
 remote_has_no_agent : says open_remote (call.AgentStop (codes "r")) ≡ reply.Refused (refusal.WrongKind 1)
 remote_has_no_agent = refl
@@ -372,6 +375,10 @@ long_history = record empty_world { entries = 300000 }
 
 full : outcome long_history (call.Tick 1) ≡ record { reply = reply.Refused (refusal.Full 300000); after = long_history }
 full = refl
+
+halted_when_full : outcome (record long_history { halted = true }) (call.Tick 1)
+    ≡ record { reply = reply.Refused refusal.Halted; after = record long_history { halted = true } }
+halted_when_full = refl
 
 -- there is always room for Halt
 halt_when_full : (outcome long_history call.Halt).reply ≡ reply.HaltDone

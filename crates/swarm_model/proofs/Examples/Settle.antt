@@ -1,8 +1,8 @@
 -- The settle test on small worlds, in which no agent is inside.
 use Rattle.std.specs.Prelude.{List, None, Some, [], refl, true, ℕ, ◌∷◌, ◌≡◌}
 use Rattle.swarm_model.specs.Closing.{cause_of_restart}
-use Rattle.swarm_model.specs.Settle.{settle_answer}
-use Rattle.swarm_objects.proofs.Examples.Rows.{node, old_template, placed_task, replicas, tables, task, template, templated, with_desired, with_template}
+use Rattle.swarm_model.specs.Settle.{Wait, flight_wait, settle_answer, wait}
+use Rattle.swarm_objects.proofs.Examples.Rows.{job, node, old_template, placed_task, replicas, spec, tables, task, template, templated, update_config, with_desired, with_template}
 use Rattle.swarm_objects.specs.World.{Tables, World, empty_world}
 use Rattle.swarm_objects.specs.declared.agents.AgentMode.{AgentMode}
 use Rattle.swarm_objects.specs.declared.agents.AgentMode.TheVariants as agent_mode
@@ -11,6 +11,7 @@ use Rattle.swarm_objects.specs.declared.duties.Duty.TheVariants as duty
 use Rattle.swarm_objects.specs.declared.duties.Settle.{Settle}
 use Rattle.swarm_objects.specs.declared.duties.Settle.TheVariants as settle
 use Rattle.swarm_objects.specs.declared.nodes.Node.{Node}
+use Rattle.swarm_objects.specs.declared.services.Mode.TheVariants as mode
 use Rattle.swarm_objects.specs.declared.services.Replaced.{Replaced}
 use Rattle.swarm_objects.specs.declared.services.RunStatus.{RunStatus}
 use Rattle.swarm_objects.specs.declared.services.RunStatus.TheVariants as status
@@ -28,8 +29,11 @@ use Rattle.swarm_objects.specs.declared.templates.RestartCondition.TheVariants a
 abbrev answer_in : Tables → Settle
 answer_in t = settle_answer (record empty_world { tables = t })
 
+abbrev far_from : ℕ → Node
+far_from id = record (node id) { remote = true }
+
 abbrev far_node : Node
-far_node = record (node 1) { remote = true }
+far_node = far_from 1
 
 abbrev with_tasks : Service → List Task → Tables
 with_tasks s tasks = tables (far_node ∷ []) (s ∷ []) tasks
@@ -63,6 +67,13 @@ waits_for_stop : answer_in
     ≡ settle.Waiting 6000 cause.Remote 5
 waits_for_stop = refl
 
+-- a task of a job that runs has nothing more to report for now
+job_runs : answer_in
+    (with_tasks (job 1 1)
+    (record (with_desired desired.Complete (placed_task 4 0 1 state.Running)) { goal = desired.Complete } ∷ []))
+    ≡ settle.Settled
+job_runs = refl
+
 -- Updates.
 
 abbrev with_run : RunStatus → List Replaced → Service → Service
@@ -88,6 +99,47 @@ held : answer_in
     ≡ settle.Held 2 5
 held = refl
 
+-- a dirty one doesn't, though its id is less
+held_by_clean : answer_in
+    (full_node
+    (with_tasks (with_run status.Updating (item 900 ∷ []) (replicas 3))
+    (record dirty { id = 2; place = Slot 3; node = None; state = state.Pending; note = no_room }
+    ∷ dirty
+    ∷ placed_task 4 2 1 state.Running
+    ∷ record (task 5 (Slot 1) state.Pending) { note = no_room }
+    ∷ [])))
+    ≡ settle.Held 2 5
+held_by_clean = refl
+
+-- while a place is dirty the watching isn't waited for
+held_while_watched : answer_in
+    (full_node
+    (with_tasks (with_run status.Updating (item 990 ∷ []) (replicas 1))
+    (dirty ∷ record (task 5 (Slot 1) state.Pending) { note = no_room } ∷ [])))
+    ≡ settle.Held 2 5
+held_while_watched = refl
+
+-- slot 2 is dirty, and slot 1 is in flight till 1050
+abbrev flight_of : ℕ → Service
+flight_of parallelism = record (replicas 2) {
+  spec = record (spec (mode.Replicated 2)) {
+    update = record update_config { parallelism = parallelism; delay = 100 };
+  };
+}
+
+abbrev waits_in_flight : Service → List Wait
+waits_in_flight s =
+    flight_wait
+    (with_tasks s
+    (record dirty { place = Slot 2 } ∷ record (placed_task 5 1 1 state.Running) { since = 950 } ∷ [])) s
+    (record { status = status.Updating; version = 2; total = 2; replaced = item 900 ∷ [] })
+
+waits_for_flight : waits_in_flight (flight_of 1) ≡ wait cause.Update 2 1050 ∷ []
+waits_for_flight = refl
+
+no_wait_with_room : waits_in_flight (flight_of 2) ≡ []
+no_wait_with_room = refl
+
 -- watched for 30
 waits_for_monitor : answer_in
     (with_tasks (with_run status.Updating (item 990 ∷ []) (replicas 1)) (placed_task 5 1 1 state.Running ∷ []))
@@ -97,6 +149,11 @@ waits_for_monitor = refl
 paused : answer_in (with_tasks (with_run status.Paused [] (replicas 1)) (placed_task 4 1 1 state.Running ∷ []))
     ≡ settle.Paused 2
 paused = refl
+
+paused_back : answer_in
+    (with_tasks (with_run status.RollbackPaused [] (replicas 1)) (placed_task 4 1 1 state.Running ∷ []))
+    ≡ settle.Paused 2
+paused_back = refl
 
 -- a run to an earlier template doesn't count
 paused_before : answer_in
@@ -117,6 +174,14 @@ waits_for_session = refl
 
 pulls_when_on : settle_answer (silent agent_mode.On) ≡ settle.Busy (duty.Pull 1)
 pulls_when_on = refl
+
+-- node 1's session ends when that of a remote node does, on which a task is to stop
+session_before_remote : settle_answer (record (silent agent_mode.AgentOff) {
+  tables =
+      tables (node 1 ∷ far_from 10 ∷ []) (replicas 1 ∷ [])
+      (placed_task 4 1 10 state.Running ∷ with_desired desired.Shutdown (placed_task 5 1 10 state.Running) ∷ []);
+}) ≡ settle.Waiting 6000 cause.Session 1
+session_before_remote = refl
 
 -- The cause of a restart.
 

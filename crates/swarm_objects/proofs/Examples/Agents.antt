@@ -1,7 +1,7 @@
 -- Agents, computed.
 use Rattle.std.specs.Prelude.{List, None, Option, Some, [], false, refl, true, ℕ, ◌∷◌, ◌≡◌}
 use Rattle.swarm_objects.proofs.Examples.Rows.{node, placed_task, replicas, tables, task, workload}
-use Rattle.swarm_objects.specs.Agents.Executors.{executor_step}
+use Rattle.swarm_objects.specs.Agents.Executors.{executor_step, phase_time}
 use Rattle.swarm_objects.specs.Agents.Messages.{applied, due_set, left_out, message_for}
 use Rattle.swarm_objects.specs.Loops.Agents.{after_apply, after_beat, after_exec, after_forget, after_pull, after_register, after_report, agents}
 use Rattle.swarm_objects.specs.World.{Tables, World, empty_world}
@@ -161,11 +161,31 @@ last_message : message_for (record unsent { tables = tables (node 1 ∷ []) (rep
     ≡ Some (record a_message { changes = assign.Remove 3 ∷ [] })
 last_message = refl
 
+abbrev of_task : ℕ → Desired → Assigned
+of_task task d = record (assigned_three d) { task = task }
+
+-- changes come by task, whatever their kind
+update_before_removal : message_for
+    (record unsent {
+      sent = record (sent_so desired.Ready) { tasks = of_task 3 desired.Ready ∷ of_task 4 desired.Ready ∷ [] } ∷ [];
+    }) 1
+    ≡ Some (record a_message { changes = assign.Update (of_task 3 desired.Running) ∷ assign.Remove 4 ∷ [] })
+update_before_removal = refl
+
+removal_before_update : message_for
+    (record unsent { tables = tables (node 1 ∷ []) (replicas 1 ∷ []) (placed_task 4 1 1 state.Running ∷ []) }) 1
+    ≡ Some (record a_message { changes = assign.Remove 3 ∷ assign.Update (of_task 4 desired.Running) ∷ [] })
+removal_before_update = refl
+
 abbrev received_one : Message → World
 received_one m = record (calm (executor state.Running)) { agents = agent (Some m) (executor state.Running ∷ []) ∷ [] }
 
 apply_inbox : agents (received_one a_message) ≡ duty.Apply 1 ∷ []
 apply_inbox = refl
+
+-- with or without a live session
+apply_without_session : agents (at_time 6000 (received_one a_message)) ≡ duty.Register 1 ∷ duty.Apply 1 ∷ []
+apply_without_session = refl
 
 applied_update : after_apply (received_one a_message) 1
     ≡ record (calm (executor state.Running)) {
@@ -180,6 +200,11 @@ applied_removal :
     applied 1000 (record a_message { changes = assign.Remove 3 ∷ [] }) (executor state.Running ∷ [])
     ≡ record (executor state.Running) { gone = true } ∷ []
 applied_removal = refl
+
+-- a later update of it doesn't bring it back
+stays_gone : applied 1000 a_message (record (executor state.Running) { gone = true } ∷ [])
+    ≡ record (executor state.Running) { gone = true; desired = desired.Shutdown } ∷ []
+stays_gone = refl
 
 -- a difference leaves the others
 not_left_out : left_out a_message (record (executor state.Running) { task = 9 })
@@ -229,6 +254,15 @@ exec_prepared = refl
 no_exec_unprepared : executor_step 999 (executor state.Preparing) ≡ None
 no_exec_unprepared = refl
 
+exec_rejects : executor_step 1000
+    (record (executor state.Preparing) { workload = record workload { end = end.Reject } })
+    ≡ Some (record (executor state.Preparing) {
+      workload = record workload { end = end.Reject };
+      state = state.Rejected;
+      since = 1000;
+    })
+exec_rejects = refl
+
 exec_ready : exec_at 1000 (executor state.Ready) ≡ duty.Exec 1 3 ∷ []
 exec_ready = refl
 
@@ -265,6 +299,30 @@ exec_completed = refl
 exec_failed : executor_step 1000 (exits 1) ≡ Some (record (exits 1) { state = state.Failed; since = 1000 })
 exec_failed = refl
 
+-- The times of their phases, whether or not these are reached.
+
+phase_prepares : phase_time (executor state.Preparing) ≡ Some 1000
+phase_prepares = refl
+
+phase_starts : phase_time (executor state.Starting) ≡ Some 1010
+phase_starts = refl
+
+phase_runs : phase_time (exits 0) ≡ Some 1000
+phase_runs = refl
+
+phase_stops : phase_time (record (executor state.Running) { stopping = Some 1005 }) ≡ Some 1005
+phase_stops = refl
+
+no_phase_running : phase_time (executor state.Running) ≡ None
+no_phase_running = refl
+
+-- its next step comes at once
+no_phase_to_stop : phase_time (record (executor state.Preparing) { gone = true }) ≡ None
+no_phase_to_stop = refl
+
+no_phase_to_stop_late : phase_time (record (exits 0) { desired = desired.Shutdown }) ≡ None
+no_phase_to_stop_late = refl
+
 executed : after_exec (calm (executor state.Ready)) 1 3
     ≡ calm (record (executor state.Starting) { since = 1000; reported = Some state.Ready })
 executed = refl
@@ -280,6 +338,9 @@ report_news = refl
 no_report_of_gone : agents (calm (record (executor state.Failed) { reported = None; gone = true }))
     ≡ duty.Forget 1 3 ∷ []
 no_report_of_gone = refl
+
+no_report_without_session : agents (at_time 6000 unreported) ≡ duty.Register 1 ∷ []
+no_report_without_session = refl
 
 no_report_without_task : agents
     (record unreported {

@@ -1,5 +1,5 @@
 -- The allocator, computed.
-use Rattle.std.specs.Prelude.{List, None, Option, Some, [], codes, false, refl, ℕ, ◌∷◌, ◌≡◌}
+use Rattle.std.specs.Prelude.{List, None, Option, Some, [], codes, false, refl, true, ℕ, ◌∷◌, ◌≡◌}
 use Rattle.swarm_objects.proofs.Examples.Rows.{replicas, spec, tables, task, template, with_desired}
 use Rattle.swarm_objects.specs.Loops.Allocator.{after_address, after_note, after_port, allocator, first_note}
 use Rattle.swarm_objects.specs.Tasks.Addresses.{free_address}
@@ -69,6 +69,22 @@ least_free_port : (after_port 7 (world_of (record (with_ports (port 80 None ∷ 
 }) ∷ []
 least_free_port = refl
 
+abbrev with_udp_port : Service
+with_udp_port = with_ports (port 80 None ∷ record (port 81 (Some 30000)) { udp = true } ∷ [])
+
+-- each protocol has numbers of its own, named ones
+least_of_protocol : (after_port 7 (world_of with_udp_port []) 2 80 false).services ≡ given 30000 with_udp_port ∷ []
+least_of_protocol = refl
+
+abbrev with_udp_number : Service
+with_udp_number = record (replicas 1) { id = 5; numbers = record { target = 81; udp = true; number = 30000 } ∷ [] }
+
+-- and given ones
+least_given_of_protocol :
+    (after_port 7 (tables [] (with_ports (port 80 None ∷ []) ∷ with_udp_number ∷ []) []) 2 80 false).services
+    ≡ given 30000 (with_ports (port 80 None ∷ [])) ∷ with_udp_number ∷ []
+least_given_of_protocol = refl
+
 -- Addresses.
 
 address_of_new : allocator (world_of (replicas 1) (on_lan fresh ∷ [])) ≡ duty.Address 3 ∷ []
@@ -84,8 +100,8 @@ no_address_without_service = refl
 no_address_before_port : allocator (world_of (with_ports (port 80 None ∷ [])) (fresh ∷ [])) ≡ duty.Port 2 80 false ∷ []
 no_address_before_port = refl
 
--- the base is no address, and the one after it is the gateway's
-addressed_first : after_address 7 (world_of (replicas 1) (on_lan fresh ∷ [])) 3
+-- the base is no address, and the one after it is the gateway's; nothing is noted any more
+addressed_first : after_address 7 (world_of (replicas 1) (record (on_lan fresh) { note = note.NoAddress 8 } ∷ [])) 3
     ≡ world_of (replicas 1) (record (addressed_at 1002 fresh) { version = 7; state = state.Pending; since = 1000 } ∷ [])
 addressed_first = refl
 
@@ -117,6 +133,9 @@ noted_full = refl
 
 port_before_network : first_note (Some (port 80 None)) (Some 8) ≡ Some (note.NoPort false)
 port_before_network = refl
+
+note_of_protocol : first_note (Some (record (port 80 None) { udp = true })) None ≡ Some (note.NoPort true)
+note_of_protocol = refl
 
 no_note_twice : allocator (full (record (on_lan fresh) { note = note.NoAddress 8 } ∷ [])) ≡ []
 no_note_twice = refl

@@ -1,6 +1,6 @@
 -- Global services, computed.
 use Rattle.std.specs.Prelude.{Some, [], codes, refl, ◌∷◌, ◌≡◌}
-use Rattle.swarm_objects.proofs.Examples.Rows.{down_node, global_service, in_zone, node, tables, task, template, templated}
+use Rattle.swarm_objects.proofs.Examples.Rows.{down_node, global_service, in_zone, node, tables, task, template, templated, with_desired}
 use Rattle.swarm_objects.specs.Loops.Global.{after_global_create, after_leave, global}
 use Rattle.swarm_objects.specs.World.{Tables}
 use Rattle.swarm_objects.specs.declared.duties.Duty.TheVariants as duty
@@ -43,6 +43,11 @@ leave_where_unmet = refl
 
 leave_where_removed : global (record (with_task_of (node 1)) { nodes = [] }) ≡ duty.Leave 2 1 ∷ []
 leave_where_removed = refl
+
+-- a task that is stopping holds no place
+no_leave_of_stopping : global
+    (tables (down_node 1 0 ∷ []) (in_zone_a ∷ []) (with_desired desired.Shutdown (of_node state.Running) ∷ [])) ≡ []
+no_leave_of_stopping = refl
 
 -- a node on PAUSE keeps its task
 no_leave_on_pause : global (with_task_of (in_availability availability.Pause)) ≡ []

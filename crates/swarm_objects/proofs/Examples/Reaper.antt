@@ -49,6 +49,13 @@ trim_oldest = refl
 no_trim_of_so_many : reaper (with_past (replicas 1) (past 3 ∷ placed_task 5 1 1 state.Running ∷ [])) ≡ []
 no_trim_of_so_many = refl
 
+-- one that is to be removed is none of them
+no_trim_by_removed : reaper
+    (with_past (replicas 1)
+    (past 3 ∷ with_desired desired.Remove (placed_task 4 1 1 state.Failed) ∷ placed_task 5 1 1 state.Running ∷ []))
+    ≡ duty.Delete 4 ∷ []
+no_trim_by_removed = refl
+
 -- the newest one stays, even where none is kept
 no_trim_of_newest : reaper
     (record (with_past (replicas 1) (past 3 ∷ [])) { settings = record usual_settings { history = 0 } }) ≡ []

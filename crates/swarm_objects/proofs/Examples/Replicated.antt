@@ -54,6 +54,24 @@ down_where_one_ended : replicated (with_tasks 1 (up 3 1 1 ∷ placed_task 4 1 1 
     ≡ duty.Down 2 1 ∷ []
 down_where_one_ended = refl
 
+-- a task that runs and is only to stop doesn't make its slot run
+down_the_stopping : replicated
+    (with_tasks 1 (with_desired desired.Shutdown (up 3 1 1) ∷ placed_task 4 1 1 state.Ready ∷ up 5 2 10 ∷ []))
+    ≡ duty.Down 2 1 ∷ []
+down_the_stopping = refl
+
+-- nor does it make its node fuller
+crowd_without_stopping : replicated
+    (with_tasks 1 (up 3 1 1 ∷ with_desired desired.Shutdown (up 4 3 1) ∷ up 5 2 10 ∷ [])) ≡ duty.Down 2 2 ∷ []
+crowd_without_stopping = refl
+
+-- nor do tasks of another service
+crowd_of_its_own : replicated
+    (tables (node 1 ∷ node 10 ∷ []) (replicas 1 ∷ record (replicas 2) { id = 8 } ∷ [])
+    (up 3 1 1 ∷ up 4 2 10 ∷ record (up 6 1 1) { service = 8 } ∷ record (up 7 2 1) { service = 8 } ∷ []))
+    ≡ duty.Down 2 2 ∷ []
+crowd_of_its_own = refl
+
 no_down_at_the_number : replicated (with_tasks 2 (up 3 1 1 ∷ up 4 2 10 ∷ [])) ≡ []
 no_down_at_the_number = refl
 

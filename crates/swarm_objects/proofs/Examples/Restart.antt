@@ -119,6 +119,17 @@ closed_by_attempts :
     ≡ record stopped { closed = Some (closed.Attempts 2) } ∷ []
 closed_by_attempts = refl
 
+-- the condition comes before the attempts
+condition_before_attempts :
+    (after_restart 7 (with_policy condition.Never 1 0 (attempt_at 990 ∷ []) (failed ∷ [])) 3).tasks
+    ≡ record stopped { closed = Some closed.Condition } ∷ []
+condition_before_attempts = refl
+
+-- the attempt is kept beside the earlier ones
+attempts_kept : (after_restart 7 (with_policy condition.Any 0 0 (attempt_at 900 ∷ []) (failed ∷ [])) 3).attempts
+    ≡ attempt_at 900 ∷ attempt_at 1000 ∷ []
+attempts_kept = refl
+
 -- those for an earlier template or another place don't count
 again_by_other_attempts : length (after_restart 7
     (with_policy condition.Any 1 0
@@ -145,6 +156,13 @@ cause_on_newest = refl
 job_task_is_done : (after_restart 7 (with_job_task 0) 3).tasks
     ≡ record done { version = 7; desired = desired.Shutdown; closed = Some closed.Done } ∷ []
 job_task_is_done = refl
+
+-- which comes before the condition
+done_before_condition : (after_restart 7 (tables (node 1 ∷ []) (templated (record template {
+  restart = record { condition = condition.Never; delay = 50; max_attempts = 0; window = 0 };
+}) (job 1 1) ∷ []) (done ∷ [])) 3).tasks
+    ≡ record done { version = 7; desired = desired.Shutdown; closed = Some closed.Done } ∷ []
+done_before_condition = refl
 
 -- Tasks that wait.
 

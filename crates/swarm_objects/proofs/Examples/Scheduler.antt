@@ -88,6 +88,28 @@ best_by_zone : scheduler
     ≡ duty.Place 3 11 ∷ []
 best_by_zone = refl
 
+-- of two branches without a task the lesser value comes first, whatever the ids
+best_by_value : scheduler (on_nodes (in_b 1 ∷ node 10 ∷ []) (spread_over_zones waiting ∷ [])) ≡ duty.Place 3 10 ∷ []
+best_by_value = refl
+
+abbrev at_rack : ℕ → List ℕ → List ℕ → Node
+at_rack id zone rack = record (node id) { labels = (codes "zone", zone) ∷ (codes "rack", rack) ∷ [] }
+
+abbrev spread_over_racks : Task → Task
+spread_over_racks x = record x {
+  template = record template { spread = key.Label (codes "zone") ∷ key.Label (codes "rack") ∷ [] };
+}
+
+-- the branches of the second preference are parted by the first: that rack 1 of zone b has a task doesn't matter
+rack_within_zone : scheduler
+    (on_nodes
+    (at_rack 1 (codes "a") (codes "1")
+    ∷ at_rack 10 (codes "a") (codes "2")
+    ∷ at_rack 11 (codes "b") (codes "1") ∷ [])
+    (placed_task 2 2 11 state.Running ∷ spread_over_racks waiting ∷ []))
+    ≡ duty.Place 3 1 ∷ []
+rack_within_zone = refl
+
 -- Filters.
 
 abbrev refusing : Node → Task → List ℕ
@@ -103,6 +125,20 @@ refused_for_resources = refl
 fits_in_resources : refusing (record (node 1) { cpu = 200 }) waiting ≡ 0 ∷ 0 ∷ 0 ∷ 0 ∷ 0 ∷ 0 ∷ []
 fits_in_resources = refl
 
+-- with a task of 100 bytes there
+abbrev in_memory : ℕ → List ℕ
+in_memory bytes =
+    refusal_counts
+    (on_nodes (record (node 1) { mem = bytes } ∷ [])
+    (with_template (record template { mem = 100 }) (placed_task 2 2 1 state.Running) ∷ []))
+    (with_template (record template { mem = 100 }) waiting)
+
+refused_for_memory : in_memory 199 ≡ 0 ∷ 1 ∷ 0 ∷ 0 ∷ 0 ∷ 0 ∷ []
+refused_for_memory = refl
+
+fits_in_memory : in_memory 200 ≡ 0 ∷ 0 ∷ 0 ∷ 0 ∷ 0 ∷ 0 ∷ []
+fits_in_memory = refl
+
 refused_for_constraints : refusing (in_b 1)
     (with_template (record template { constraints = in_zone (codes "a") ∷ [] }) waiting) ≡ 0 ∷ 0 ∷ 1 ∷ 0 ∷ 0 ∷ 0 ∷ []
 refused_for_constraints = refl
@@ -111,6 +147,11 @@ refused_for_platform : refusing (node 1)
     (with_template (record template { platforms = record { os = codes "linux"; arch = codes "arm64" } ∷ [] }) waiting)
     ≡ 0 ∷ 0 ∷ 0 ∷ 1 ∷ 0 ∷ 0 ∷ []
 refused_for_platform = refl
+
+refused_for_os : refusing (node 1)
+    (with_template (record template { platforms = record { os = codes "windows"; arch = codes "amd64" } ∷ [] }) waiting)
+    ≡ 0 ∷ 0 ∷ 0 ∷ 1 ∷ 0 ∷ 0 ∷ []
+refused_for_os = refl
 
 abbrev publishing : Template
 publishing = record template { host_ports = record { target = 80; number = Some 80; udp = false } ∷ [] }
@@ -124,6 +165,35 @@ refused_for_host_port = refl
 refused_for_most : refusing (node 1) (with_template (record template { max_replicas = 1 }) waiting)
     ≡ 0 ∷ 0 ∷ 0 ∷ 0 ∷ 0 ∷ 1 ∷ []
 refused_for_most = refl
+
+-- A node counts for the first filter that refuses it.
+
+abbrev demanding : Template
+demanding = record publishing {
+  constraints = in_zone (codes "a") ∷ [];
+  platforms = record { os = codes "linux"; arch = codes "amd64" } ∷ [];
+  max_replicas = 1;
+}
+
+-- 2 and 3 are refused by all filters from resources and from constraints on, with a task of the service on each
+abbrev full_one : ℕ → ℕ → Node
+full_one id cpu = record (in_b id) { cpu = cpu; arch = codes "arm64" }
+
+abbrev there : ℕ → ℕ → Task
+there id on = with_template publishing (placed_task id id on state.Running)
+
+by_first_filter : refusal_counts
+    (on_nodes
+    (record (full_one 1 199) { availability = availability.Pause }
+    ∷ full_one 2 199
+    ∷ full_one 3 1000
+    ∷ record (node 4) { arch = codes "arm64" }
+    ∷ node 5
+    ∷ node 6
+    ∷ [])
+    (there 11 1 ∷ there 12 2 ∷ there 13 3 ∷ there 14 4 ∷ there 15 5 ∷ placed_task 16 16 6 state.Running ∷ []))
+    (with_template demanding waiting) ≡ 1 ∷ 1 ∷ 1 ∷ 1 ∷ 1 ∷ 1 ∷ []
+by_first_filter = refl
 
 -- the session is dead, though the node is still READY
 refused_without_session : scheduler (record (on_nodes (node 1 ∷ []) (waiting ∷ [])) { clock = 6000 })

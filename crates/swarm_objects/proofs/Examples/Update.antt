@@ -1,5 +1,5 @@
 -- Rolling updates, computed.
-use Rattle.std.specs.Prelude.{List, None, Some, [], refl, true, ℕ, ◌∷◌, ◌≡◌}
+use Rattle.std.specs.Prelude.{List, None, Some, [], false, map, refl, true, ℕ, ◌+◌, ◌∷◌, ◌≡◌}
 use Rattle.swarm_objects.proofs.Examples.Rows.{job, node, old_template, placed_task, replicas, spec, tables, task, update_config, with_template}
 use Rattle.swarm_objects.specs.Loops.Update.{after_fail, after_finish, after_replace, after_start, after_swap, update}
 use Rattle.swarm_objects.specs.Rows.{first_of}
@@ -7,10 +7,12 @@ use Rattle.swarm_objects.specs.World.{Tables}
 use Rattle.swarm_objects.specs.declared.duties.Duty.TheVariants as duty
 use Rattle.swarm_objects.specs.declared.services.FailureAction.TheVariants as action
 use Rattle.swarm_objects.specs.declared.services.Mode.TheVariants as mode
+use Rattle.swarm_objects.specs.declared.services.PortNumber.{PortNumber}
 use Rattle.swarm_objects.specs.declared.services.Replaced.{Replaced}
 use Rattle.swarm_objects.specs.declared.services.RunStatus.{RunStatus}
 use Rattle.swarm_objects.specs.declared.services.RunStatus.TheVariants as status
 use Rattle.swarm_objects.specs.declared.services.Service.{Service}
+use Rattle.swarm_objects.specs.declared.services.ServiceSpec.{ServiceSpec}
 use Rattle.swarm_objects.specs.declared.services.UpdateConfig.{UpdateConfig}
 use Rattle.swarm_objects.specs.declared.services.UpdateOrder.{UpdateOrder}
 use Rattle.swarm_objects.specs.declared.services.UpdateOrder.TheVariants as order
@@ -22,6 +24,7 @@ use Rattle.swarm_objects.specs.declared.tasks.Place.TheVariants.{Slot}
 use Rattle.swarm_objects.specs.declared.tasks.Task.{Task}
 use Rattle.swarm_objects.specs.declared.tasks.TaskState.{TaskState}
 use Rattle.swarm_objects.specs.declared.tasks.TaskState.TheVariants as state
+use Rattle.swarm_objects.specs.declared.templates.Port.{Port}
 
 abbrev at_two : ℕ → TaskState → Task
 at_two id s = placed_task id 1 1 s
@@ -69,6 +72,11 @@ start_where_closed : update
     ≡ duty.Start 2 ∷ []
 start_where_closed = refl
 
+-- one that only stops closes nothing
+no_start_where_stopping : update
+    (with_tasks (replicas 1) (record (dirty 3 state.Running) { desired = desired.Shutdown } ∷ [])) ≡ []
+no_start_where_stopping = refl
+
 -- but not where a clean one is live
 no_start_beside_clean : update
     (with_tasks (replicas 1)
@@ -81,6 +89,13 @@ no_start_beside_clean = refl
 started : after_start 7 (with_tasks (replicas 1) (dirty 3 state.Running ∷ [])) 2
     ≡ with_tasks (record (replicas 1) { version = 7; run = Some (run status.Updating []) }) (dirty 3 state.Running ∷ [])
 started = refl
+
+-- the total is that of the dirty places
+started_at_one_of_two :
+    (after_start 7
+    (with_tasks (replicas 2) (dirty 3 state.Running ∷ record (at_two 4 state.Running) { place = Slot 2 } ∷ [])) 2).services
+    ≡ record (replicas 2) { version = 7; run = Some (run status.Updating []) } ∷ []
+started_at_one_of_two = refl
 
 started_back :
     (after_start 7 (with_tasks (record (replicas 1) { rolling_back = true }) (dirty 3 state.Running ∷ [])) 2).services
@@ -106,6 +121,18 @@ no_fail_after_monitor = refl
 no_fail_by_shutdown : first_of (update (failing (broken state.Shutdown 910 ∷ []))) ≡ Some (duty.Replace 2 1)
 no_fail_by_shutdown = refl
 
+-- a task that completes is one: it was to run
+fail_by_complete : first_of (update (failing (broken state.Complete 910 ∷ []))) ≡ Some (duty.Fail 2)
+fail_by_complete = refl
+
+no_fail_by_other_service : first_of (update (failing (record (broken state.Failed 910) { service = 9 } ∷ [])))
+    ≡ Some (duty.Replace 2 1)
+no_fail_by_other_service = refl
+
+-- the failed run replaces no further place
+only_fail : update (failing (broken state.Rejected 929 ∷ [])) ≡ duty.Fail 2 ∷ []
+only_fail = refl
+
 no_fail_by_other_version : first_of (update (failing (record (broken state.Failed 910) { born = 1 } ∷ [])))
     ≡ Some (duty.Replace 2 1)
 no_fail_by_other_version = refl
@@ -129,6 +156,15 @@ no_fail_at_ratio : first_of
     (update (with_tasks (with_update (record update_config { ratio = 1000 }) (running_update (run status.Updating [])))
     (dirty 3 state.Running ∷ broken state.Failed 910 ∷ []))) ≡ Some (duty.Replace 2 1)
 no_fail_at_ratio = refl
+
+-- one failure of two places is half of them
+no_fail_at_half : first_of
+    (update
+    (with_tasks
+    (with_update (record update_config { ratio = 500 })
+    (running_update (record (run status.Updating []) { total = 2 })))
+    (dirty 3 state.Running ∷ broken state.Failed 910 ∷ []))) ≡ Some (duty.Replace 2 1)
+no_fail_at_half = refl
 
 paused_by_fail : after_fail 7 (failing []) 2
     ≡ with_tasks (record (running_update (run status.Paused [])) { version = 7 }) (dirty 3 state.Running ∷ [])
@@ -154,6 +190,26 @@ rolled_back_by_fail = refl
 paused_while_rolling_back : (after_fail 7 (with_tasks (rolling status.RollbackStarted) []) 2).services
     ≡ record (rolling status.RollbackPaused) { version = 7 } ∷ []
 paused_while_rolling_back = refl
+
+abbrev open_port : ℕ → Port
+open_port target = record { target = target; number = None; udp = false }
+
+abbrev given : ℕ → PortNumber
+given target = record { target = target; udp = false; number = 30000 + target }
+
+abbrev with_ports : List Port → ServiceSpec
+with_ports ports = record (spec (mode.Replicated 1)) { ports = ports }
+
+-- of the numbers, that of a port that is open in the previous specification stays
+number_stays : map (λ s. s.numbers)
+    (after_fail 7 (with_tasks (record (rolling status.Updating) {
+      spec = record (with_ports (open_port 80 ∷ open_port 81 ∷ [])) {
+        update = record update_config { action = action.Rollback };
+      };
+      previous = Some (with_ports (open_port 80 ∷ []));
+      numbers = given 80 ∷ given 81 ∷ [];
+    }) []) 2).services ≡ (given 80 ∷ []) ∷ []
+number_stays = refl
 
 -- Swap.
 
@@ -183,18 +239,31 @@ abbrev slot_two : Task → Task
 slot_two x = record x { place = Slot 2 }
 
 -- slot 1 is in flight or not, and slot 2 is dirty; one place may be in flight
-abbrev flight : ℕ → Task → Tables
-flight delay x =
-    with_tasks
-    (with_update (record update_config { delay = delay })
-    (record (running_update (run status.Updating (item 900 ∷ []))) { version = 2 }))
+abbrev flying : UpdateConfig → Task → Tables
+flying config x =
+    with_tasks (with_update config (running_update (run status.Updating (item 900 ∷ []))))
     (slot_two (dirty 3 state.Running) ∷ x ∷ [])
+
+abbrev flight : ℕ → Task → Tables
+flight delay x = flying (record update_config { delay = delay }) x
 
 replace_where_dirty : update (flight 0 (at_two 4 state.Running)) ≡ duty.Replace 2 2 ∷ []
 replace_where_dirty = refl
 
 no_replace_beside_flight : update (flight 0 (at_two 4 state.Starting)) ≡ []
 no_replace_beside_flight = refl
+
+-- no bound on how many are
+replace_all_at_once : update (flying (record update_config { parallelism = 0 }) (at_two 4 state.Starting))
+    ≡ duty.Replace 2 2 ∷ []
+replace_all_at_once = refl
+
+-- kinds come before places
+swap_before_replace : update
+    (with_tasks (running_update (run status.Updating []))
+    (dirty 3 state.Running ∷ slot_two (dirty 4 state.Running) ∷ slot_two (at_two 5 state.Running) ∷ []))
+    ≡ duty.Swap 2 2 ∷ duty.Replace 2 1 ∷ []
+swap_before_replace = refl
 
 -- running since 950, with a delay of 50
 replace_after_delay : update (flight 50 (record (at_two 4 state.Running) { since = 950 })) ≡ duty.Replace 2 2 ∷ []
@@ -239,6 +308,12 @@ finish_after_monitor = refl
 
 no_finish_within_monitor : update (watched 1029 (running_update (run status.Updating (item 1000 ∷ [])))) ≡ []
 no_finish_within_monitor = refl
+
+-- the failed run doesn't end as if it had gone well
+no_finish_beside_fail : update (record (watched 1030 (running_update (run status.Updating (item 1000 ∷ [])))) {
+  tasks = at_two 3 state.Running ∷ broken state.Rejected 929 ∷ [];
+}) ≡ duty.Fail 2 ∷ []
+no_finish_beside_fail = refl
 
 -- a run to an earlier template ends too, where no place is dirty
 finish_of_earlier : update

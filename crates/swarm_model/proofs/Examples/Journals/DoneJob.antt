@@ -1,91 +1,48 @@
 -- A job of three tasks, two at a time.
-use Rattle.std.specs.Prelude.{List, None, Some, [], codes, false, refl, true, ◌∷◌, ◌≡◌}
+use Rattle.std.specs.Prelude.{List, None, Some, [], codes, refl, true, ◌∷◌, ◌≡◌}
 use Rattle.swarm_model.proofs.Examples.Audit.{IsPlayed, Told, asked, did, entries_of, played}
 use Rattle.swarm_model.proofs.Examples.LawTests.{laws_hold}
+use Rattle.swarm_model.proofs.Examples.Usual.{agent_row, assigned, draft, executor_row, made, node_row, service_row, session_row, task_row, task_seen, ticks}
+use Rattle.swarm_model.proofs.Examples.Words.{one}
 use Rattle.swarm_model.specs.Laws.Matches.{Matches}
 use Rattle.swarm_model.specs.Script.{Asked, Asks, Settles, Waits}
 use Rattle.swarm_model.specs.Serial.{serial}
-use Rattle.swarm_objects.specs.World.{World, empty_world}
-use Rattle.swarm_objects.specs.declared.agents.AgentMode.TheVariants as agent_mode
+use Rattle.swarm_objects.specs.Defaults.{usual_node, usual_spec, usual_template, usual_workload}
+use Rattle.swarm_objects.specs.World.{World, empty_tables, empty_world}
 use Rattle.swarm_objects.specs.declared.calls.Call.TheVariants as call
 use Rattle.swarm_objects.specs.declared.calls.Entry.{Entry}
 use Rattle.swarm_objects.specs.declared.calls.Op.TheVariants as op
 use Rattle.swarm_objects.specs.declared.calls.Query.TheVariants as query
 use Rattle.swarm_objects.specs.declared.duties.Duty.TheVariants as duty
 use Rattle.swarm_objects.specs.declared.duties.Settle.TheVariants as settle
-use Rattle.swarm_objects.specs.declared.nodes.Availability.TheVariants as availability
-use Rattle.swarm_objects.specs.declared.nodes.NodeDraft.{NodeDraft}
-use Rattle.swarm_objects.specs.declared.nodes.NodeRole.TheVariants as node_role
-use Rattle.swarm_objects.specs.declared.nodes.NodeState.TheVariants as node_state
 use Rattle.swarm_objects.specs.declared.replies.Reply.TheVariants as reply
 use Rattle.swarm_objects.specs.declared.replies.ViewReply.TheVariants as view
-use Rattle.swarm_objects.specs.declared.services.FailureAction.TheVariants as action
 use Rattle.swarm_objects.specs.declared.services.Mode.TheVariants as mode
 use Rattle.swarm_objects.specs.declared.services.ServiceSpec.{ServiceSpec}
-use Rattle.swarm_objects.specs.declared.services.UpdateOrder.TheVariants as order
 use Rattle.swarm_objects.specs.declared.tasks.Closed.TheVariants as closed
 use Rattle.swarm_objects.specs.declared.tasks.Desired.TheVariants as desired
-use Rattle.swarm_objects.specs.declared.tasks.Note.TheVariants as note
 use Rattle.swarm_objects.specs.declared.tasks.Place.TheVariants.{Slot}
 use Rattle.swarm_objects.specs.declared.tasks.TaskState.TheVariants as state
 use Rattle.swarm_objects.specs.declared.templates.End.TheVariants as end
-use Rattle.swarm_objects.specs.declared.templates.RestartCondition.TheVariants as condition
 use Rattle.swarm_objects.specs.declared.templates.Template.{Template}
 use Rattle.swarm_objects.specs.declared.templates.Workload.{Workload}
 use Rattle.swarm_objects.specs.declared.views.NoteShown.TheVariants as note_shown
 use Rattle.swarm_objects.specs.declared.views.PlaceShown.TheVariants as place_shown
-use Rattle.swarm_objects.specs.declared.views.Shown.TheVariants as by
-
-abbrev draft_1 : NodeDraft
-draft_1 = record {
-  labels = [];
-  role = node_role.Worker;
-  availability = availability.Active;
-  cpu = 4000;
-  mem = 8589934592;
-  os = codes "linux";
-  arch = codes "amd64";
-  engine = [];
-  remote = false;
-}
 
 abbrev workload_1 : Workload
-workload_1 = record { prepare = 1; start = 1; stop = 1; end = end.Exit 5 0 }
+workload_1 = record usual_workload { end = end.Exit 5 0 }
 
 abbrev template_1 : Template
-template_1 = record {
-  workload = workload_1;
-  cpu = 0;
-  mem = 0;
-  constraints = [];
-  spread = [];
-  platforms = [];
-  max_replicas = 0;
-  networks = [];
-  host_ports = [];
-  restart = record { condition = condition.Any; delay = 5000; max_attempts = 0; window = 0 };
-}
+template_1 = record usual_template { workload = workload_1 }
 
 abbrev spec_1 : ServiceSpec
-spec_1 = record {
-  mode = mode.Job 2 3;
-  template = template_1;
-  ports = [];
-  update = record {
-    parallelism = 1;
-    delay = 0;
-    monitor = 5000;
-    action = action.Pause;
-    ratio = 0;
-    order = order.StopFirst;
-  };
-}
+spec_1 = record usual_spec { mode = mode.Job 2 3; template = template_1 }
 
 -- the script
 abbrev lines : List Asked
 lines =
-    Asks (call.Txn (op.CreateNode (codes "n1") draft_1 ∷ []))
-    ∷ Asks (call.Txn (op.CreateService (codes "batch") (record { spec = spec_1; networks = [] }) ∷ []))
+    Asks (one (op.CreateNode (codes "n1") usual_node))
+    ∷ Asks (one (op.CreateService (codes "batch") (draft spec_1)))
     ∷ Waits 100
     ∷ Settles 100000
     ∷ Asks (call.View (query.ListTasks None))
@@ -93,9 +50,8 @@ lines =
 
 abbrev pub journal : List Told
 journal =
-    asked 0 (call.Txn (op.CreateNode (codes "n1") draft_1 ∷ [])) (reply.Txn (1 ∷ []))
-    ∷ asked 0 (call.Txn (op.CreateService (codes "batch") (record { spec = spec_1; networks = [] }) ∷ []))
-    (reply.Txn (2 ∷ []))
+    asked 0 (one (op.CreateNode (codes "n1") usual_node)) (made 1)
+    ∷ asked 0 (one (op.CreateService (codes "batch") (draft spec_1))) (made 2)
     ∷ did 0 (duty.JobCreate 2 0)
     ∷ did 0 (duty.JobCreate 2 1)
     ∷ did 0 (duty.Address 3)
@@ -111,19 +67,19 @@ journal =
     ∷ did 0 (duty.Exec 1 4)
     ∷ did 0 (duty.Report 1 3)
     ∷ did 0 (duty.Report 1 4)
-    ∷ asked 0 (call.Tick 1) reply.Ticked
+    ∷ ticks 1
     ∷ did 0 (duty.Exec 1 3)
     ∷ did 0 (duty.Exec 1 3)
     ∷ did 0 (duty.Exec 1 4)
     ∷ did 0 (duty.Exec 1 4)
     ∷ did 0 (duty.Report 1 3)
     ∷ did 0 (duty.Report 1 4)
-    ∷ asked 0 (call.Tick 1) reply.Ticked
+    ∷ ticks 1
     ∷ did 0 (duty.Exec 1 3)
     ∷ did 0 (duty.Exec 1 4)
     ∷ did 0 (duty.Report 1 3)
     ∷ did 0 (duty.Report 1 4)
-    ∷ asked 0 (call.Tick 5) reply.Ticked
+    ∷ ticks 5
     ∷ did 0 (duty.Exec 1 3)
     ∷ did 0 (duty.Exec 1 4)
     ∷ did 0 (duty.Report 1 3)
@@ -139,46 +95,31 @@ journal =
     ∷ did 0 (duty.Pull 1)
     ∷ did 0 (duty.Apply 1)
     ∷ did 0 (duty.Report 1 6)
-    ∷ asked 0 (call.Tick 1) reply.Ticked
+    ∷ ticks 1
     ∷ did 0 (duty.Exec 1 6)
     ∷ did 0 (duty.Exec 1 6)
     ∷ did 0 (duty.Report 1 6)
-    ∷ asked 0 (call.Tick 1) reply.Ticked
+    ∷ ticks 1
     ∷ did 0 (duty.Exec 1 6)
     ∷ did 0 (duty.Report 1 6)
-    ∷ asked 0 (call.Tick 5) reply.Ticked
+    ∷ ticks 5
     ∷ did 0 (duty.Exec 1 6)
     ∷ did 0 (duty.Report 1 6)
     ∷ did 0 (duty.Restart 6)
     ∷ did 0 (duty.Pull 1)
     ∷ did 0 (duty.Apply 1)
-    ∷ asked 0 (call.Tick 86) reply.Ticked
+    ∷ ticks 86
     ∷ asked 0 (call.Settle 100000) (reply.Settle 100000 settle.Settled)
     ∷ asked 0 (call.View (query.ListTasks None)) (reply.View (view.Tasks (
-    record {
-      id = 3;
-      service = by.Name (codes "batch");
-      place = place_shown.Slot 0;
-      node = Some (by.Name (codes "n1"));
-      state = state.Complete;
+    record (task_seen 3 (codes "batch") (place_shown.Slot 0) (codes "n1") state.Complete) {
       desired = desired.Shutdown;
       note = note_shown.Closed closed.Done;
     }
-    ∷ record {
-      id = 4;
-      service = by.Name (codes "batch");
-      place = place_shown.Slot 1;
-      node = Some (by.Name (codes "n1"));
-      state = state.Complete;
+    ∷ record (task_seen 4 (codes "batch") (place_shown.Slot 1) (codes "n1") state.Complete) {
       desired = desired.Shutdown;
       note = note_shown.Closed closed.Done;
     }
-    ∷ record {
-      id = 6;
-      service = by.Name (codes "batch");
-      place = place_shown.Slot 2;
-      node = Some (by.Name (codes "n1"));
-      state = state.Complete;
+    ∷ record (task_seen 6 (codes "batch") (place_shown.Slot 2) (codes "n1") state.Complete) {
       desired = desired.Shutdown;
       note = note_shown.Closed closed.Done;
     }
@@ -187,90 +128,31 @@ journal =
     ∷ []
 
 abbrev pub world : World
-world = record {
+world = record empty_world {
   entries = 62;
-  tables = record {
+  tables = record empty_tables {
     clock = 100;
     next_id = 7;
-    nodes =
-        record {
-          id = 1;
-          version = 9;
-          name = codes "n1";
-          labels = [];
-          role = node_role.Worker;
-          availability = availability.Active;
-          state = node_state.Ready;
-          down_since = 0;
-          cpu = 4000;
-          mem = 8589934592;
-          os = codes "linux";
-          arch = codes "amd64";
-          engine = [];
-          remote = false;
-        }
-        ∷ [];
-    services =
-        record {
-          id = 2;
-          version = 2;
-          name = codes "batch";
-          spec = spec_1;
-          previous = None;
-          template_version = 2;
-          rolling_back = false;
-          iteration = 0;
-          numbers = [];
-          run = None;
-        }
-        ∷ [];
+    nodes = node_row 1 9 (codes "n1") usual_node ∷ [];
+    services = service_row 2 2 (codes "batch") spec_1 ∷ [];
     tasks =
-        record {
-          id = 3;
-          version = 34;
-          service = 2;
-          place = Slot 0;
-          iteration = 0;
-          template = template_1;
-          born = 2;
+        record (task_row 3 34 2 2 (Slot 0) template_1) {
           goal = desired.Complete;
           node = Some 1;
           state = state.Complete;
           since = 7;
           desired = desired.Shutdown;
-          created = 0;
-          raise_at = 0;
-          addresses = [];
-          note = note.Empty;
           closed = Some closed.Done;
         }
-        ∷ record {
-          id = 4;
-          version = 42;
-          service = 2;
-          place = Slot 1;
-          iteration = 0;
-          template = template_1;
-          born = 2;
+        ∷ record (task_row 4 42 2 2 (Slot 1) template_1) {
           goal = desired.Complete;
           node = Some 1;
           state = state.Complete;
           since = 7;
           desired = desired.Shutdown;
-          created = 0;
-          raise_at = 0;
-          addresses = [];
-          note = note.Empty;
           closed = Some closed.Done;
         }
-        ∷ record {
-          id = 6;
-          version = 56;
-          service = 2;
-          place = Slot 2;
-          iteration = 0;
-          template = template_1;
-          born = 2;
+        ∷ record (task_row 6 56 2 2 (Slot 2) template_1) {
           goal = desired.Complete;
           node = Some 1;
           state = state.Complete;
@@ -278,69 +160,29 @@ world = record {
           desired = desired.Shutdown;
           created = 7;
           raise_at = 7;
-          addresses = [];
-          note = note.Empty;
           closed = Some closed.Done;
         }
         ∷ [];
-    networks = [];
-    attempts = [];
-    sessions = record { node = 1; session = record { id = 5; deadline = 15000; beat = 0 } } ∷ [];
-    settings = record { heartbeat = 5000; orphan = 86400000; history = 5 };
+    sessions = session_row 1 5 15000 0 ∷ [];
   };
   sent =
       record {
         node = 1;
         count = 4;
         tasks =
-            record { task = 3; desired = desired.Shutdown; workload = workload_1 }
-            ∷ record { task = 4; desired = desired.Shutdown; workload = workload_1 }
-            ∷ record { task = 6; desired = desired.Shutdown; workload = workload_1 }
+            assigned 3 desired.Shutdown workload_1
+            ∷ assigned 4 desired.Shutdown workload_1
+            ∷ assigned 6 desired.Shutdown workload_1
             ∷ [];
       }
       ∷ [];
   agents =
-      record {
-        node = 1;
-        mode = agent_mode.On;
-        inbox = None;
-        applied = 4;
-        executors =
-            record {
-              task = 3;
-              desired = desired.Shutdown;
-              workload = workload_1;
-              state = state.Complete;
-              since = 7;
-              stopping = None;
-              reported = Some state.Complete;
-              gone = false;
-            }
-            ∷ record {
-              task = 4;
-              desired = desired.Shutdown;
-              workload = workload_1;
-              state = state.Complete;
-              since = 7;
-              stopping = None;
-              reported = Some state.Complete;
-              gone = false;
-            }
-            ∷ record {
-              task = 6;
-              desired = desired.Shutdown;
-              workload = workload_1;
-              state = state.Complete;
-              since = 14;
-              stopping = None;
-              reported = Some state.Complete;
-              gone = false;
-            }
-            ∷ [];
-      }
+      agent_row 1 4 (
+      record (executor_row 3 workload_1 state.Complete 7) { desired = desired.Shutdown }
+      ∷ record (executor_row 4 workload_1 state.Complete 7) { desired = desired.Shutdown }
+      ∷ record (executor_row 6 workload_1 state.Complete 14) { desired = desired.Shutdown }
+      ∷ [])
       ∷ [];
-  watchers = [];
-  events = [];
   halted = true;
 }
 

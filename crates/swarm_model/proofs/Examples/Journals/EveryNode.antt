@@ -1,12 +1,14 @@
 -- A service on every node, and a node that leaves DRAIN.
-use Rattle.std.specs.Prelude.{List, None, Some, [], codes, false, refl, true, ◌∷◌, ◌≡◌}
+use Rattle.std.specs.Prelude.{List, None, Some, [], codes, refl, true, ◌∷◌, ◌≡◌}
 use Rattle.swarm_model.proofs.Examples.Audit.{IsPlayed, Told, asked, did, entries_of, played}
 use Rattle.swarm_model.proofs.Examples.LawTests.{laws_hold}
+use Rattle.swarm_model.proofs.Examples.Usual.{agent_row, assigned, draft, executor_row, made, node_row, service_row, session_row, task_row, task_seen, ticks}
+use Rattle.swarm_model.proofs.Examples.Words.{one}
 use Rattle.swarm_model.specs.Laws.Matches.{Matches}
 use Rattle.swarm_model.specs.Script.{Asked, Asks, Settles, Waits}
 use Rattle.swarm_model.specs.Serial.{serial}
-use Rattle.swarm_objects.specs.World.{World, empty_world}
-use Rattle.swarm_objects.specs.declared.agents.AgentMode.TheVariants as agent_mode
+use Rattle.swarm_objects.specs.Defaults.{usual_node, usual_spec, usual_template, usual_workload}
+use Rattle.swarm_objects.specs.World.{World, empty_tables, empty_world}
 use Rattle.swarm_objects.specs.declared.calls.Call.TheVariants as call
 use Rattle.swarm_objects.specs.declared.calls.Entry.{Entry}
 use Rattle.swarm_objects.specs.declared.calls.Op.TheVariants as op
@@ -16,101 +18,40 @@ use Rattle.swarm_objects.specs.declared.duties.Settle.TheVariants as settle
 use Rattle.swarm_objects.specs.declared.nodes.Availability.TheVariants as availability
 use Rattle.swarm_objects.specs.declared.nodes.NodeDraft.{NodeDraft}
 use Rattle.swarm_objects.specs.declared.nodes.NodeRole.TheVariants as node_role
-use Rattle.swarm_objects.specs.declared.nodes.NodeState.TheVariants as node_state
 use Rattle.swarm_objects.specs.declared.replies.Reply.TheVariants as reply
 use Rattle.swarm_objects.specs.declared.replies.ViewReply.TheVariants as view
-use Rattle.swarm_objects.specs.declared.services.FailureAction.TheVariants as action
 use Rattle.swarm_objects.specs.declared.services.Mode.TheVariants as mode
 use Rattle.swarm_objects.specs.declared.services.ServiceSpec.{ServiceSpec}
-use Rattle.swarm_objects.specs.declared.services.UpdateOrder.TheVariants as order
 use Rattle.swarm_objects.specs.declared.tasks.Desired.TheVariants as desired
-use Rattle.swarm_objects.specs.declared.tasks.Note.TheVariants as note
 use Rattle.swarm_objects.specs.declared.tasks.Place.TheVariants.{On}
 use Rattle.swarm_objects.specs.declared.tasks.TaskState.TheVariants as state
-use Rattle.swarm_objects.specs.declared.templates.End.TheVariants as end
-use Rattle.swarm_objects.specs.declared.templates.RestartCondition.TheVariants as condition
-use Rattle.swarm_objects.specs.declared.templates.Template.{Template}
-use Rattle.swarm_objects.specs.declared.templates.Workload.{Workload}
-use Rattle.swarm_objects.specs.declared.views.NoteShown.TheVariants as note_shown
 use Rattle.swarm_objects.specs.declared.views.PlaceShown.TheVariants as place_shown
 use Rattle.swarm_objects.specs.declared.views.Shown.TheVariants as by
 
-abbrev draft_1 : NodeDraft
-draft_1 = record {
-  labels = [];
-  role = node_role.Worker;
-  availability = availability.Active;
-  cpu = 4000;
-  mem = 8589934592;
-  os = codes "linux";
-  arch = codes "amd64";
-  engine = [];
-  remote = false;
-}
-
 abbrev draft_2 : NodeDraft
-draft_2 = record {
-  labels = [];
-  role = node_role.Worker;
-  availability = availability.Drain;
-  cpu = 4000;
-  mem = 8589934592;
-  os = codes "linux";
-  arch = codes "amd64";
-  engine = [];
-  remote = false;
-}
-
-abbrev workload_1 : Workload
-workload_1 = record { prepare = 1; start = 1; stop = 1; end = end.Never }
-
-abbrev template_1 : Template
-template_1 = record {
-  workload = workload_1;
-  cpu = 0;
-  mem = 0;
-  constraints = [];
-  spread = [];
-  platforms = [];
-  max_replicas = 0;
-  networks = [];
-  host_ports = [];
-  restart = record { condition = condition.Any; delay = 5000; max_attempts = 0; window = 0 };
-}
+draft_2 = record usual_node { availability = availability.Drain }
 
 abbrev spec_1 : ServiceSpec
-spec_1 = record {
-  mode = mode.Global;
-  template = template_1;
-  ports = [];
-  update = record {
-    parallelism = 1;
-    delay = 0;
-    monitor = 5000;
-    action = action.Pause;
-    ratio = 0;
-    order = order.StopFirst;
-  };
-}
+spec_1 = record usual_spec { mode = mode.Global }
 
 -- the script
 abbrev lines : List Asked
 lines =
-    Asks (call.Txn (op.CreateNode (codes "n1") draft_1 ∷ []))
-    ∷ Asks (call.Txn (op.CreateNode (codes "n2") draft_2 ∷ []))
+    Asks (one (op.CreateNode (codes "n1") usual_node))
+    ∷ Asks (one (op.CreateNode (codes "n2") draft_2))
     ∷ Settles 100000
-    ∷ Asks (call.Txn (op.CreateService (codes "agent") (record { spec = spec_1; networks = [] }) ∷ []))
+    ∷ Asks (one (op.CreateService (codes "agent") (draft spec_1)))
     ∷ Waits 10
     ∷ Asks (call.View (query.ListTasks None))
-    ∷ Asks (call.Txn (op.UpdateNode (codes "n2") None [] node_role.Worker availability.Active ∷ []))
+    ∷ Asks (one (op.UpdateNode (codes "n2") None [] node_role.Worker availability.Active))
     ∷ Waits 10
     ∷ Asks (call.View (query.ListTasks None))
     ∷ []
 
 abbrev pub journal : List Told
 journal =
-    asked 0 (call.Txn (op.CreateNode (codes "n1") draft_1 ∷ [])) (reply.Txn (1 ∷ []))
-    ∷ asked 0 (call.Txn (op.CreateNode (codes "n2") draft_2 ∷ [])) (reply.Txn (2 ∷ []))
+    asked 0 (one (op.CreateNode (codes "n1") usual_node)) (made 1)
+    ∷ asked 0 (one (op.CreateNode (codes "n2") draft_2)) (made 2)
     ∷ did 0 (duty.Register 1)
     ∷ did 0 (duty.Pull 1)
     ∷ did 0 (duty.Apply 1)
@@ -118,8 +59,7 @@ journal =
     ∷ did 0 (duty.Pull 2)
     ∷ did 0 (duty.Apply 2)
     ∷ asked 0 (call.Settle 100000) (reply.Settle 100000 settle.Settled)
-    ∷ asked 0 (call.Txn (op.CreateService (codes "agent") (record { spec = spec_1; networks = [] }) ∷ []))
-    (reply.Txn (5 ∷ []))
+    ∷ asked 0 (one (op.CreateService (codes "agent") (draft spec_1))) (made 5)
     ∷ did 0 (duty.GlobalCreate 5 1)
     ∷ did 0 (duty.Address 6)
     ∷ did 0 (duty.Place 6 1)
@@ -127,27 +67,17 @@ journal =
     ∷ did 0 (duty.Apply 1)
     ∷ did 0 (duty.Exec 1 6)
     ∷ did 0 (duty.Report 1 6)
-    ∷ asked 0 (call.Tick 1) reply.Ticked
+    ∷ ticks 1
     ∷ did 0 (duty.Exec 1 6)
     ∷ did 0 (duty.Exec 1 6)
     ∷ did 0 (duty.Report 1 6)
-    ∷ asked 0 (call.Tick 1) reply.Ticked
+    ∷ ticks 1
     ∷ did 0 (duty.Exec 1 6)
     ∷ did 0 (duty.Report 1 6)
-    ∷ asked 0 (call.Tick 8) reply.Ticked
+    ∷ ticks 8
     ∷ asked 0 (call.View (query.ListTasks None)) (reply.View (view.Tasks (
-    record {
-      id = 6;
-      service = by.Name (codes "agent");
-      place = place_shown.On (by.Name (codes "n1"));
-      node = Some (by.Name (codes "n1"));
-      state = state.Running;
-      desired = desired.Running;
-      note = note_shown.Empty;
-    }
-    ∷ [])))
-    ∷ asked 0 (call.Txn (op.UpdateNode (codes "n2") None [] node_role.Worker availability.Active ∷ []))
-    (reply.Txn (2 ∷ []))
+    task_seen 6 (codes "agent") (place_shown.On (by.Name (codes "n1"))) (codes "n1") state.Running ∷ [])))
+    ∷ asked 0 (one (op.UpdateNode (codes "n2") None [] node_role.Worker availability.Active)) (made 2)
     ∷ did 0 (duty.GlobalCreate 5 2)
     ∷ did 0 (duty.Address 7)
     ∷ did 0 (duty.Place 7 2)
@@ -155,183 +85,49 @@ journal =
     ∷ did 0 (duty.Apply 2)
     ∷ did 0 (duty.Exec 2 7)
     ∷ did 0 (duty.Report 2 7)
-    ∷ asked 0 (call.Tick 1) reply.Ticked
+    ∷ ticks 1
     ∷ did 0 (duty.Exec 2 7)
     ∷ did 0 (duty.Exec 2 7)
     ∷ did 0 (duty.Report 2 7)
-    ∷ asked 0 (call.Tick 1) reply.Ticked
+    ∷ ticks 1
     ∷ did 0 (duty.Exec 2 7)
     ∷ did 0 (duty.Report 2 7)
-    ∷ asked 0 (call.Tick 8) reply.Ticked
+    ∷ ticks 8
     ∷ asked 0 (call.View (query.ListTasks None)) (reply.View (view.Tasks (
-    record {
-      id = 6;
-      service = by.Name (codes "agent");
-      place = place_shown.On (by.Name (codes "n1"));
-      node = Some (by.Name (codes "n1"));
-      state = state.Running;
-      desired = desired.Running;
-      note = note_shown.Empty;
-    }
-    ∷ record {
-      id = 7;
-      service = by.Name (codes "agent");
-      place = place_shown.On (by.Name (codes "n2"));
-      node = Some (by.Name (codes "n2"));
-      state = state.Running;
-      desired = desired.Running;
-      note = note_shown.Empty;
-    }
+    task_seen 6 (codes "agent") (place_shown.On (by.Name (codes "n1"))) (codes "n1") state.Running
+    ∷ task_seen 7 (codes "agent") (place_shown.On (by.Name (codes "n2"))) (codes "n2") state.Running
     ∷ [])))
     ∷ asked 0 call.Halt reply.HaltDone
     ∷ []
 
 abbrev pub world : World
-world = record {
+world = record empty_world {
   entries = 44;
-  tables = record {
+  tables = record empty_tables {
     clock = 20;
     next_id = 8;
-    nodes =
-        record {
-          id = 1;
-          version = 3;
-          name = codes "n1";
-          labels = [];
-          role = node_role.Worker;
-          availability = availability.Active;
-          state = node_state.Ready;
-          down_since = 0;
-          cpu = 4000;
-          mem = 8589934592;
-          os = codes "linux";
-          arch = codes "amd64";
-          engine = [];
-          remote = false;
-        }
-        ∷ record {
-          id = 2;
-          version = 27;
-          name = codes "n2";
-          labels = [];
-          role = node_role.Worker;
-          availability = availability.Active;
-          state = node_state.Ready;
-          down_since = 0;
-          cpu = 4000;
-          mem = 8589934592;
-          os = codes "linux";
-          arch = codes "amd64";
-          engine = [];
-          remote = false;
-        }
-        ∷ [];
-    services =
-        record {
-          id = 5;
-          version = 10;
-          name = codes "agent";
-          spec = spec_1;
-          previous = None;
-          template_version = 10;
-          rolling_back = false;
-          iteration = 0;
-          numbers = [];
-          run = None;
-        }
-        ∷ [];
+    nodes = node_row 1 3 (codes "n1") usual_node ∷ node_row 2 27 (codes "n2") usual_node ∷ [];
+    services = service_row 5 10 (codes "agent") spec_1 ∷ [];
     tasks =
-        record {
-          id = 6;
-          version = 24;
-          service = 5;
-          place = On 1;
-          iteration = 0;
-          template = template_1;
-          born = 10;
-          goal = desired.Running;
-          node = Some 1;
-          state = state.Running;
-          since = 2;
-          desired = desired.Running;
-          created = 0;
-          raise_at = 0;
-          addresses = [];
-          note = note.Empty;
-          closed = None;
-        }
-        ∷ record {
-          id = 7;
-          version = 41;
-          service = 5;
-          place = On 2;
-          iteration = 0;
-          template = template_1;
-          born = 10;
-          goal = desired.Running;
+        record (task_row 6 24 5 10 (On 1) usual_template) { node = Some 1; state = state.Running; since = 2 }
+        ∷ record (task_row 7 41 5 10 (On 2) usual_template) {
           node = Some 2;
           state = state.Running;
           since = 12;
-          desired = desired.Running;
           created = 10;
           raise_at = 10;
-          addresses = [];
-          note = note.Empty;
-          closed = None;
         }
         ∷ [];
-    networks = [];
-    attempts = [];
-    sessions =
-        record { node = 1; session = record { id = 3; deadline = 15000; beat = 0 } }
-        ∷ record { node = 2; session = record { id = 4; deadline = 15000; beat = 0 } }
-        ∷ [];
-    settings = record { heartbeat = 5000; orphan = 86400000; history = 5 };
+    sessions = session_row 1 3 15000 0 ∷ session_row 2 4 15000 0 ∷ [];
   };
   sent =
-      record { node = 1; count = 2; tasks = record { task = 6; desired = desired.Running; workload = workload_1 } ∷ [] }
-      ∷ record { node = 2; count = 2; tasks = record { task = 7; desired = desired.Running; workload = workload_1 } ∷ [] }
+      record { node = 1; count = 2; tasks = assigned 6 desired.Running usual_workload ∷ [] }
+      ∷ record { node = 2; count = 2; tasks = assigned 7 desired.Running usual_workload ∷ [] }
       ∷ [];
   agents =
-      record {
-        node = 1;
-        mode = agent_mode.On;
-        inbox = None;
-        applied = 2;
-        executors =
-            record {
-              task = 6;
-              desired = desired.Running;
-              workload = workload_1;
-              state = state.Running;
-              since = 2;
-              stopping = None;
-              reported = Some state.Running;
-              gone = false;
-            }
-            ∷ [];
-      }
-      ∷ record {
-        node = 2;
-        mode = agent_mode.On;
-        inbox = None;
-        applied = 2;
-        executors =
-            record {
-              task = 7;
-              desired = desired.Running;
-              workload = workload_1;
-              state = state.Running;
-              since = 12;
-              stopping = None;
-              reported = Some state.Running;
-              gone = false;
-            }
-            ∷ [];
-      }
+      agent_row 1 2 (executor_row 6 usual_workload state.Running 2 ∷ [])
+      ∷ agent_row 2 2 (executor_row 7 usual_workload state.Running 12 ∷ [])
       ∷ [];
-  watchers = [];
-  events = [];
   halted = true;
 }
 

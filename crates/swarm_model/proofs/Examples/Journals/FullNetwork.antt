@@ -1,133 +1,60 @@
 -- Six replicas on a network with five free addresses.
-use Rattle.std.specs.Prelude.{List, None, Some, [], codes, false, refl, true, ◌∷◌, ◌≡◌}
+use Rattle.std.specs.Prelude.{List, None, Some, [], codes, refl, true, ◌∷◌, ◌≡◌}
 use Rattle.swarm_model.proofs.Examples.Audit.{IsPlayed, Told, asked, did, entries_of, played}
 use Rattle.swarm_model.proofs.Examples.LawTests.{laws_hold}
+use Rattle.swarm_model.proofs.Examples.Usual.{agent_row, assigned, executor_row, made, node_row, service_row, session_row, task_row, task_seen, ticks}
+use Rattle.swarm_model.proofs.Examples.Words.{one}
 use Rattle.swarm_model.specs.Laws.Matches.{Matches}
 use Rattle.swarm_model.specs.Script.{Asked, Asks, Settles, Waits}
 use Rattle.swarm_model.specs.Serial.{serial}
-use Rattle.swarm_objects.specs.World.{World, empty_world}
-use Rattle.swarm_objects.specs.declared.agents.AgentMode.TheVariants as agent_mode
+use Rattle.swarm_objects.specs.Defaults.{usual_node, usual_spec, usual_template, usual_workload}
+use Rattle.swarm_objects.specs.World.{World, empty_tables, empty_world}
 use Rattle.swarm_objects.specs.declared.calls.Call.TheVariants as call
 use Rattle.swarm_objects.specs.declared.calls.Entry.{Entry}
 use Rattle.swarm_objects.specs.declared.calls.Op.TheVariants as op
 use Rattle.swarm_objects.specs.declared.calls.Query.TheVariants as query
 use Rattle.swarm_objects.specs.declared.duties.Duty.TheVariants as duty
 use Rattle.swarm_objects.specs.declared.duties.Settle.TheVariants as settle
-use Rattle.swarm_objects.specs.declared.nodes.Availability.TheVariants as availability
-use Rattle.swarm_objects.specs.declared.nodes.NodeDraft.{NodeDraft}
-use Rattle.swarm_objects.specs.declared.nodes.NodeRole.TheVariants as node_role
-use Rattle.swarm_objects.specs.declared.nodes.NodeState.TheVariants as node_state
 use Rattle.swarm_objects.specs.declared.replies.Refusal.TheVariants as refusal
 use Rattle.swarm_objects.specs.declared.replies.Reply.TheVariants as reply
 use Rattle.swarm_objects.specs.declared.replies.ViewReply.TheVariants as view
-use Rattle.swarm_objects.specs.declared.services.FailureAction.TheVariants as action
 use Rattle.swarm_objects.specs.declared.services.Mode.TheVariants as mode
 use Rattle.swarm_objects.specs.declared.services.ServiceSpec.{ServiceSpec}
-use Rattle.swarm_objects.specs.declared.services.UpdateOrder.TheVariants as order
 use Rattle.swarm_objects.specs.declared.tasks.Desired.TheVariants as desired
 use Rattle.swarm_objects.specs.declared.tasks.Note.TheVariants as note
 use Rattle.swarm_objects.specs.declared.tasks.Place.TheVariants.{Slot}
 use Rattle.swarm_objects.specs.declared.tasks.TaskState.TheVariants as state
-use Rattle.swarm_objects.specs.declared.templates.End.TheVariants as end
-use Rattle.swarm_objects.specs.declared.templates.RestartCondition.TheVariants as condition
 use Rattle.swarm_objects.specs.declared.templates.Template.{Template}
-use Rattle.swarm_objects.specs.declared.templates.Workload.{Workload}
 use Rattle.swarm_objects.specs.declared.views.NoteShown.TheVariants as note_shown
 use Rattle.swarm_objects.specs.declared.views.PlaceShown.TheVariants as place_shown
 use Rattle.swarm_objects.specs.declared.views.Shown.TheVariants as by
 
-abbrev draft_1 : NodeDraft
-draft_1 = record {
-  labels = [];
-  role = node_role.Worker;
-  availability = availability.Active;
-  cpu = 4000;
-  mem = 8589934592;
-  os = codes "linux";
-  arch = codes "amd64";
-  engine = [];
-  remote = false;
-}
-
-abbrev workload_1 : Workload
-workload_1 = record { prepare = 1; start = 1; stop = 1; end = end.Never }
-
-abbrev template_1 : Template
-template_1 = record {
-  workload = workload_1;
-  cpu = 0;
-  mem = 0;
-  constraints = [];
-  spread = [];
-  platforms = [];
-  max_replicas = 0;
-  networks = [];
-  host_ports = [];
-  restart = record { condition = condition.Any; delay = 5000; max_attempts = 0; window = 0 };
-}
-
 abbrev spec_1 : ServiceSpec
-spec_1 = record {
-  mode = mode.Replicated 6;
-  template = template_1;
-  ports = [];
-  update = record {
-    parallelism = 1;
-    delay = 0;
-    monitor = 5000;
-    action = action.Pause;
-    ratio = 0;
-    order = order.StopFirst;
-  };
-}
+spec_1 = record usual_spec { mode = mode.Replicated 6 }
 
 abbrev template_2 : Template
-template_2 = record {
-  workload = workload_1;
-  cpu = 0;
-  mem = 0;
-  constraints = [];
-  spread = [];
-  platforms = [];
-  max_replicas = 0;
-  networks = 2 ∷ [];
-  host_ports = [];
-  restart = record { condition = condition.Any; delay = 5000; max_attempts = 0; window = 0 };
-}
+template_2 = record usual_template { networks = 2 ∷ [] }
 
 abbrev spec_2 : ServiceSpec
-spec_2 = record {
-  mode = mode.Replicated 6;
-  template = template_2;
-  ports = [];
-  update = record {
-    parallelism = 1;
-    delay = 0;
-    monitor = 5000;
-    action = action.Pause;
-    ratio = 0;
-    order = order.StopFirst;
-  };
-}
+spec_2 = record usual_spec { mode = mode.Replicated 6; template = template_2 }
 
 -- the script
 abbrev lines : List Asked
 lines =
-    Asks (call.Txn (op.CreateNode (codes "n1") draft_1 ∷ []))
-    ∷ Asks (call.Txn (op.CreateNetwork (codes "lan") 167772416 29 ∷ []))
-    ∷ Asks (call.Txn (op.CreateService (codes "web") (record { spec = spec_1; networks = codes "lan" ∷ [] }) ∷ []))
+    Asks (one (op.CreateNode (codes "n1") usual_node))
+    ∷ Asks (one (op.CreateNetwork (codes "lan") 167772416 29))
+    ∷ Asks (one (op.CreateService (codes "web") (record { spec = spec_1; networks = codes "lan" ∷ [] })))
     ∷ Waits 10
     ∷ Settles 100000
-    ∷ Asks (call.Txn (op.RemoveNetwork (codes "lan") ∷ []))
+    ∷ Asks (one (op.RemoveNetwork (codes "lan")))
     ∷ Asks (call.View (query.ListTasks None))
     ∷ []
 
 abbrev pub journal : List Told
 journal =
-    asked 0 (call.Txn (op.CreateNode (codes "n1") draft_1 ∷ [])) (reply.Txn (1 ∷ []))
-    ∷ asked 0 (call.Txn (op.CreateNetwork (codes "lan") 167772416 29 ∷ [])) (reply.Txn (2 ∷ []))
-    ∷ asked 0 (call.Txn (op.CreateService (codes "web") (record { spec = spec_1; networks = codes "lan" ∷ [] }) ∷ []))
-    (reply.Txn (3 ∷ []))
+    asked 0 (one (op.CreateNode (codes "n1") usual_node)) (made 1)
+    ∷ asked 0 (one (op.CreateNetwork (codes "lan") 167772416 29)) (made 2)
+    ∷ asked 0 (one (op.CreateService (codes "web") (record { spec = spec_1; networks = codes "lan" ∷ [] }))) (made 3)
     ∷ did 0 (duty.ReplicatedCreate 3 1)
     ∷ did 0 (duty.ReplicatedCreate 3 2)
     ∷ did 0 (duty.ReplicatedCreate 3 3)
@@ -163,7 +90,7 @@ journal =
     ∷ did 0 (duty.Report 1 6)
     ∷ did 0 (duty.Report 1 7)
     ∷ did 0 (duty.Report 1 8)
-    ∷ asked 0 (call.Tick 1) reply.Ticked
+    ∷ ticks 1
     ∷ did 0 (duty.Exec 1 4)
     ∷ did 0 (duty.Exec 1 4)
     ∷ did 0 (duty.Exec 1 5)
@@ -179,7 +106,7 @@ journal =
     ∷ did 0 (duty.Report 1 6)
     ∷ did 0 (duty.Report 1 7)
     ∷ did 0 (duty.Report 1 8)
-    ∷ asked 0 (call.Tick 1) reply.Ticked
+    ∷ ticks 1
     ∷ did 0 (duty.Exec 1 4)
     ∷ did 0 (duty.Exec 1 5)
     ∷ did 0 (duty.Exec 1 6)
@@ -190,55 +117,15 @@ journal =
     ∷ did 0 (duty.Report 1 6)
     ∷ did 0 (duty.Report 1 7)
     ∷ did 0 (duty.Report 1 8)
-    ∷ asked 0 (call.Tick 8) reply.Ticked
+    ∷ ticks 8
     ∷ asked 0 (call.Settle 100000) (reply.Settle 100000 settle.Settled)
-    ∷ asked 0 (call.Txn (op.RemoveNetwork (codes "lan") ∷ [])) (reply.Refused (refusal.InUse 3))
+    ∷ asked 0 (one (op.RemoveNetwork (codes "lan"))) (reply.Refused (refusal.InUse 3))
     ∷ asked 0 (call.View (query.ListTasks None)) (reply.View (view.Tasks (
-    record {
-      id = 4;
-      service = by.Name (codes "web");
-      place = place_shown.Slot 1;
-      node = Some (by.Name (codes "n1"));
-      state = state.Running;
-      desired = desired.Running;
-      note = note_shown.Empty;
-    }
-    ∷ record {
-      id = 5;
-      service = by.Name (codes "web");
-      place = place_shown.Slot 2;
-      node = Some (by.Name (codes "n1"));
-      state = state.Running;
-      desired = desired.Running;
-      note = note_shown.Empty;
-    }
-    ∷ record {
-      id = 6;
-      service = by.Name (codes "web");
-      place = place_shown.Slot 3;
-      node = Some (by.Name (codes "n1"));
-      state = state.Running;
-      desired = desired.Running;
-      note = note_shown.Empty;
-    }
-    ∷ record {
-      id = 7;
-      service = by.Name (codes "web");
-      place = place_shown.Slot 4;
-      node = Some (by.Name (codes "n1"));
-      state = state.Running;
-      desired = desired.Running;
-      note = note_shown.Empty;
-    }
-    ∷ record {
-      id = 8;
-      service = by.Name (codes "web");
-      place = place_shown.Slot 5;
-      node = Some (by.Name (codes "n1"));
-      state = state.Running;
-      desired = desired.Running;
-      note = note_shown.Empty;
-    }
+    task_seen 4 (codes "web") (place_shown.Slot 1) (codes "n1") state.Running
+    ∷ task_seen 5 (codes "web") (place_shown.Slot 2) (codes "n1") state.Running
+    ∷ task_seen 6 (codes "web") (place_shown.Slot 3) (codes "n1") state.Running
+    ∷ task_seen 7 (codes "web") (place_shown.Slot 4) (codes "n1") state.Running
+    ∷ task_seen 8 (codes "web") (place_shown.Slot 5) (codes "n1") state.Running
     ∷ record {
       id = 9;
       service = by.Name (codes "web");
@@ -253,239 +140,71 @@ journal =
     ∷ []
 
 abbrev pub world : World
-world = record {
+world = record empty_world {
   entries = 70;
-  tables = record {
+  tables = record empty_tables {
     clock = 10;
     next_id = 11;
-    nodes =
-        record {
-          id = 1;
-          version = 21;
-          name = codes "n1";
-          labels = [];
-          role = node_role.Worker;
-          availability = availability.Active;
-          state = node_state.Ready;
-          down_since = 0;
-          cpu = 4000;
-          mem = 8589934592;
-          os = codes "linux";
-          arch = codes "amd64";
-          engine = [];
-          remote = false;
-        }
-        ∷ [];
-    services =
-        record {
-          id = 3;
-          version = 3;
-          name = codes "web";
-          spec = spec_2;
-          previous = None;
-          template_version = 3;
-          rolling_back = false;
-          iteration = 0;
-          numbers = [];
-          run = None;
-        }
-        ∷ [];
+    nodes = node_row 1 21 (codes "n1") usual_node ∷ [];
+    services = service_row 3 3 (codes "web") spec_2 ∷ [];
     tasks =
-        record {
-          id = 4;
-          version = 61;
-          service = 3;
-          place = Slot 1;
-          iteration = 0;
-          template = template_2;
-          born = 3;
-          goal = desired.Running;
+        record (task_row 4 61 3 3 (Slot 1) template_2) {
           node = Some 1;
           state = state.Running;
           since = 2;
-          desired = desired.Running;
-          created = 0;
-          raise_at = 0;
           addresses = record { network = 2; number = 167772418 } ∷ [];
-          note = note.Empty;
-          closed = None;
         }
-        ∷ record {
-          id = 5;
-          version = 62;
-          service = 3;
-          place = Slot 2;
-          iteration = 0;
-          template = template_2;
-          born = 3;
-          goal = desired.Running;
+        ∷ record (task_row 5 62 3 3 (Slot 2) template_2) {
           node = Some 1;
           state = state.Running;
           since = 2;
-          desired = desired.Running;
-          created = 0;
-          raise_at = 0;
           addresses = record { network = 2; number = 167772419 } ∷ [];
-          note = note.Empty;
-          closed = None;
         }
-        ∷ record {
-          id = 6;
-          version = 63;
-          service = 3;
-          place = Slot 3;
-          iteration = 0;
-          template = template_2;
-          born = 3;
-          goal = desired.Running;
+        ∷ record (task_row 6 63 3 3 (Slot 3) template_2) {
           node = Some 1;
           state = state.Running;
           since = 2;
-          desired = desired.Running;
-          created = 0;
-          raise_at = 0;
           addresses = record { network = 2; number = 167772420 } ∷ [];
-          note = note.Empty;
-          closed = None;
         }
-        ∷ record {
-          id = 7;
-          version = 64;
-          service = 3;
-          place = Slot 4;
-          iteration = 0;
-          template = template_2;
-          born = 3;
-          goal = desired.Running;
+        ∷ record (task_row 7 64 3 3 (Slot 4) template_2) {
           node = Some 1;
           state = state.Running;
           since = 2;
-          desired = desired.Running;
-          created = 0;
-          raise_at = 0;
           addresses = record { network = 2; number = 167772421 } ∷ [];
-          note = note.Empty;
-          closed = None;
         }
-        ∷ record {
-          id = 8;
-          version = 65;
-          service = 3;
-          place = Slot 5;
-          iteration = 0;
-          template = template_2;
-          born = 3;
-          goal = desired.Running;
+        ∷ record (task_row 8 65 3 3 (Slot 5) template_2) {
           node = Some 1;
           state = state.Running;
           since = 2;
-          desired = desired.Running;
-          created = 0;
-          raise_at = 0;
           addresses = record { network = 2; number = 167772422 } ∷ [];
-          note = note.Empty;
-          closed = None;
         }
-        ∷ record {
-          id = 9;
-          version = 15;
-          service = 3;
-          place = Slot 6;
-          iteration = 0;
-          template = template_2;
-          born = 3;
-          goal = desired.Running;
-          node = None;
-          state = state.New;
-          since = 0;
-          desired = desired.Running;
-          created = 0;
-          raise_at = 0;
-          addresses = [];
-          note = note.NoAddress 2;
-          closed = None;
-        }
+        ∷ record (task_row 9 15 3 3 (Slot 6) template_2) { note = note.NoAddress 2 }
         ∷ [];
     networks = record { id = 2; version = 2; name = codes "lan"; base = 167772416; length = 29 } ∷ [];
-    attempts = [];
-    sessions = record { node = 1; session = record { id = 10; deadline = 15000; beat = 0 } } ∷ [];
-    settings = record { heartbeat = 5000; orphan = 86400000; history = 5 };
+    sessions = session_row 1 10 15000 0 ∷ [];
   };
   sent =
       record {
         node = 1;
         count = 1;
         tasks =
-            record { task = 4; desired = desired.Running; workload = workload_1 }
-            ∷ record { task = 5; desired = desired.Running; workload = workload_1 }
-            ∷ record { task = 6; desired = desired.Running; workload = workload_1 }
-            ∷ record { task = 7; desired = desired.Running; workload = workload_1 }
-            ∷ record { task = 8; desired = desired.Running; workload = workload_1 }
+            assigned 4 desired.Running usual_workload
+            ∷ assigned 5 desired.Running usual_workload
+            ∷ assigned 6 desired.Running usual_workload
+            ∷ assigned 7 desired.Running usual_workload
+            ∷ assigned 8 desired.Running usual_workload
             ∷ [];
       }
       ∷ [];
   agents =
-      record {
-        node = 1;
-        mode = agent_mode.On;
-        inbox = None;
-        applied = 1;
-        executors =
-            record {
-              task = 4;
-              desired = desired.Running;
-              workload = workload_1;
-              state = state.Running;
-              since = 2;
-              stopping = None;
-              reported = Some state.Running;
-              gone = false;
-            }
-            ∷ record {
-              task = 5;
-              desired = desired.Running;
-              workload = workload_1;
-              state = state.Running;
-              since = 2;
-              stopping = None;
-              reported = Some state.Running;
-              gone = false;
-            }
-            ∷ record {
-              task = 6;
-              desired = desired.Running;
-              workload = workload_1;
-              state = state.Running;
-              since = 2;
-              stopping = None;
-              reported = Some state.Running;
-              gone = false;
-            }
-            ∷ record {
-              task = 7;
-              desired = desired.Running;
-              workload = workload_1;
-              state = state.Running;
-              since = 2;
-              stopping = None;
-              reported = Some state.Running;
-              gone = false;
-            }
-            ∷ record {
-              task = 8;
-              desired = desired.Running;
-              workload = workload_1;
-              state = state.Running;
-              since = 2;
-              stopping = None;
-              reported = Some state.Running;
-              gone = false;
-            }
-            ∷ [];
-      }
+      agent_row 1 1 (
+      executor_row 4 usual_workload state.Running 2
+      ∷ executor_row 5 usual_workload state.Running 2
+      ∷ executor_row 6 usual_workload state.Running 2
+      ∷ executor_row 7 usual_workload state.Running 2
+      ∷ executor_row 8 usual_workload state.Running 2
+      ∷ [])
       ∷ [];
-  watchers = [];
-  events = [];
   halted = true;
 }
 

@@ -1,91 +1,49 @@
 -- Five replicas on two nodes with room for two each.
-use Rattle.std.specs.Prelude.{List, None, Some, [], codes, false, refl, true, ◌∷◌, ◌≡◌}
+use Rattle.std.specs.Prelude.{List, None, Some, [], codes, refl, true, ◌∷◌, ◌≡◌}
 use Rattle.swarm_model.proofs.Examples.Audit.{IsPlayed, Told, asked, did, entries_of, played}
 use Rattle.swarm_model.proofs.Examples.LawTests.{laws_hold}
+use Rattle.swarm_model.proofs.Examples.Usual.{agent_row, assigned, draft, executor_row, made, node_row, service_row, session_row, task_row, task_seen, ticks}
+use Rattle.swarm_model.proofs.Examples.Words.{one}
 use Rattle.swarm_model.specs.Laws.Matches.{Matches}
 use Rattle.swarm_model.specs.Script.{Asked, Asks, Settles, Waits}
 use Rattle.swarm_model.specs.Serial.{serial}
-use Rattle.swarm_objects.specs.World.{World, empty_world}
-use Rattle.swarm_objects.specs.declared.agents.AgentMode.TheVariants as agent_mode
+use Rattle.swarm_objects.specs.Defaults.{usual_node, usual_spec, usual_template, usual_workload}
+use Rattle.swarm_objects.specs.World.{World, empty_tables, empty_world}
 use Rattle.swarm_objects.specs.declared.calls.Call.TheVariants as call
 use Rattle.swarm_objects.specs.declared.calls.Entry.{Entry}
 use Rattle.swarm_objects.specs.declared.calls.Op.TheVariants as op
 use Rattle.swarm_objects.specs.declared.calls.Query.TheVariants as query
 use Rattle.swarm_objects.specs.declared.duties.Duty.TheVariants as duty
 use Rattle.swarm_objects.specs.declared.duties.Settle.TheVariants as settle
-use Rattle.swarm_objects.specs.declared.nodes.Availability.TheVariants as availability
 use Rattle.swarm_objects.specs.declared.nodes.NodeDraft.{NodeDraft}
-use Rattle.swarm_objects.specs.declared.nodes.NodeRole.TheVariants as node_role
-use Rattle.swarm_objects.specs.declared.nodes.NodeState.TheVariants as node_state
 use Rattle.swarm_objects.specs.declared.replies.Reply.TheVariants as reply
 use Rattle.swarm_objects.specs.declared.replies.ViewReply.TheVariants as view
-use Rattle.swarm_objects.specs.declared.services.FailureAction.TheVariants as action
 use Rattle.swarm_objects.specs.declared.services.Mode.TheVariants as mode
 use Rattle.swarm_objects.specs.declared.services.ServiceSpec.{ServiceSpec}
-use Rattle.swarm_objects.specs.declared.services.UpdateOrder.TheVariants as order
 use Rattle.swarm_objects.specs.declared.tasks.Desired.TheVariants as desired
 use Rattle.swarm_objects.specs.declared.tasks.Note.TheVariants as note
 use Rattle.swarm_objects.specs.declared.tasks.Place.TheVariants.{Slot}
 use Rattle.swarm_objects.specs.declared.tasks.TaskState.TheVariants as state
-use Rattle.swarm_objects.specs.declared.templates.End.TheVariants as end
-use Rattle.swarm_objects.specs.declared.templates.RestartCondition.TheVariants as condition
 use Rattle.swarm_objects.specs.declared.templates.Template.{Template}
-use Rattle.swarm_objects.specs.declared.templates.Workload.{Workload}
 use Rattle.swarm_objects.specs.declared.views.NoteShown.TheVariants as note_shown
 use Rattle.swarm_objects.specs.declared.views.PlaceShown.TheVariants as place_shown
 use Rattle.swarm_objects.specs.declared.views.Shown.TheVariants as by
 
 abbrev draft_1 : NodeDraft
-draft_1 = record {
-  labels = [];
-  role = node_role.Worker;
-  availability = availability.Active;
-  cpu = 2000;
-  mem = 8589934592;
-  os = codes "linux";
-  arch = codes "amd64";
-  engine = [];
-  remote = false;
-}
-
-abbrev workload_1 : Workload
-workload_1 = record { prepare = 1; start = 1; stop = 1; end = end.Never }
+draft_1 = record usual_node { cpu = 2000 }
 
 abbrev template_1 : Template
-template_1 = record {
-  workload = workload_1;
-  cpu = 1000;
-  mem = 0;
-  constraints = [];
-  spread = [];
-  platforms = [];
-  max_replicas = 0;
-  networks = [];
-  host_ports = [];
-  restart = record { condition = condition.Any; delay = 5000; max_attempts = 0; window = 0 };
-}
+template_1 = record usual_template { cpu = 1000 }
 
 abbrev spec_1 : ServiceSpec
-spec_1 = record {
-  mode = mode.Replicated 5;
-  template = template_1;
-  ports = [];
-  update = record {
-    parallelism = 1;
-    delay = 0;
-    monitor = 5000;
-    action = action.Pause;
-    ratio = 0;
-    order = order.StopFirst;
-  };
-}
+spec_1 = record usual_spec { mode = mode.Replicated 5; template = template_1 }
 
 -- the script
 abbrev lines : List Asked
 lines =
-    Asks (call.Txn (op.CreateNode (codes "n1") draft_1 ∷ []))
-    ∷ Asks (call.Txn (op.CreateNode (codes "n2") draft_1 ∷ []))
-    ∷ Asks (call.Txn (op.CreateService (codes "web") (record { spec = spec_1; networks = [] }) ∷ []))
+    Asks (one (op.CreateNode (codes "n1") draft_1))
+    ∷ Asks (one (op.CreateNode (codes "n2") draft_1))
+    ∷ Asks (one (op.CreateService (codes "web") (draft spec_1)))
     ∷ Waits 10
     ∷ Settles 100000
     ∷ Asks (call.View (query.ListTasks None))
@@ -93,10 +51,9 @@ lines =
 
 abbrev pub journal : List Told
 journal =
-    asked 0 (call.Txn (op.CreateNode (codes "n1") draft_1 ∷ [])) (reply.Txn (1 ∷ []))
-    ∷ asked 0 (call.Txn (op.CreateNode (codes "n2") draft_1 ∷ [])) (reply.Txn (2 ∷ []))
-    ∷ asked 0 (call.Txn (op.CreateService (codes "web") (record { spec = spec_1; networks = [] }) ∷ []))
-    (reply.Txn (3 ∷ []))
+    asked 0 (one (op.CreateNode (codes "n1") draft_1)) (made 1)
+    ∷ asked 0 (one (op.CreateNode (codes "n2") draft_1)) (made 2)
+    ∷ asked 0 (one (op.CreateService (codes "web") (draft spec_1))) (made 3)
     ∷ did 0 (duty.ReplicatedCreate 3 1)
     ∷ did 0 (duty.ReplicatedCreate 3 2)
     ∷ did 0 (duty.ReplicatedCreate 3 3)
@@ -134,7 +91,7 @@ journal =
     ∷ did 0 (duty.Exec 2 7)
     ∷ did 0 (duty.Report 2 6)
     ∷ did 0 (duty.Report 2 7)
-    ∷ asked 0 (call.Tick 1) reply.Ticked
+    ∷ ticks 1
     ∷ did 0 (duty.Exec 1 4)
     ∷ did 0 (duty.Exec 1 4)
     ∷ did 0 (duty.Exec 1 5)
@@ -147,7 +104,7 @@ journal =
     ∷ did 0 (duty.Exec 2 7)
     ∷ did 0 (duty.Report 2 6)
     ∷ did 0 (duty.Report 2 7)
-    ∷ asked 0 (call.Tick 1) reply.Ticked
+    ∷ ticks 1
     ∷ did 0 (duty.Exec 1 4)
     ∷ did 0 (duty.Exec 1 5)
     ∷ did 0 (duty.Report 1 4)
@@ -156,45 +113,13 @@ journal =
     ∷ did 0 (duty.Exec 2 7)
     ∷ did 0 (duty.Report 2 6)
     ∷ did 0 (duty.Report 2 7)
-    ∷ asked 0 (call.Tick 8) reply.Ticked
+    ∷ ticks 8
     ∷ asked 0 (call.Settle 100000) (reply.Settle 100000 settle.Settled)
     ∷ asked 0 (call.View (query.ListTasks None)) (reply.View (view.Tasks (
-    record {
-      id = 4;
-      service = by.Name (codes "web");
-      place = place_shown.Slot 1;
-      node = Some (by.Name (codes "n1"));
-      state = state.Running;
-      desired = desired.Running;
-      note = note_shown.Empty;
-    }
-    ∷ record {
-      id = 5;
-      service = by.Name (codes "web");
-      place = place_shown.Slot 2;
-      node = Some (by.Name (codes "n1"));
-      state = state.Running;
-      desired = desired.Running;
-      note = note_shown.Empty;
-    }
-    ∷ record {
-      id = 6;
-      service = by.Name (codes "web");
-      place = place_shown.Slot 3;
-      node = Some (by.Name (codes "n2"));
-      state = state.Running;
-      desired = desired.Running;
-      note = note_shown.Empty;
-    }
-    ∷ record {
-      id = 7;
-      service = by.Name (codes "web");
-      place = place_shown.Slot 4;
-      node = Some (by.Name (codes "n2"));
-      state = state.Running;
-      desired = desired.Running;
-      note = note_shown.Empty;
-    }
+    task_seen 4 (codes "web") (place_shown.Slot 1) (codes "n1") state.Running
+    ∷ task_seen 5 (codes "web") (place_shown.Slot 2) (codes "n1") state.Running
+    ∷ task_seen 6 (codes "web") (place_shown.Slot 3) (codes "n2") state.Running
+    ∷ task_seen 7 (codes "web") (place_shown.Slot 4) (codes "n2") state.Running
     ∷ record {
       id = 8;
       service = by.Name (codes "web");
@@ -209,242 +134,43 @@ journal =
     ∷ []
 
 abbrev pub world : World
-world = record {
+world = record empty_world {
   entries = 66;
-  tables = record {
+  tables = record empty_tables {
     clock = 10;
     next_id = 11;
-    nodes =
-        record {
-          id = 1;
-          version = 19;
-          name = codes "n1";
-          labels = [];
-          role = node_role.Worker;
-          availability = availability.Active;
-          state = node_state.Ready;
-          down_since = 0;
-          cpu = 2000;
-          mem = 8589934592;
-          os = codes "linux";
-          arch = codes "amd64";
-          engine = [];
-          remote = false;
-        }
-        ∷ record {
-          id = 2;
-          version = 31;
-          name = codes "n2";
-          labels = [];
-          role = node_role.Worker;
-          availability = availability.Active;
-          state = node_state.Ready;
-          down_since = 0;
-          cpu = 2000;
-          mem = 8589934592;
-          os = codes "linux";
-          arch = codes "amd64";
-          engine = [];
-          remote = false;
-        }
-        ∷ [];
-    services =
-        record {
-          id = 3;
-          version = 3;
-          name = codes "web";
-          spec = spec_1;
-          previous = None;
-          template_version = 3;
-          rolling_back = false;
-          iteration = 0;
-          numbers = [];
-          run = None;
-        }
-        ∷ [];
+    nodes = node_row 1 19 (codes "n1") draft_1 ∷ node_row 2 31 (codes "n2") draft_1 ∷ [];
+    services = service_row 3 3 (codes "web") spec_1 ∷ [];
     tasks =
-        record {
-          id = 4;
-          version = 57;
-          service = 3;
-          place = Slot 1;
-          iteration = 0;
-          template = template_1;
-          born = 3;
-          goal = desired.Running;
-          node = Some 1;
-          state = state.Running;
-          since = 2;
-          desired = desired.Running;
-          created = 0;
-          raise_at = 0;
-          addresses = [];
-          note = note.Empty;
-          closed = None;
-        }
-        ∷ record {
-          id = 5;
-          version = 58;
-          service = 3;
-          place = Slot 2;
-          iteration = 0;
-          template = template_1;
-          born = 3;
-          goal = desired.Running;
-          node = Some 1;
-          state = state.Running;
-          since = 2;
-          desired = desired.Running;
-          created = 0;
-          raise_at = 0;
-          addresses = [];
-          note = note.Empty;
-          closed = None;
-        }
-        ∷ record {
-          id = 6;
-          version = 61;
-          service = 3;
-          place = Slot 3;
-          iteration = 0;
-          template = template_1;
-          born = 3;
-          goal = desired.Running;
-          node = Some 2;
-          state = state.Running;
-          since = 2;
-          desired = desired.Running;
-          created = 0;
-          raise_at = 0;
-          addresses = [];
-          note = note.Empty;
-          closed = None;
-        }
-        ∷ record {
-          id = 7;
-          version = 62;
-          service = 3;
-          place = Slot 4;
-          iteration = 0;
-          template = template_1;
-          born = 3;
-          goal = desired.Running;
-          node = Some 2;
-          state = state.Running;
-          since = 2;
-          desired = desired.Running;
-          created = 0;
-          raise_at = 0;
-          addresses = [];
-          note = note.Empty;
-          closed = None;
-        }
-        ∷ record {
-          id = 8;
-          version = 34;
-          service = 3;
-          place = Slot 5;
-          iteration = 0;
-          template = template_1;
-          born = 3;
-          goal = desired.Running;
-          node = None;
+        record (task_row 4 57 3 3 (Slot 1) template_1) { node = Some 1; state = state.Running; since = 2 }
+        ∷ record (task_row 5 58 3 3 (Slot 2) template_1) { node = Some 1; state = state.Running; since = 2 }
+        ∷ record (task_row 6 61 3 3 (Slot 3) template_1) { node = Some 2; state = state.Running; since = 2 }
+        ∷ record (task_row 7 62 3 3 (Slot 4) template_1) { node = Some 2; state = state.Running; since = 2 }
+        ∷ record (task_row 8 34 3 3 (Slot 5) template_1) {
           state = state.Pending;
-          since = 0;
-          desired = desired.Running;
-          created = 0;
-          raise_at = 0;
-          addresses = [];
           note = note.Filters (0 ∷ 2 ∷ 0 ∷ 0 ∷ 0 ∷ 0 ∷ []);
-          closed = None;
         }
         ∷ [];
-    networks = [];
-    attempts = [];
-    sessions =
-        record { node = 1; session = record { id = 9; deadline = 15000; beat = 0 } }
-        ∷ record { node = 2; session = record { id = 10; deadline = 15000; beat = 0 } }
-        ∷ [];
-    settings = record { heartbeat = 5000; orphan = 86400000; history = 5 };
+    sessions = session_row 1 9 15000 0 ∷ session_row 2 10 15000 0 ∷ [];
   };
   sent =
       record {
         node = 1;
         count = 1;
-        tasks =
-            record { task = 4; desired = desired.Running; workload = workload_1 }
-            ∷ record { task = 5; desired = desired.Running; workload = workload_1 }
-            ∷ [];
+        tasks = assigned 4 desired.Running usual_workload ∷ assigned 5 desired.Running usual_workload ∷ [];
       }
       ∷ record {
         node = 2;
         count = 1;
-        tasks =
-            record { task = 6; desired = desired.Running; workload = workload_1 }
-            ∷ record { task = 7; desired = desired.Running; workload = workload_1 }
-            ∷ [];
+        tasks = assigned 6 desired.Running usual_workload ∷ assigned 7 desired.Running usual_workload ∷ [];
       }
       ∷ [];
   agents =
-      record {
-        node = 1;
-        mode = agent_mode.On;
-        inbox = None;
-        applied = 1;
-        executors =
-            record {
-              task = 4;
-              desired = desired.Running;
-              workload = workload_1;
-              state = state.Running;
-              since = 2;
-              stopping = None;
-              reported = Some state.Running;
-              gone = false;
-            }
-            ∷ record {
-              task = 5;
-              desired = desired.Running;
-              workload = workload_1;
-              state = state.Running;
-              since = 2;
-              stopping = None;
-              reported = Some state.Running;
-              gone = false;
-            }
-            ∷ [];
-      }
-      ∷ record {
-        node = 2;
-        mode = agent_mode.On;
-        inbox = None;
-        applied = 1;
-        executors =
-            record {
-              task = 6;
-              desired = desired.Running;
-              workload = workload_1;
-              state = state.Running;
-              since = 2;
-              stopping = None;
-              reported = Some state.Running;
-              gone = false;
-            }
-            ∷ record {
-              task = 7;
-              desired = desired.Running;
-              workload = workload_1;
-              state = state.Running;
-              since = 2;
-              stopping = None;
-              reported = Some state.Running;
-              gone = false;
-            }
-            ∷ [];
-      }
+      agent_row 1 1 (
+      executor_row 4 usual_workload state.Running 2 ∷ executor_row 5 usual_workload state.Running 2 ∷ [])
+      ∷ agent_row 2 1 (
+      executor_row 6 usual_workload state.Running 2 ∷ executor_row 7 usual_workload state.Running 2 ∷ [])
       ∷ [];
-  watchers = [];
-  events = [];
   halted = true;
 }
 

@@ -2,10 +2,13 @@
 use Rattle.std.specs.Prelude.{List, None, Some, [], codes, false, refl, true, ◌∷◌, ◌≡◌}
 use Rattle.swarm_model.proofs.Examples.Audit.{IsPlayed, Told, asked, did, entries_of, played}
 use Rattle.swarm_model.proofs.Examples.LawTests.{laws_hold}
+use Rattle.swarm_model.proofs.Examples.Usual.{draft, made, service_row}
+use Rattle.swarm_model.proofs.Examples.Words.{one}
 use Rattle.swarm_model.specs.Laws.Matches.{Matches}
 use Rattle.swarm_model.specs.Script.{Asked, Asks, Settles}
 use Rattle.swarm_model.specs.Serial.{serial}
-use Rattle.swarm_objects.specs.World.{World, empty_world}
+use Rattle.swarm_objects.specs.Defaults.{usual_spec}
+use Rattle.swarm_objects.specs.World.{World, empty_tables, empty_world}
 use Rattle.swarm_objects.specs.declared.calls.Call.TheVariants as call
 use Rattle.swarm_objects.specs.declared.calls.Entry.{Entry}
 use Rattle.swarm_objects.specs.declared.calls.Op.TheVariants as op
@@ -15,79 +18,33 @@ use Rattle.swarm_objects.specs.declared.duties.Settle.TheVariants as settle
 use Rattle.swarm_objects.specs.declared.replies.Refusal.TheVariants as refusal
 use Rattle.swarm_objects.specs.declared.replies.Reply.TheVariants as reply
 use Rattle.swarm_objects.specs.declared.replies.ViewReply.TheVariants as view
-use Rattle.swarm_objects.specs.declared.services.FailureAction.TheVariants as action
 use Rattle.swarm_objects.specs.declared.services.Mode.TheVariants as mode
 use Rattle.swarm_objects.specs.declared.services.ServiceSpec.{ServiceSpec}
-use Rattle.swarm_objects.specs.declared.services.UpdateOrder.TheVariants as order
-use Rattle.swarm_objects.specs.declared.templates.End.TheVariants as end
-use Rattle.swarm_objects.specs.declared.templates.RestartCondition.TheVariants as condition
-use Rattle.swarm_objects.specs.declared.templates.Template.{Template}
-use Rattle.swarm_objects.specs.declared.templates.Workload.{Workload}
-
-abbrev workload_1 : Workload
-workload_1 = record { prepare = 1; start = 1; stop = 1; end = end.Never }
-
-abbrev template_1 : Template
-template_1 = record {
-  workload = workload_1;
-  cpu = 0;
-  mem = 0;
-  constraints = [];
-  spread = [];
-  platforms = [];
-  max_replicas = 0;
-  networks = [];
-  host_ports = [];
-  restart = record { condition = condition.Any; delay = 5000; max_attempts = 0; window = 0 };
-}
 
 abbrev spec_1 : ServiceSpec
-spec_1 = record {
-  mode = mode.Replicated 0;
-  template = template_1;
-  ports = record { target = 80; number = None; udp = false } ∷ [];
-  update = record {
-    parallelism = 1;
-    delay = 0;
-    monitor = 5000;
-    action = action.Pause;
-    ratio = 0;
-    order = order.StopFirst;
-  };
-}
+spec_1 = record usual_spec { mode = mode.Replicated 0; ports = record { target = 80; number = None; udp = false } ∷ [] }
 
 abbrev spec_2 : ServiceSpec
-spec_2 = record {
+spec_2 = record usual_spec {
   mode = mode.Replicated 0;
-  template = template_1;
   ports = record { target = 81; number = Some 30000; udp = false } ∷ [];
-  update = record {
-    parallelism = 1;
-    delay = 0;
-    monitor = 5000;
-    action = action.Pause;
-    ratio = 0;
-    order = order.StopFirst;
-  };
 }
 
 -- the script
 abbrev lines : List Asked
 lines =
-    Asks (call.Txn (op.CreateService (codes "a") (record { spec = spec_1; networks = [] }) ∷ []))
+    Asks (one (op.CreateService (codes "a") (draft spec_1)))
     ∷ Settles 100000
-    ∷ Asks (call.Txn (op.CreateService (codes "b") (record { spec = spec_2; networks = [] }) ∷ []))
+    ∷ Asks (one (op.CreateService (codes "b") (draft spec_2)))
     ∷ Asks (call.View (query.InspectService (codes "a")))
     ∷ []
 
 abbrev pub journal : List Told
 journal =
-    asked 0 (call.Txn (op.CreateService (codes "a") (record { spec = spec_1; networks = [] }) ∷ []))
-    (reply.Txn (1 ∷ []))
+    asked 0 (one (op.CreateService (codes "a") (draft spec_1))) (made 1)
     ∷ did 0 (duty.Port 1 80 false)
     ∷ asked 0 (call.Settle 100000) (reply.Settle 100000 settle.Settled)
-    ∷ asked 0 (call.Txn (op.CreateService (codes "b") (record { spec = spec_2; networks = [] }) ∷ []))
-    (reply.Refused (refusal.PortTaken 1))
+    ∷ asked 0 (one (op.CreateService (codes "b") (draft spec_2))) (reply.Refused (refusal.PortTaken 1))
     ∷ asked 0 (call.View (query.InspectService (codes "a"))) (reply.View (view.Service (record {
       id = 1;
       version = 2;
@@ -102,36 +59,17 @@ journal =
     ∷ []
 
 abbrev pub world : World
-world = record {
+world = record empty_world {
   entries = 6;
-  tables = record {
-    clock = 0;
+  tables = record empty_tables {
     next_id = 2;
-    nodes = [];
     services =
-        record {
-          id = 1;
-          version = 2;
-          name = codes "a";
-          spec = spec_1;
-          previous = None;
+        record (service_row 1 2 (codes "a") spec_1) {
           template_version = 1;
-          rolling_back = false;
-          iteration = 0;
           numbers = record { target = 80; udp = false; number = 30000 } ∷ [];
-          run = None;
         }
         ∷ [];
-    tasks = [];
-    networks = [];
-    attempts = [];
-    sessions = [];
-    settings = record { heartbeat = 5000; orphan = 86400000; history = 5 };
   };
-  sent = [];
-  agents = [];
-  watchers = [];
-  events = [];
   halted = true;
 }
 

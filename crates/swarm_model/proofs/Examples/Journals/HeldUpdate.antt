@@ -2,25 +2,22 @@
 use Rattle.std.specs.Prelude.{List, None, Some, [], codes, false, refl, true, ◌∷◌, ◌≡◌}
 use Rattle.swarm_model.proofs.Examples.Audit.{IsPlayed, Told, asked, did, entries_of, played}
 use Rattle.swarm_model.proofs.Examples.LawTests.{laws_hold}
+use Rattle.swarm_model.proofs.Examples.Usual.{agent_row, assigned, draft, executor_row, made, node_row, service_row, session_row, task_row, task_seen, ticks}
+use Rattle.swarm_model.proofs.Examples.Words.{one}
 use Rattle.swarm_model.specs.Laws.Matches.{matches}
 use Rattle.swarm_model.specs.Script.{Asked, Asks, Settles, Waits}
 use Rattle.swarm_model.specs.Serial.{serial}
-use Rattle.swarm_objects.specs.World.{World, empty_world}
-use Rattle.swarm_objects.specs.declared.agents.AgentMode.TheVariants as agent_mode
+use Rattle.swarm_objects.specs.Defaults.{usual_node, usual_spec, usual_template, usual_update, usual_workload}
+use Rattle.swarm_objects.specs.World.{World, empty_tables, empty_world}
 use Rattle.swarm_objects.specs.declared.calls.Call.TheVariants as call
 use Rattle.swarm_objects.specs.declared.calls.Entry.{Entry}
 use Rattle.swarm_objects.specs.declared.calls.Op.TheVariants as op
 use Rattle.swarm_objects.specs.declared.calls.Query.TheVariants as query
 use Rattle.swarm_objects.specs.declared.duties.Duty.TheVariants as duty
 use Rattle.swarm_objects.specs.declared.duties.Settle.TheVariants as settle
-use Rattle.swarm_objects.specs.declared.nodes.Availability.TheVariants as availability
 use Rattle.swarm_objects.specs.declared.nodes.NodeDraft.{NodeDraft}
-use Rattle.swarm_objects.specs.declared.nodes.NodeRole.TheVariants as node_role
-use Rattle.swarm_objects.specs.declared.nodes.NodeState.TheVariants as node_state
 use Rattle.swarm_objects.specs.declared.replies.Reply.TheVariants as reply
 use Rattle.swarm_objects.specs.declared.replies.ViewReply.TheVariants as view
-use Rattle.swarm_objects.specs.declared.services.FailureAction.TheVariants as action
-use Rattle.swarm_objects.specs.declared.services.Mode.TheVariants as mode
 use Rattle.swarm_objects.specs.declared.services.RunStatus.TheVariants as status
 use Rattle.swarm_objects.specs.declared.services.ServiceSpec.{ServiceSpec}
 use Rattle.swarm_objects.specs.declared.services.UpdateOrder.TheVariants as order
@@ -28,8 +25,6 @@ use Rattle.swarm_objects.specs.declared.tasks.Desired.TheVariants as desired
 use Rattle.swarm_objects.specs.declared.tasks.Note.TheVariants as note
 use Rattle.swarm_objects.specs.declared.tasks.Place.TheVariants.{Slot}
 use Rattle.swarm_objects.specs.declared.tasks.TaskState.TheVariants as state
-use Rattle.swarm_objects.specs.declared.templates.End.TheVariants as end
-use Rattle.swarm_objects.specs.declared.templates.RestartCondition.TheVariants as condition
 use Rattle.swarm_objects.specs.declared.templates.Template.{Template}
 use Rattle.swarm_objects.specs.declared.templates.Workload.{Workload}
 use Rattle.swarm_objects.specs.declared.views.NoteShown.TheVariants as note_shown
@@ -37,98 +32,38 @@ use Rattle.swarm_objects.specs.declared.views.PlaceShown.TheVariants as place_sh
 use Rattle.swarm_objects.specs.declared.views.Shown.TheVariants as by
 
 abbrev draft_1 : NodeDraft
-draft_1 = record {
-  labels = [];
-  role = node_role.Worker;
-  availability = availability.Active;
-  cpu = 1000;
-  mem = 8589934592;
-  os = codes "linux";
-  arch = codes "amd64";
-  engine = [];
-  remote = false;
-}
-
-abbrev workload_1 : Workload
-workload_1 = record { prepare = 1; start = 1; stop = 1; end = end.Never }
+draft_1 = record usual_node { cpu = 1000 }
 
 abbrev template_1 : Template
-template_1 = record {
-  workload = workload_1;
-  cpu = 1000;
-  mem = 0;
-  constraints = [];
-  spread = [];
-  platforms = [];
-  max_replicas = 0;
-  networks = [];
-  host_ports = [];
-  restart = record { condition = condition.Any; delay = 5000; max_attempts = 0; window = 0 };
-}
+template_1 = record usual_template { cpu = 1000 }
 
 abbrev spec_1 : ServiceSpec
-spec_1 = record {
-  mode = mode.Replicated 1;
-  template = template_1;
-  ports = [];
-  update = record {
-    parallelism = 1;
-    delay = 0;
-    monitor = 5000;
-    action = action.Pause;
-    ratio = 0;
-    order = order.StopFirst;
-  };
-}
+spec_1 = record usual_spec { template = template_1 }
 
 abbrev workload_2 : Workload
-workload_2 = record { prepare = 1; start = 2; stop = 1; end = end.Never }
+workload_2 = record usual_workload { start = 2 }
 
 abbrev template_2 : Template
-template_2 = record {
-  workload = workload_2;
-  cpu = 1000;
-  mem = 0;
-  constraints = [];
-  spread = [];
-  platforms = [];
-  max_replicas = 0;
-  networks = [];
-  host_ports = [];
-  restart = record { condition = condition.Any; delay = 5000; max_attempts = 0; window = 0 };
-}
+template_2 = record usual_template { workload = workload_2; cpu = 1000 }
 
 abbrev spec_2 : ServiceSpec
-spec_2 = record {
-  mode = mode.Replicated 1;
-  template = template_2;
-  ports = [];
-  update = record {
-    parallelism = 1;
-    delay = 0;
-    monitor = 5000;
-    action = action.Pause;
-    ratio = 0;
-    order = order.StartFirst;
-  };
-}
+spec_2 = record usual_spec { template = template_2; update = record usual_update { order = order.StartFirst } }
 
 -- the script
 abbrev lines : List Asked
 lines =
-    Asks (call.Txn (op.CreateNode (codes "n1") draft_1 ∷ []))
-    ∷ Asks (call.Txn (op.CreateService (codes "web") (record { spec = spec_1; networks = [] }) ∷ []))
+    Asks (one (op.CreateNode (codes "n1") draft_1))
+    ∷ Asks (one (op.CreateService (codes "web") (draft spec_1)))
     ∷ Waits 10
-    ∷ Asks (call.Txn (op.UpdateService (codes "web") None (record { spec = spec_2; networks = [] }) ∷ []))
+    ∷ Asks (one (op.UpdateService (codes "web") None (draft spec_2)))
     ∷ Settles 100000
     ∷ Asks (call.View (query.ListTasks None))
     ∷ []
 
 abbrev pub journal : List Told
 journal =
-    asked 0 (call.Txn (op.CreateNode (codes "n1") draft_1 ∷ [])) (reply.Txn (1 ∷ []))
-    ∷ asked 0 (call.Txn (op.CreateService (codes "web") (record { spec = spec_1; networks = [] }) ∷ []))
-    (reply.Txn (2 ∷ []))
+    asked 0 (one (op.CreateNode (codes "n1") draft_1)) (made 1)
+    ∷ asked 0 (one (op.CreateService (codes "web") (draft spec_1))) (made 2)
     ∷ did 0 (duty.ReplicatedCreate 2 1)
     ∷ did 0 (duty.Address 3)
     ∷ did 0 (duty.Explain 3)
@@ -138,31 +73,22 @@ journal =
     ∷ did 0 (duty.Apply 1)
     ∷ did 0 (duty.Exec 1 3)
     ∷ did 0 (duty.Report 1 3)
-    ∷ asked 0 (call.Tick 1) reply.Ticked
+    ∷ ticks 1
     ∷ did 0 (duty.Exec 1 3)
     ∷ did 0 (duty.Exec 1 3)
     ∷ did 0 (duty.Report 1 3)
-    ∷ asked 0 (call.Tick 1) reply.Ticked
+    ∷ ticks 1
     ∷ did 0 (duty.Exec 1 3)
     ∷ did 0 (duty.Report 1 3)
-    ∷ asked 0 (call.Tick 8) reply.Ticked
-    ∷ asked 0 (call.Txn (op.UpdateService (codes "web") None (record { spec = spec_2; networks = [] }) ∷ []))
-    (reply.Txn (2 ∷ []))
+    ∷ ticks 8
+    ∷ asked 0 (one (op.UpdateService (codes "web") None (draft spec_2))) (made 2)
     ∷ did 0 (duty.Start 2)
     ∷ did 0 (duty.Replace 2 1)
     ∷ did 0 (duty.Address 5)
     ∷ did 0 (duty.Explain 5)
     ∷ asked 0 (call.Settle 100000) (reply.Settle 100000 (settle.Held 2 5))
     ∷ asked 0 (call.View (query.ListTasks None)) (reply.View (view.Tasks (
-    record {
-      id = 3;
-      service = by.Name (codes "web");
-      place = place_shown.Slot 1;
-      node = Some (by.Name (codes "n1"));
-      state = state.Running;
-      desired = desired.Running;
-      note = note_shown.Empty;
-    }
+    task_seen 3 (codes "web") (place_shown.Slot 1) (codes "n1") state.Running
     ∷ record {
       id = 5;
       service = by.Name (codes "web");
@@ -177,40 +103,16 @@ journal =
     ∷ []
 
 abbrev pub world : World
-world = record {
+world = record empty_world {
   entries = 27;
-  tables = record {
+  tables = record empty_tables {
     clock = 10;
     next_id = 6;
-    nodes =
-        record {
-          id = 1;
-          version = 6;
-          name = codes "n1";
-          labels = [];
-          role = node_role.Worker;
-          availability = availability.Active;
-          state = node_state.Ready;
-          down_since = 0;
-          cpu = 1000;
-          mem = 8589934592;
-          os = codes "linux";
-          arch = codes "amd64";
-          engine = [];
-          remote = false;
-        }
-        ∷ [];
+    nodes = node_row 1 6 (codes "n1") draft_1 ∷ [];
     services =
-        record {
-          id = 2;
-          version = 22;
-          name = codes "web";
-          spec = spec_2;
+        record (service_row 2 22 (codes "web") spec_2) {
           previous = Some spec_1;
           template_version = 20;
-          rolling_back = false;
-          iteration = 0;
-          numbers = [];
           run = Some (record {
             status = status.Updating;
             version = 20;
@@ -220,75 +122,19 @@ world = record {
         }
         ∷ [];
     tasks =
-        record {
-          id = 3;
-          version = 18;
-          service = 2;
-          place = Slot 1;
-          iteration = 0;
-          template = template_1;
-          born = 2;
-          goal = desired.Running;
-          node = Some 1;
-          state = state.Running;
-          since = 2;
-          desired = desired.Running;
-          created = 0;
-          raise_at = 0;
-          addresses = [];
-          note = note.Empty;
-          closed = None;
-        }
-        ∷ record {
-          id = 5;
-          version = 24;
-          service = 2;
-          place = Slot 1;
-          iteration = 0;
-          template = template_2;
-          born = 20;
-          goal = desired.Running;
-          node = None;
+        record (task_row 3 18 2 2 (Slot 1) template_1) { node = Some 1; state = state.Running; since = 2 }
+        ∷ record (task_row 5 24 2 20 (Slot 1) template_2) {
           state = state.Pending;
           since = 10;
-          desired = desired.Running;
           created = 10;
           raise_at = 10;
-          addresses = [];
           note = note.Filters (0 ∷ 1 ∷ 0 ∷ 0 ∷ 0 ∷ 0 ∷ []);
-          closed = None;
         }
         ∷ [];
-    networks = [];
-    attempts = [];
-    sessions = record { node = 1; session = record { id = 4; deadline = 15000; beat = 0 } } ∷ [];
-    settings = record { heartbeat = 5000; orphan = 86400000; history = 5 };
+    sessions = session_row 1 4 15000 0 ∷ [];
   };
-  sent =
-      record { node = 1; count = 1; tasks = record { task = 3; desired = desired.Running; workload = workload_1 } ∷ [] }
-      ∷ [];
-  agents =
-      record {
-        node = 1;
-        mode = agent_mode.On;
-        inbox = None;
-        applied = 1;
-        executors =
-            record {
-              task = 3;
-              desired = desired.Running;
-              workload = workload_1;
-              state = state.Running;
-              since = 2;
-              stopping = None;
-              reported = Some state.Running;
-              gone = false;
-            }
-            ∷ [];
-      }
-      ∷ [];
-  watchers = [];
-  events = [];
+  sent = record { node = 1; count = 1; tasks = assigned 3 desired.Running usual_workload ∷ [] } ∷ [];
+  agents = agent_row 1 1 (executor_row 3 usual_workload state.Running 2 ∷ []) ∷ [];
   halted = true;
 }
 

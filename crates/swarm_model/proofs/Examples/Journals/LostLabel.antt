@@ -1,12 +1,14 @@
 -- A node loses the label that its task asks for.
-use Rattle.std.specs.Prelude.{List, None, Some, [], codes, false, refl, true, ◌∷◌, ◌≡◌}
+use Rattle.std.specs.Prelude.{List, None, Some, [], codes, refl, true, ◌∷◌, ◌≡◌}
 use Rattle.swarm_model.proofs.Examples.Audit.{IsPlayed, Told, asked, did, entries_of, played}
 use Rattle.swarm_model.proofs.Examples.LawTests.{laws_hold}
+use Rattle.swarm_model.proofs.Examples.Usual.{agent_row, assigned, draft, executor_row, made, node_row, service_row, session_row, task_row, task_seen, ticks}
+use Rattle.swarm_model.proofs.Examples.Words.{one}
 use Rattle.swarm_model.specs.Laws.Matches.{Matches}
 use Rattle.swarm_model.specs.Script.{Asked, Asks, Settles, Waits}
 use Rattle.swarm_model.specs.Serial.{serial}
-use Rattle.swarm_objects.specs.World.{World, empty_world}
-use Rattle.swarm_objects.specs.declared.agents.AgentMode.TheVariants as agent_mode
+use Rattle.swarm_objects.specs.Defaults.{usual_node, usual_spec, usual_template, usual_workload}
+use Rattle.swarm_objects.specs.World.{World, empty_tables, empty_world}
 use Rattle.swarm_objects.specs.declared.calls.Call.TheVariants as call
 use Rattle.swarm_objects.specs.declared.calls.Entry.{Entry}
 use Rattle.swarm_objects.specs.declared.calls.Op.TheVariants as op
@@ -16,78 +18,37 @@ use Rattle.swarm_objects.specs.declared.duties.Settle.TheVariants as settle
 use Rattle.swarm_objects.specs.declared.nodes.Availability.TheVariants as availability
 use Rattle.swarm_objects.specs.declared.nodes.NodeDraft.{NodeDraft}
 use Rattle.swarm_objects.specs.declared.nodes.NodeRole.TheVariants as node_role
-use Rattle.swarm_objects.specs.declared.nodes.NodeState.TheVariants as node_state
 use Rattle.swarm_objects.specs.declared.replies.Reply.TheVariants as reply
 use Rattle.swarm_objects.specs.declared.replies.ViewReply.TheVariants as view
-use Rattle.swarm_objects.specs.declared.services.FailureAction.TheVariants as action
-use Rattle.swarm_objects.specs.declared.services.Mode.TheVariants as mode
 use Rattle.swarm_objects.specs.declared.services.ServiceSpec.{ServiceSpec}
-use Rattle.swarm_objects.specs.declared.services.UpdateOrder.TheVariants as order
 use Rattle.swarm_objects.specs.declared.tasks.Desired.TheVariants as desired
 use Rattle.swarm_objects.specs.declared.tasks.Note.TheVariants as note
 use Rattle.swarm_objects.specs.declared.tasks.Place.TheVariants.{Slot}
 use Rattle.swarm_objects.specs.declared.tasks.TaskState.TheVariants as state
-use Rattle.swarm_objects.specs.declared.templates.End.TheVariants as end
 use Rattle.swarm_objects.specs.declared.templates.Key.TheVariants as key
-use Rattle.swarm_objects.specs.declared.templates.RestartCondition.TheVariants as condition
 use Rattle.swarm_objects.specs.declared.templates.Template.{Template}
-use Rattle.swarm_objects.specs.declared.templates.Workload.{Workload}
 use Rattle.swarm_objects.specs.declared.views.NoteShown.TheVariants as note_shown
 use Rattle.swarm_objects.specs.declared.views.PlaceShown.TheVariants as place_shown
 use Rattle.swarm_objects.specs.declared.views.Shown.TheVariants as by
 
 abbrev draft_1 : NodeDraft
-draft_1 = record {
-  labels = (codes "zone", codes "a") ∷ [];
-  role = node_role.Worker;
-  availability = availability.Active;
-  cpu = 4000;
-  mem = 8589934592;
-  os = codes "linux";
-  arch = codes "amd64";
-  engine = [];
-  remote = false;
-}
-
-abbrev workload_1 : Workload
-workload_1 = record { prepare = 1; start = 1; stop = 1; end = end.Never }
+draft_1 = record usual_node { labels = (codes "zone", codes "a") ∷ [] }
 
 abbrev template_1 : Template
-template_1 = record {
-  workload = workload_1;
-  cpu = 0;
-  mem = 0;
+template_1 = record usual_template {
   constraints = record { key = key.Label (codes "zone"); equal = true; value = codes "a" } ∷ [];
-  spread = [];
-  platforms = [];
-  max_replicas = 0;
-  networks = [];
-  host_ports = [];
-  restart = record { condition = condition.Any; delay = 5000; max_attempts = 0; window = 0 };
 }
 
 abbrev spec_1 : ServiceSpec
-spec_1 = record {
-  mode = mode.Replicated 1;
-  template = template_1;
-  ports = [];
-  update = record {
-    parallelism = 1;
-    delay = 0;
-    monitor = 5000;
-    action = action.Pause;
-    ratio = 0;
-    order = order.StopFirst;
-  };
-}
+spec_1 = record usual_spec { template = template_1 }
 
 -- the script
 abbrev lines : List Asked
 lines =
-    Asks (call.Txn (op.CreateNode (codes "n1") draft_1 ∷ []))
-    ∷ Asks (call.Txn (op.CreateService (codes "web") (record { spec = spec_1; networks = [] }) ∷ []))
+    Asks (one (op.CreateNode (codes "n1") draft_1))
+    ∷ Asks (one (op.CreateService (codes "web") (draft spec_1)))
     ∷ Waits 10
-    ∷ Asks (call.Txn (op.UpdateNode (codes "n1") None [] node_role.Worker availability.Active ∷ []))
+    ∷ Asks (one (op.UpdateNode (codes "n1") None [] node_role.Worker availability.Active))
     ∷ Waits 6000
     ∷ Settles 100000
     ∷ Asks (call.View (query.ListTasks None))
@@ -95,9 +56,8 @@ lines =
 
 abbrev pub journal : List Told
 journal =
-    asked 0 (call.Txn (op.CreateNode (codes "n1") draft_1 ∷ [])) (reply.Txn (1 ∷ []))
-    ∷ asked 0 (call.Txn (op.CreateService (codes "web") (record { spec = spec_1; networks = [] }) ∷ []))
-    (reply.Txn (2 ∷ []))
+    asked 0 (one (op.CreateNode (codes "n1") draft_1)) (made 1)
+    ∷ asked 0 (one (op.CreateService (codes "web") (draft spec_1))) (made 2)
     ∷ did 0 (duty.ReplicatedCreate 2 1)
     ∷ did 0 (duty.Address 3)
     ∷ did 0 (duty.Explain 3)
@@ -107,16 +67,15 @@ journal =
     ∷ did 0 (duty.Apply 1)
     ∷ did 0 (duty.Exec 1 3)
     ∷ did 0 (duty.Report 1 3)
-    ∷ asked 0 (call.Tick 1) reply.Ticked
+    ∷ ticks 1
     ∷ did 0 (duty.Exec 1 3)
     ∷ did 0 (duty.Exec 1 3)
     ∷ did 0 (duty.Report 1 3)
-    ∷ asked 0 (call.Tick 1) reply.Ticked
+    ∷ ticks 1
     ∷ did 0 (duty.Exec 1 3)
     ∷ did 0 (duty.Report 1 3)
-    ∷ asked 0 (call.Tick 8) reply.Ticked
-    ∷ asked 0 (call.Txn (op.UpdateNode (codes "n1") None [] node_role.Worker availability.Active ∷ []))
-    (reply.Txn (1 ∷ []))
+    ∷ ticks 8
+    ∷ asked 0 (one (op.UpdateNode (codes "n1") None [] node_role.Worker availability.Active)) (made 1)
     ∷ did 0 (duty.Reject 3)
     ∷ did 0 (duty.Restart 3)
     ∷ did 0 (duty.Address 5)
@@ -124,28 +83,20 @@ journal =
     ∷ did 0 (duty.Pull 1)
     ∷ did 0 (duty.Apply 1)
     ∷ did 0 (duty.Exec 1 3)
-    ∷ asked 0 (call.Tick 1) reply.Ticked
+    ∷ ticks 1
     ∷ did 0 (duty.Exec 1 3)
     ∷ did 0 (duty.Report 1 3)
-    ∷ asked 0 (call.Tick 1000) reply.Ticked
-    ∷ asked 0 (call.Tick 1000) reply.Ticked
-    ∷ asked 0 (call.Tick 1000) reply.Ticked
-    ∷ asked 0 (call.Tick 1000) reply.Ticked
-    ∷ asked 0 (call.Tick 999) reply.Ticked
+    ∷ ticks 1000
+    ∷ ticks 1000
+    ∷ ticks 1000
+    ∷ ticks 1000
+    ∷ ticks 999
     ∷ did 0 (duty.Raise 5)
     ∷ did 0 (duty.Beat 1)
-    ∷ asked 0 (call.Tick 1000) reply.Ticked
+    ∷ ticks 1000
     ∷ asked 0 (call.Settle 100000) (reply.Settle 100000 settle.Settled)
     ∷ asked 0 (call.View (query.ListTasks None)) (reply.View (view.Tasks (
-    record {
-      id = 3;
-      service = by.Name (codes "web");
-      place = place_shown.Slot 1;
-      node = Some (by.Name (codes "n1"));
-      state = state.Rejected;
-      desired = desired.Shutdown;
-      note = note_shown.Empty;
-    }
+    record (task_seen 3 (codes "web") (place_shown.Slot 1) (codes "n1") state.Rejected) { desired = desired.Shutdown }
     ∷ record {
       id = 5;
       service = by.Name (codes "web");
@@ -160,113 +111,36 @@ journal =
     ∷ []
 
 abbrev pub world : World
-world = record {
+world = record empty_world {
   entries = 41;
-  tables = record {
+  tables = record empty_tables {
     clock = 6010;
     next_id = 6;
-    nodes =
-        record {
-          id = 1;
-          version = 20;
-          name = codes "n1";
-          labels = [];
-          role = node_role.Worker;
-          availability = availability.Active;
-          state = node_state.Ready;
-          down_since = 0;
-          cpu = 4000;
-          mem = 8589934592;
-          os = codes "linux";
-          arch = codes "amd64";
-          engine = [];
-          remote = false;
-        }
-        ∷ [];
-    services =
-        record {
-          id = 2;
-          version = 2;
-          name = codes "web";
-          spec = spec_1;
-          previous = None;
-          template_version = 2;
-          rolling_back = false;
-          iteration = 0;
-          numbers = [];
-          run = None;
-        }
-        ∷ [];
+    nodes = record (node_row 1 20 (codes "n1") draft_1) { labels = [] } ∷ [];
+    services = service_row 2 2 (codes "web") spec_1 ∷ [];
     tasks =
-        record {
-          id = 3;
-          version = 22;
-          service = 2;
-          place = Slot 1;
-          iteration = 0;
-          template = template_1;
-          born = 2;
-          goal = desired.Running;
+        record (task_row 3 22 2 2 (Slot 1) template_1) {
           node = Some 1;
           state = state.Rejected;
           since = 10;
           desired = desired.Shutdown;
-          created = 0;
-          raise_at = 0;
-          addresses = [];
-          note = note.Empty;
-          closed = None;
         }
-        ∷ record {
-          id = 5;
-          version = 36;
-          service = 2;
-          place = Slot 1;
-          iteration = 0;
-          template = template_1;
-          born = 2;
-          goal = desired.Running;
-          node = None;
+        ∷ record (task_row 5 36 2 2 (Slot 1) template_1) {
           state = state.Pending;
           since = 10;
-          desired = desired.Running;
           created = 10;
           raise_at = 5010;
-          addresses = [];
           note = note.Filters (0 ∷ 0 ∷ 1 ∷ 0 ∷ 0 ∷ 0 ∷ []);
-          closed = None;
         }
         ∷ [];
-    networks = [];
     attempts = record { service = 2; place = Slot 1; version = 2; at = 10 } ∷ [];
-    sessions = record { node = 1; session = record { id = 4; deadline = 20010; beat = 5010 } } ∷ [];
-    settings = record { heartbeat = 5000; orphan = 86400000; history = 5 };
+    sessions = session_row 1 4 20010 5010 ∷ [];
   };
-  sent =
-      record { node = 1; count = 2; tasks = record { task = 3; desired = desired.Shutdown; workload = workload_1 } ∷ [] }
-      ∷ [];
+  sent = record { node = 1; count = 2; tasks = assigned 3 desired.Shutdown usual_workload ∷ [] } ∷ [];
   agents =
-      record {
-        node = 1;
-        mode = agent_mode.On;
-        inbox = None;
-        applied = 2;
-        executors =
-            record {
-              task = 3;
-              desired = desired.Shutdown;
-              workload = workload_1;
-              state = state.Shutdown;
-              since = 11;
-              stopping = Some 11;
-              reported = Some state.Shutdown;
-              gone = false;
-            }
-            ∷ [];
-      }
+      agent_row 1 2 (
+      record (executor_row 3 usual_workload state.Shutdown 11) { desired = desired.Shutdown; stopping = Some 11 } ∷ [])
       ∷ [];
-  watchers = [];
-  events = [];
   halted = true;
 }
 

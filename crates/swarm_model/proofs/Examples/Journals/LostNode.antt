@@ -2,10 +2,13 @@
 use Rattle.std.specs.Prelude.{List, None, Some, [], codes, false, refl, true, ◌∷◌, ◌≡◌}
 use Rattle.swarm_model.proofs.Examples.Audit.{IsPlayed, Told, asked, did, entries_of, played}
 use Rattle.swarm_model.proofs.Examples.LawTests.{laws_hold}
+use Rattle.swarm_model.proofs.Examples.Usual.{agent_row, assigned, draft, executor_row, made, node_row, service_row, session_row, task_row, task_seen, ticks}
+use Rattle.swarm_model.proofs.Examples.Words.{one}
 use Rattle.swarm_model.specs.Laws.Matches.{matches}
 use Rattle.swarm_model.specs.Script.{Asked, Asks, Settles, Waits}
 use Rattle.swarm_model.specs.Serial.{serial}
-use Rattle.swarm_objects.specs.World.{World, empty_world}
+use Rattle.swarm_objects.specs.Defaults.{usual_node, usual_spec, usual_template, usual_workload}
+use Rattle.swarm_objects.specs.World.{World, empty_tables, empty_world}
 use Rattle.swarm_objects.specs.declared.agents.AgentMode.TheVariants as agent_mode
 use Rattle.swarm_objects.specs.declared.calls.Call.TheVariants as call
 use Rattle.swarm_objects.specs.declared.calls.Entry.{Entry}
@@ -14,79 +17,20 @@ use Rattle.swarm_objects.specs.declared.calls.Query.TheVariants as query
 use Rattle.swarm_objects.specs.declared.duties.Cause.TheVariants as cause
 use Rattle.swarm_objects.specs.declared.duties.Duty.TheVariants as duty
 use Rattle.swarm_objects.specs.declared.duties.Settle.TheVariants as settle
-use Rattle.swarm_objects.specs.declared.nodes.Availability.TheVariants as availability
-use Rattle.swarm_objects.specs.declared.nodes.NodeDraft.{NodeDraft}
-use Rattle.swarm_objects.specs.declared.nodes.NodeRole.TheVariants as node_role
 use Rattle.swarm_objects.specs.declared.nodes.NodeState.TheVariants as node_state
 use Rattle.swarm_objects.specs.declared.replies.Reply.TheVariants as reply
 use Rattle.swarm_objects.specs.declared.replies.ViewReply.TheVariants as view
-use Rattle.swarm_objects.specs.declared.services.FailureAction.TheVariants as action
-use Rattle.swarm_objects.specs.declared.services.Mode.TheVariants as mode
-use Rattle.swarm_objects.specs.declared.services.ServiceSpec.{ServiceSpec}
-use Rattle.swarm_objects.specs.declared.services.UpdateOrder.TheVariants as order
 use Rattle.swarm_objects.specs.declared.tasks.Desired.TheVariants as desired
-use Rattle.swarm_objects.specs.declared.tasks.Note.TheVariants as note
 use Rattle.swarm_objects.specs.declared.tasks.Place.TheVariants.{Slot}
 use Rattle.swarm_objects.specs.declared.tasks.TaskState.TheVariants as state
-use Rattle.swarm_objects.specs.declared.templates.End.TheVariants as end
-use Rattle.swarm_objects.specs.declared.templates.RestartCondition.TheVariants as condition
-use Rattle.swarm_objects.specs.declared.templates.Template.{Template}
-use Rattle.swarm_objects.specs.declared.templates.Workload.{Workload}
-use Rattle.swarm_objects.specs.declared.views.NoteShown.TheVariants as note_shown
 use Rattle.swarm_objects.specs.declared.views.PlaceShown.TheVariants as place_shown
-use Rattle.swarm_objects.specs.declared.views.Shown.TheVariants as by
-
-abbrev draft_1 : NodeDraft
-draft_1 = record {
-  labels = [];
-  role = node_role.Worker;
-  availability = availability.Active;
-  cpu = 4000;
-  mem = 8589934592;
-  os = codes "linux";
-  arch = codes "amd64";
-  engine = [];
-  remote = false;
-}
-
-abbrev workload_1 : Workload
-workload_1 = record { prepare = 1; start = 1; stop = 1; end = end.Never }
-
-abbrev template_1 : Template
-template_1 = record {
-  workload = workload_1;
-  cpu = 0;
-  mem = 0;
-  constraints = [];
-  spread = [];
-  platforms = [];
-  max_replicas = 0;
-  networks = [];
-  host_ports = [];
-  restart = record { condition = condition.Any; delay = 5000; max_attempts = 0; window = 0 };
-}
-
-abbrev spec_1 : ServiceSpec
-spec_1 = record {
-  mode = mode.Replicated 1;
-  template = template_1;
-  ports = [];
-  update = record {
-    parallelism = 1;
-    delay = 0;
-    monitor = 5000;
-    action = action.Pause;
-    ratio = 0;
-    order = order.StopFirst;
-  };
-}
 
 -- the script
 abbrev lines : List Asked
 lines =
-    Asks (call.Txn (op.CreateNode (codes "n1") draft_1 ∷ []))
-    ∷ Asks (call.Txn (op.CreateNode (codes "n2") draft_1 ∷ []))
-    ∷ Asks (call.Txn (op.CreateService (codes "web") (record { spec = spec_1; networks = [] }) ∷ []))
+    Asks (one (op.CreateNode (codes "n1") usual_node))
+    ∷ Asks (one (op.CreateNode (codes "n2") usual_node))
+    ∷ Asks (one (op.CreateService (codes "web") (draft usual_spec)))
     ∷ Waits 10
     ∷ Asks (call.NodeFail (codes "n1"))
     ∷ Settles 100000
@@ -97,10 +41,9 @@ lines =
 
 abbrev pub journal : List Told
 journal =
-    asked 0 (call.Txn (op.CreateNode (codes "n1") draft_1 ∷ [])) (reply.Txn (1 ∷ []))
-    ∷ asked 0 (call.Txn (op.CreateNode (codes "n2") draft_1 ∷ [])) (reply.Txn (2 ∷ []))
-    ∷ asked 0 (call.Txn (op.CreateService (codes "web") (record { spec = spec_1; networks = [] }) ∷ []))
-    (reply.Txn (3 ∷ []))
+    asked 0 (one (op.CreateNode (codes "n1") usual_node)) (made 1)
+    ∷ asked 0 (one (op.CreateNode (codes "n2") usual_node)) (made 2)
+    ∷ asked 0 (one (op.CreateService (codes "web") (draft usual_spec))) (made 3)
     ∷ did 0 (duty.ReplicatedCreate 3 1)
     ∷ did 0 (duty.Address 4)
     ∷ did 0 (duty.Explain 4)
@@ -113,33 +56,33 @@ journal =
     ∷ did 0 (duty.Register 2)
     ∷ did 0 (duty.Pull 2)
     ∷ did 0 (duty.Apply 2)
-    ∷ asked 0 (call.Tick 1) reply.Ticked
+    ∷ ticks 1
     ∷ did 0 (duty.Exec 1 4)
     ∷ did 0 (duty.Exec 1 4)
     ∷ did 0 (duty.Report 1 4)
-    ∷ asked 0 (call.Tick 1) reply.Ticked
+    ∷ ticks 1
     ∷ did 0 (duty.Exec 1 4)
     ∷ did 0 (duty.Report 1 4)
-    ∷ asked 0 (call.Tick 8) reply.Ticked
+    ∷ ticks 8
     ∷ asked 0 (call.NodeFail (codes "n1")) (reply.AgentDone 1)
     ∷ asked 0 (call.Settle 100000) (reply.Settle 100000 (settle.Waiting 15000 cause.Session 1))
-    ∷ asked 0 (call.Tick 1000) reply.Ticked
-    ∷ asked 0 (call.Tick 1000) reply.Ticked
-    ∷ asked 0 (call.Tick 1000) reply.Ticked
-    ∷ asked 0 (call.Tick 1000) reply.Ticked
-    ∷ asked 0 (call.Tick 1000) reply.Ticked
+    ∷ ticks 1000
+    ∷ ticks 1000
+    ∷ ticks 1000
+    ∷ ticks 1000
+    ∷ ticks 1000
     ∷ did 0 (duty.Beat 2)
-    ∷ asked 0 (call.Tick 1000) reply.Ticked
-    ∷ asked 0 (call.Tick 1000) reply.Ticked
-    ∷ asked 0 (call.Tick 1000) reply.Ticked
-    ∷ asked 0 (call.Tick 1000) reply.Ticked
-    ∷ asked 0 (call.Tick 1000) reply.Ticked
+    ∷ ticks 1000
+    ∷ ticks 1000
+    ∷ ticks 1000
+    ∷ ticks 1000
+    ∷ ticks 1000
     ∷ did 0 (duty.Beat 2)
-    ∷ asked 0 (call.Tick 1000) reply.Ticked
-    ∷ asked 0 (call.Tick 1000) reply.Ticked
-    ∷ asked 0 (call.Tick 1000) reply.Ticked
-    ∷ asked 0 (call.Tick 1000) reply.Ticked
-    ∷ asked 0 (call.Tick 990) reply.Ticked
+    ∷ ticks 1000
+    ∷ ticks 1000
+    ∷ ticks 1000
+    ∷ ticks 1000
+    ∷ ticks 990
     ∷ did 0 (duty.Expire 1)
     ∷ did 0 (duty.Restart 4)
     ∷ did 0 (duty.Address 7)
@@ -148,182 +91,61 @@ journal =
     ∷ did 0 (duty.Apply 2)
     ∷ did 0 (duty.Exec 2 7)
     ∷ did 0 (duty.Report 2 7)
-    ∷ asked 0 (call.Tick 1) reply.Ticked
+    ∷ ticks 1
     ∷ did 0 (duty.Exec 2 7)
     ∷ did 0 (duty.Report 2 7)
-    ∷ asked 0 (call.Tick 1000) reply.Ticked
+    ∷ ticks 1000
     ∷ did 0 (duty.Beat 2)
-    ∷ asked 0 (call.Tick 9) reply.Ticked
+    ∷ ticks 9
     ∷ asked 0 (call.Settle 100000) (reply.Settle 100000 (settle.Waiting 20000 cause.Start 7))
     ∷ asked 0 (call.View (query.ListTasks None)) (reply.View (view.Tasks (
-    record {
-      id = 4;
-      service = by.Name (codes "web");
-      place = place_shown.Slot 1;
-      node = Some (by.Name (codes "n1"));
-      state = state.Running;
-      desired = desired.Shutdown;
-      note = note_shown.Empty;
-    }
-    ∷ record {
-      id = 7;
-      service = by.Name (codes "web");
-      place = place_shown.Slot 1;
-      node = Some (by.Name (codes "n2"));
-      state = state.Ready;
-      desired = desired.Ready;
-      note = note_shown.Empty;
-    }
+    record (task_seen 4 (codes "web") (place_shown.Slot 1) (codes "n1") state.Running) { desired = desired.Shutdown }
+    ∷ record (task_seen 7 (codes "web") (place_shown.Slot 1) (codes "n2") state.Ready) { desired = desired.Ready }
     ∷ [])))
     ∷ asked 0 call.Halt reply.HaltDone
     ∷ []
 
 abbrev pub world : World
-world = record {
+world = record empty_world {
   entries = 59;
-  tables = record {
+  tables = record empty_tables {
     clock = 16010;
     next_id = 8;
     nodes =
-        record {
-          id = 1;
-          version = 43;
-          name = codes "n1";
-          labels = [];
-          role = node_role.Worker;
-          availability = availability.Active;
-          state = node_state.Down;
-          down_since = 15000;
-          cpu = 4000;
-          mem = 8589934592;
-          os = codes "linux";
-          arch = codes "amd64";
-          engine = [];
-          remote = false;
-        }
-        ∷ record {
-          id = 2;
-          version = 13;
-          name = codes "n2";
-          labels = [];
-          role = node_role.Worker;
-          availability = availability.Active;
-          state = node_state.Ready;
-          down_since = 0;
-          cpu = 4000;
-          mem = 8589934592;
-          os = codes "linux";
-          arch = codes "amd64";
-          engine = [];
-          remote = false;
-        }
+        record (node_row 1 43 (codes "n1") usual_node) { state = node_state.Down; down_since = 15000 }
+        ∷ node_row 2 13 (codes "n2") usual_node
         ∷ [];
-    services =
-        record {
-          id = 3;
-          version = 3;
-          name = codes "web";
-          spec = spec_1;
-          previous = None;
-          template_version = 3;
-          rolling_back = false;
-          iteration = 0;
-          numbers = [];
-          run = None;
-        }
-        ∷ [];
+    services = service_row 3 3 (codes "web") usual_spec ∷ [];
     tasks =
-        record {
-          id = 4;
-          version = 44;
-          service = 3;
-          place = Slot 1;
-          iteration = 0;
-          template = template_1;
-          born = 3;
-          goal = desired.Running;
+        record (task_row 4 44 3 3 (Slot 1) usual_template) {
           node = Some 1;
           state = state.Running;
           since = 2;
           desired = desired.Shutdown;
-          created = 0;
-          raise_at = 0;
-          addresses = [];
-          note = note.Empty;
-          closed = None;
         }
-        ∷ record {
-          id = 7;
-          version = 53;
-          service = 3;
-          place = Slot 1;
-          iteration = 0;
-          template = template_1;
-          born = 3;
-          goal = desired.Running;
+        ∷ record (task_row 7 53 3 3 (Slot 1) usual_template) {
           node = Some 2;
           state = state.Ready;
           since = 15001;
           desired = desired.Ready;
           created = 15000;
           raise_at = 20000;
-          addresses = [];
-          note = note.Empty;
-          closed = None;
         }
         ∷ [];
-    networks = [];
     attempts = record { service = 3; place = Slot 1; version = 3; at = 15000 } ∷ [];
-    sessions =
-        record { node = 1; session = record { id = 5; deadline = 15000; beat = 0 } }
-        ∷ record { node = 2; session = record { id = 6; deadline = 31001; beat = 16001 } }
-        ∷ [];
-    settings = record { heartbeat = 5000; orphan = 86400000; history = 5 };
+    sessions = session_row 1 5 15000 0 ∷ session_row 2 6 31001 16001 ∷ [];
   };
   sent =
-      record { node = 1; count = 1; tasks = record { task = 4; desired = desired.Running; workload = workload_1 } ∷ [] }
-      ∷ record { node = 2; count = 2; tasks = record { task = 7; desired = desired.Ready; workload = workload_1 } ∷ [] }
+      record { node = 1; count = 1; tasks = assigned 4 desired.Running usual_workload ∷ [] }
+      ∷ record { node = 2; count = 2; tasks = assigned 7 desired.Ready usual_workload ∷ [] }
       ∷ [];
   agents =
-      record {
-        node = 1;
+      record (agent_row 1 1 []) {
         mode = agent_mode.PowerOff;
-        inbox = None;
-        applied = 1;
-        executors =
-            record {
-              task = 4;
-              desired = desired.Running;
-              workload = workload_1;
-              state = state.Failed;
-              since = 10;
-              stopping = None;
-              reported = Some state.Running;
-              gone = false;
-            }
-            ∷ [];
+        executors = record (executor_row 4 usual_workload state.Failed 10) { reported = Some state.Running } ∷ [];
       }
-      ∷ record {
-        node = 2;
-        mode = agent_mode.On;
-        inbox = None;
-        applied = 2;
-        executors =
-            record {
-              task = 7;
-              desired = desired.Ready;
-              workload = workload_1;
-              state = state.Ready;
-              since = 15001;
-              stopping = None;
-              reported = Some state.Ready;
-              gone = false;
-            }
-            ∷ [];
-      }
+      ∷ agent_row 2 2 (record (executor_row 7 usual_workload state.Ready 15001) { desired = desired.Ready } ∷ [])
       ∷ [];
-  watchers = [];
-  events = [];
   halted = true;
 }
 

@@ -2,31 +2,26 @@
 use Rattle.std.specs.Prelude.{List, None, Some, [], codes, false, refl, true, ◌∷◌, ◌≡◌}
 use Rattle.swarm_model.proofs.Examples.Audit.{IsPlayed, Told, asked, did, entries_of, played}
 use Rattle.swarm_model.proofs.Examples.LawTests.{laws_hold}
+use Rattle.swarm_model.proofs.Examples.Usual.{agent_row, assigned, draft, executor_row, made, node_row, service_row, session_row, task_row, task_seen, ticks}
+use Rattle.swarm_model.proofs.Examples.Words.{one}
 use Rattle.swarm_model.specs.Laws.Matches.{matches}
 use Rattle.swarm_model.specs.Script.{Asked, Asks, Settles, Waits}
 use Rattle.swarm_model.specs.Serial.{serial}
-use Rattle.swarm_objects.specs.World.{World, empty_world}
-use Rattle.swarm_objects.specs.declared.agents.AgentMode.TheVariants as agent_mode
+use Rattle.swarm_objects.specs.Defaults.{usual_node, usual_restart, usual_spec, usual_template, usual_update, usual_workload}
+use Rattle.swarm_objects.specs.World.{World, empty_tables, empty_world}
 use Rattle.swarm_objects.specs.declared.calls.Call.TheVariants as call
 use Rattle.swarm_objects.specs.declared.calls.Entry.{Entry}
 use Rattle.swarm_objects.specs.declared.calls.Op.TheVariants as op
 use Rattle.swarm_objects.specs.declared.calls.Query.TheVariants as query
 use Rattle.swarm_objects.specs.declared.duties.Duty.TheVariants as duty
 use Rattle.swarm_objects.specs.declared.duties.Settle.TheVariants as settle
-use Rattle.swarm_objects.specs.declared.nodes.Availability.TheVariants as availability
-use Rattle.swarm_objects.specs.declared.nodes.NodeDraft.{NodeDraft}
-use Rattle.swarm_objects.specs.declared.nodes.NodeRole.TheVariants as node_role
-use Rattle.swarm_objects.specs.declared.nodes.NodeState.TheVariants as node_state
 use Rattle.swarm_objects.specs.declared.replies.Reply.TheVariants as reply
 use Rattle.swarm_objects.specs.declared.replies.ViewReply.TheVariants as view
-use Rattle.swarm_objects.specs.declared.services.FailureAction.TheVariants as action
 use Rattle.swarm_objects.specs.declared.services.Mode.TheVariants as mode
 use Rattle.swarm_objects.specs.declared.services.RunStatus.TheVariants as status
 use Rattle.swarm_objects.specs.declared.services.ServiceSpec.{ServiceSpec}
-use Rattle.swarm_objects.specs.declared.services.UpdateOrder.TheVariants as order
 use Rattle.swarm_objects.specs.declared.tasks.Closed.TheVariants as closed
 use Rattle.swarm_objects.specs.declared.tasks.Desired.TheVariants as desired
-use Rattle.swarm_objects.specs.declared.tasks.Note.TheVariants as note
 use Rattle.swarm_objects.specs.declared.tasks.Place.TheVariants.{Slot}
 use Rattle.swarm_objects.specs.declared.tasks.TaskState.TheVariants as state
 use Rattle.swarm_objects.specs.declared.templates.End.TheVariants as end
@@ -35,92 +30,40 @@ use Rattle.swarm_objects.specs.declared.templates.Template.{Template}
 use Rattle.swarm_objects.specs.declared.templates.Workload.{Workload}
 use Rattle.swarm_objects.specs.declared.views.NoteShown.TheVariants as note_shown
 use Rattle.swarm_objects.specs.declared.views.PlaceShown.TheVariants as place_shown
-use Rattle.swarm_objects.specs.declared.views.Shown.TheVariants as by
-
-abbrev draft_1 : NodeDraft
-draft_1 = record {
-  labels = [];
-  role = node_role.Worker;
-  availability = availability.Active;
-  cpu = 4000;
-  mem = 8589934592;
-  os = codes "linux";
-  arch = codes "amd64";
-  engine = [];
-  remote = false;
-}
-
-abbrev workload_1 : Workload
-workload_1 = record { prepare = 1; start = 1; stop = 1; end = end.Never }
 
 abbrev template_1 : Template
-template_1 = record {
-  workload = workload_1;
-  cpu = 0;
-  mem = 0;
-  constraints = [];
-  spread = [];
-  platforms = [];
-  max_replicas = 0;
-  networks = [];
-  host_ports = [];
-  restart = record { condition = condition.Never; delay = 5000; max_attempts = 0; window = 0 };
-}
+template_1 = record usual_template { restart = record usual_restart { condition = condition.Never } }
 
 abbrev spec_1 : ServiceSpec
-spec_1 = record {
+spec_1 = record usual_spec {
   mode = mode.Replicated 4;
   template = template_1;
-  ports = [];
-  update = record {
-    parallelism = 2;
-    delay = 0;
-    monitor = 5000;
-    action = action.Pause;
-    ratio = 0;
-    order = order.StopFirst;
-  };
+  update = record usual_update { parallelism = 2 };
 }
 
 abbrev workload_2 : Workload
-workload_2 = record { prepare = 1; start = 1; stop = 1; end = end.Reject }
+workload_2 = record usual_workload { end = end.Reject }
 
 abbrev template_2 : Template
-template_2 = record {
+template_2 = record usual_template {
   workload = workload_2;
-  cpu = 0;
-  mem = 0;
-  constraints = [];
-  spread = [];
-  platforms = [];
-  max_replicas = 0;
-  networks = [];
-  host_ports = [];
-  restart = record { condition = condition.Never; delay = 5000; max_attempts = 0; window = 0 };
+  restart = record usual_restart { condition = condition.Never };
 }
 
 abbrev spec_2 : ServiceSpec
-spec_2 = record {
+spec_2 = record usual_spec {
   mode = mode.Replicated 4;
   template = template_2;
-  ports = [];
-  update = record {
-    parallelism = 2;
-    delay = 0;
-    monitor = 5000;
-    action = action.Pause;
-    ratio = 0;
-    order = order.StopFirst;
-  };
+  update = record usual_update { parallelism = 2 };
 }
 
 -- the script
 abbrev lines : List Asked
 lines =
-    Asks (call.Txn (op.CreateNode (codes "n1") draft_1 ∷ []))
-    ∷ Asks (call.Txn (op.CreateService (codes "web") (record { spec = spec_1; networks = [] }) ∷ []))
+    Asks (one (op.CreateNode (codes "n1") usual_node))
+    ∷ Asks (one (op.CreateService (codes "web") (draft spec_1)))
     ∷ Waits 10
-    ∷ Asks (call.Txn (op.UpdateService (codes "web") None (record { spec = spec_2; networks = [] }) ∷ []))
+    ∷ Asks (one (op.UpdateService (codes "web") None (draft spec_2)))
     ∷ Waits 10
     ∷ Settles 100000
     ∷ Asks (call.View query.ListServices)
@@ -129,9 +72,8 @@ lines =
 
 abbrev pub journal : List Told
 journal =
-    asked 0 (call.Txn (op.CreateNode (codes "n1") draft_1 ∷ [])) (reply.Txn (1 ∷ []))
-    ∷ asked 0 (call.Txn (op.CreateService (codes "web") (record { spec = spec_1; networks = [] }) ∷ []))
-    (reply.Txn (2 ∷ []))
+    asked 0 (one (op.CreateNode (codes "n1") usual_node)) (made 1)
+    ∷ asked 0 (one (op.CreateService (codes "web") (draft spec_1))) (made 2)
     ∷ did 0 (duty.ReplicatedCreate 2 1)
     ∷ did 0 (duty.ReplicatedCreate 2 2)
     ∷ did 0 (duty.ReplicatedCreate 2 3)
@@ -159,7 +101,7 @@ journal =
     ∷ did 0 (duty.Report 1 4)
     ∷ did 0 (duty.Report 1 5)
     ∷ did 0 (duty.Report 1 6)
-    ∷ asked 0 (call.Tick 1) reply.Ticked
+    ∷ ticks 1
     ∷ did 0 (duty.Exec 1 3)
     ∷ did 0 (duty.Exec 1 3)
     ∷ did 0 (duty.Exec 1 4)
@@ -172,7 +114,7 @@ journal =
     ∷ did 0 (duty.Report 1 4)
     ∷ did 0 (duty.Report 1 5)
     ∷ did 0 (duty.Report 1 6)
-    ∷ asked 0 (call.Tick 1) reply.Ticked
+    ∷ ticks 1
     ∷ did 0 (duty.Exec 1 3)
     ∷ did 0 (duty.Exec 1 4)
     ∷ did 0 (duty.Exec 1 5)
@@ -181,9 +123,8 @@ journal =
     ∷ did 0 (duty.Report 1 4)
     ∷ did 0 (duty.Report 1 5)
     ∷ did 0 (duty.Report 1 6)
-    ∷ asked 0 (call.Tick 8) reply.Ticked
-    ∷ asked 0 (call.Txn (op.UpdateService (codes "web") None (record { spec = spec_2; networks = [] }) ∷ []))
-    (reply.Txn (2 ∷ []))
+    ∷ ticks 8
+    ∷ asked 0 (one (op.UpdateService (codes "web") None (draft spec_2))) (made 2)
     ∷ did 0 (duty.Start 2)
     ∷ did 0 (duty.Replace 2 1)
     ∷ did 0 (duty.Replace 2 2)
@@ -199,7 +140,7 @@ journal =
     ∷ did 0 (duty.Exec 1 9)
     ∷ did 0 (duty.Report 1 8)
     ∷ did 0 (duty.Report 1 9)
-    ∷ asked 0 (call.Tick 1) reply.Ticked
+    ∷ ticks 1
     ∷ did 0 (duty.Exec 1 3)
     ∷ did 0 (duty.Exec 1 4)
     ∷ did 0 (duty.Exec 1 8)
@@ -221,7 +162,7 @@ journal =
     ∷ did 0 (duty.Restart 9)
     ∷ did 0 (duty.Pull 1)
     ∷ did 0 (duty.Apply 1)
-    ∷ asked 0 (call.Tick 9) reply.Ticked
+    ∷ ticks 9
     ∷ asked 0 (call.Settle 100000) (reply.Settle 100000 (settle.Paused 2))
     ∷ asked 0 (call.View query.ListServices) (reply.View (view.Services (
     record {
@@ -234,57 +175,17 @@ journal =
     }
     ∷ [])))
     ∷ asked 0 (call.View (query.ListTasks None)) (reply.View (view.Tasks (
-    record {
-      id = 3;
-      service = by.Name (codes "web");
-      place = place_shown.Slot 1;
-      node = Some (by.Name (codes "n1"));
-      state = state.Shutdown;
+    record (task_seen 3 (codes "web") (place_shown.Slot 1) (codes "n1") state.Shutdown) { desired = desired.Shutdown }
+    ∷ record (task_seen 4 (codes "web") (place_shown.Slot 2) (codes "n1") state.Shutdown) {
       desired = desired.Shutdown;
-      note = note_shown.Empty;
     }
-    ∷ record {
-      id = 4;
-      service = by.Name (codes "web");
-      place = place_shown.Slot 2;
-      node = Some (by.Name (codes "n1"));
-      state = state.Shutdown;
-      desired = desired.Shutdown;
-      note = note_shown.Empty;
-    }
-    ∷ record {
-      id = 5;
-      service = by.Name (codes "web");
-      place = place_shown.Slot 3;
-      node = Some (by.Name (codes "n1"));
-      state = state.Running;
-      desired = desired.Running;
-      note = note_shown.Empty;
-    }
-    ∷ record {
-      id = 6;
-      service = by.Name (codes "web");
-      place = place_shown.Slot 4;
-      node = Some (by.Name (codes "n1"));
-      state = state.Running;
-      desired = desired.Running;
-      note = note_shown.Empty;
-    }
-    ∷ record {
-      id = 8;
-      service = by.Name (codes "web");
-      place = place_shown.Slot 1;
-      node = Some (by.Name (codes "n1"));
-      state = state.Rejected;
+    ∷ task_seen 5 (codes "web") (place_shown.Slot 3) (codes "n1") state.Running
+    ∷ task_seen 6 (codes "web") (place_shown.Slot 4) (codes "n1") state.Running
+    ∷ record (task_seen 8 (codes "web") (place_shown.Slot 1) (codes "n1") state.Rejected) {
       desired = desired.Shutdown;
       note = note_shown.Closed closed.Condition;
     }
-    ∷ record {
-      id = 9;
-      service = by.Name (codes "web");
-      place = place_shown.Slot 2;
-      node = Some (by.Name (codes "n1"));
-      state = state.Rejected;
+    ∷ record (task_seen 9 (codes "web") (place_shown.Slot 2) (codes "n1") state.Rejected) {
       desired = desired.Shutdown;
       note = note_shown.Closed closed.Condition;
     }
@@ -293,40 +194,16 @@ journal =
     ∷ []
 
 abbrev pub world : World
-world = record {
+world = record empty_world {
   entries = 95;
-  tables = record {
+  tables = record empty_tables {
     clock = 20;
     next_id = 10;
-    nodes =
-        record {
-          id = 1;
-          version = 15;
-          name = codes "n1";
-          labels = [];
-          role = node_role.Worker;
-          availability = availability.Active;
-          state = node_state.Ready;
-          down_since = 0;
-          cpu = 4000;
-          mem = 8589934592;
-          os = codes "linux";
-          arch = codes "amd64";
-          engine = [];
-          remote = false;
-        }
-        ∷ [];
+    nodes = node_row 1 15 (codes "n1") usual_node ∷ [];
     services =
-        record {
-          id = 2;
-          version = 84;
-          name = codes "web";
-          spec = spec_2;
+        record (service_row 2 84 (codes "web") spec_2) {
           previous = Some spec_1;
           template_version = 53;
-          rolling_back = false;
-          iteration = 0;
-          numbers = [];
           run = Some (record {
             status = status.Paused;
             version = 53;
@@ -339,212 +216,65 @@ world = record {
         }
         ∷ [];
     tasks =
-        record {
-          id = 3;
-          version = 74;
-          service = 2;
-          place = Slot 1;
-          iteration = 0;
-          template = template_1;
-          born = 2;
-          goal = desired.Running;
+        record (task_row 3 74 2 2 (Slot 1) template_1) {
           node = Some 1;
           state = state.Shutdown;
           since = 11;
           desired = desired.Shutdown;
-          created = 0;
-          raise_at = 0;
-          addresses = [];
-          note = note.Empty;
-          closed = None;
         }
-        ∷ record {
-          id = 4;
-          version = 78;
-          service = 2;
-          place = Slot 2;
-          iteration = 0;
-          template = template_1;
-          born = 2;
-          goal = desired.Running;
+        ∷ record (task_row 4 78 2 2 (Slot 2) template_1) {
           node = Some 1;
           state = state.Shutdown;
           since = 11;
           desired = desired.Shutdown;
-          created = 0;
-          raise_at = 0;
-          addresses = [];
-          note = note.Empty;
-          closed = None;
         }
-        ∷ record {
-          id = 5;
-          version = 50;
-          service = 2;
-          place = Slot 3;
-          iteration = 0;
-          template = template_1;
-          born = 2;
-          goal = desired.Running;
-          node = Some 1;
-          state = state.Running;
-          since = 2;
-          desired = desired.Running;
-          created = 0;
-          raise_at = 0;
-          addresses = [];
-          note = note.Empty;
-          closed = None;
-        }
-        ∷ record {
-          id = 6;
-          version = 51;
-          service = 2;
-          place = Slot 4;
-          iteration = 0;
-          template = template_1;
-          born = 2;
-          goal = desired.Running;
-          node = Some 1;
-          state = state.Running;
-          since = 2;
-          desired = desired.Running;
-          created = 0;
-          raise_at = 0;
-          addresses = [];
-          note = note.Empty;
-          closed = None;
-        }
-        ∷ record {
-          id = 8;
-          version = 83;
-          service = 2;
-          place = Slot 1;
-          iteration = 0;
-          template = template_2;
-          born = 53;
-          goal = desired.Running;
+        ∷ record (task_row 5 50 2 2 (Slot 3) template_1) { node = Some 1; state = state.Running; since = 2 }
+        ∷ record (task_row 6 51 2 2 (Slot 4) template_1) { node = Some 1; state = state.Running; since = 2 }
+        ∷ record (task_row 8 83 2 53 (Slot 1) template_2) {
           node = Some 1;
           state = state.Rejected;
           since = 11;
           desired = desired.Shutdown;
           created = 10;
           raise_at = 10;
-          addresses = [];
-          note = note.Empty;
           closed = Some closed.Condition;
         }
-        ∷ record {
-          id = 9;
-          version = 88;
-          service = 2;
-          place = Slot 2;
-          iteration = 0;
-          template = template_2;
-          born = 53;
-          goal = desired.Running;
+        ∷ record (task_row 9 88 2 53 (Slot 2) template_2) {
           node = Some 1;
           state = state.Rejected;
           since = 11;
           desired = desired.Shutdown;
           created = 10;
           raise_at = 10;
-          addresses = [];
-          note = note.Empty;
           closed = Some closed.Condition;
         }
         ∷ [];
-    networks = [];
-    attempts = [];
-    sessions = record { node = 1; session = record { id = 7; deadline = 15000; beat = 0 } } ∷ [];
-    settings = record { heartbeat = 5000; orphan = 86400000; history = 5 };
+    sessions = session_row 1 7 15000 0 ∷ [];
   };
   sent =
       record {
         node = 1;
         count = 6;
         tasks =
-            record { task = 3; desired = desired.Shutdown; workload = workload_1 }
-            ∷ record { task = 4; desired = desired.Shutdown; workload = workload_1 }
-            ∷ record { task = 5; desired = desired.Running; workload = workload_1 }
-            ∷ record { task = 6; desired = desired.Running; workload = workload_1 }
-            ∷ record { task = 8; desired = desired.Shutdown; workload = workload_2 }
-            ∷ record { task = 9; desired = desired.Shutdown; workload = workload_2 }
+            assigned 3 desired.Shutdown usual_workload
+            ∷ assigned 4 desired.Shutdown usual_workload
+            ∷ assigned 5 desired.Running usual_workload
+            ∷ assigned 6 desired.Running usual_workload
+            ∷ assigned 8 desired.Shutdown workload_2
+            ∷ assigned 9 desired.Shutdown workload_2
             ∷ [];
       }
       ∷ [];
   agents =
-      record {
-        node = 1;
-        mode = agent_mode.On;
-        inbox = None;
-        applied = 6;
-        executors =
-            record {
-              task = 3;
-              desired = desired.Shutdown;
-              workload = workload_1;
-              state = state.Shutdown;
-              since = 11;
-              stopping = Some 11;
-              reported = Some state.Shutdown;
-              gone = false;
-            }
-            ∷ record {
-              task = 4;
-              desired = desired.Shutdown;
-              workload = workload_1;
-              state = state.Shutdown;
-              since = 11;
-              stopping = Some 11;
-              reported = Some state.Shutdown;
-              gone = false;
-            }
-            ∷ record {
-              task = 5;
-              desired = desired.Running;
-              workload = workload_1;
-              state = state.Running;
-              since = 2;
-              stopping = None;
-              reported = Some state.Running;
-              gone = false;
-            }
-            ∷ record {
-              task = 6;
-              desired = desired.Running;
-              workload = workload_1;
-              state = state.Running;
-              since = 2;
-              stopping = None;
-              reported = Some state.Running;
-              gone = false;
-            }
-            ∷ record {
-              task = 8;
-              desired = desired.Shutdown;
-              workload = workload_2;
-              state = state.Rejected;
-              since = 11;
-              stopping = None;
-              reported = Some state.Rejected;
-              gone = false;
-            }
-            ∷ record {
-              task = 9;
-              desired = desired.Shutdown;
-              workload = workload_2;
-              state = state.Rejected;
-              since = 11;
-              stopping = None;
-              reported = Some state.Rejected;
-              gone = false;
-            }
-            ∷ [];
-      }
+      agent_row 1 6 (
+      record (executor_row 3 usual_workload state.Shutdown 11) { desired = desired.Shutdown; stopping = Some 11 }
+      ∷ record (executor_row 4 usual_workload state.Shutdown 11) { desired = desired.Shutdown; stopping = Some 11 }
+      ∷ executor_row 5 usual_workload state.Running 2
+      ∷ executor_row 6 usual_workload state.Running 2
+      ∷ record (executor_row 8 workload_2 state.Rejected 11) { desired = desired.Shutdown }
+      ∷ record (executor_row 9 workload_2 state.Rejected 11) { desired = desired.Shutdown }
+      ∷ [])
       ∷ [];
-  watchers = [];
-  events = [];
   halted = true;
 }
 

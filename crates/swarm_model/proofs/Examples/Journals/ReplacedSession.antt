@@ -1,10 +1,13 @@
 -- A remote node opens a second session, and reports under the old one.
-use Rattle.std.specs.Prelude.{List, None, Some, [], codes, false, refl, true, ◌∷◌, ◌≡◌}
+use Rattle.std.specs.Prelude.{List, None, Some, [], codes, refl, true, ◌∷◌, ◌≡◌}
 use Rattle.swarm_model.proofs.Examples.Audit.{IsPlayed, Told, asked, did, entries_of, played}
 use Rattle.swarm_model.proofs.Examples.LawTests.{laws_hold}
+use Rattle.swarm_model.proofs.Examples.Usual.{draft, made, node_row, service_row, session_row, task_row, task_seen}
+use Rattle.swarm_model.proofs.Examples.Words.{one}
 use Rattle.swarm_model.specs.Script.{Asked, Asks, Settles}
 use Rattle.swarm_model.specs.Serial.{serial}
-use Rattle.swarm_objects.specs.World.{World, empty_world}
+use Rattle.swarm_objects.specs.Defaults.{usual_node, usual_spec, usual_template}
+use Rattle.swarm_objects.specs.World.{World, empty_tables, empty_world}
 use Rattle.swarm_objects.specs.declared.calls.Call.TheVariants as call
 use Rattle.swarm_objects.specs.declared.calls.Entry.{Entry}
 use Rattle.swarm_objects.specs.declared.calls.Op.TheVariants as op
@@ -12,79 +15,22 @@ use Rattle.swarm_objects.specs.declared.calls.Query.TheVariants as query
 use Rattle.swarm_objects.specs.declared.duties.Cause.TheVariants as cause
 use Rattle.swarm_objects.specs.declared.duties.Duty.TheVariants as duty
 use Rattle.swarm_objects.specs.declared.duties.Settle.TheVariants as settle
-use Rattle.swarm_objects.specs.declared.nodes.Availability.TheVariants as availability
 use Rattle.swarm_objects.specs.declared.nodes.NodeDraft.{NodeDraft}
-use Rattle.swarm_objects.specs.declared.nodes.NodeRole.TheVariants as node_role
-use Rattle.swarm_objects.specs.declared.nodes.NodeState.TheVariants as node_state
 use Rattle.swarm_objects.specs.declared.replies.Refusal.TheVariants as refusal
 use Rattle.swarm_objects.specs.declared.replies.Reply.TheVariants as reply
 use Rattle.swarm_objects.specs.declared.replies.ViewReply.TheVariants as view
-use Rattle.swarm_objects.specs.declared.services.FailureAction.TheVariants as action
-use Rattle.swarm_objects.specs.declared.services.Mode.TheVariants as mode
-use Rattle.swarm_objects.specs.declared.services.ServiceSpec.{ServiceSpec}
-use Rattle.swarm_objects.specs.declared.services.UpdateOrder.TheVariants as order
-use Rattle.swarm_objects.specs.declared.tasks.Desired.TheVariants as desired
-use Rattle.swarm_objects.specs.declared.tasks.Note.TheVariants as note
 use Rattle.swarm_objects.specs.declared.tasks.Place.TheVariants.{Slot}
 use Rattle.swarm_objects.specs.declared.tasks.TaskState.TheVariants as state
-use Rattle.swarm_objects.specs.declared.templates.End.TheVariants as end
-use Rattle.swarm_objects.specs.declared.templates.RestartCondition.TheVariants as condition
-use Rattle.swarm_objects.specs.declared.templates.Template.{Template}
-use Rattle.swarm_objects.specs.declared.templates.Workload.{Workload}
-use Rattle.swarm_objects.specs.declared.views.NoteShown.TheVariants as note_shown
 use Rattle.swarm_objects.specs.declared.views.PlaceShown.TheVariants as place_shown
-use Rattle.swarm_objects.specs.declared.views.Shown.TheVariants as by
 
 abbrev draft_1 : NodeDraft
-draft_1 = record {
-  labels = [];
-  role = node_role.Worker;
-  availability = availability.Active;
-  cpu = 4000;
-  mem = 8589934592;
-  os = codes "linux";
-  arch = codes "amd64";
-  engine = [];
-  remote = true;
-}
-
-abbrev workload_1 : Workload
-workload_1 = record { prepare = 1; start = 1; stop = 1; end = end.Never }
-
-abbrev template_1 : Template
-template_1 = record {
-  workload = workload_1;
-  cpu = 0;
-  mem = 0;
-  constraints = [];
-  spread = [];
-  platforms = [];
-  max_replicas = 0;
-  networks = [];
-  host_ports = [];
-  restart = record { condition = condition.Any; delay = 5000; max_attempts = 0; window = 0 };
-}
-
-abbrev spec_1 : ServiceSpec
-spec_1 = record {
-  mode = mode.Replicated 1;
-  template = template_1;
-  ports = [];
-  update = record {
-    parallelism = 1;
-    delay = 0;
-    monitor = 5000;
-    action = action.Pause;
-    ratio = 0;
-    order = order.StopFirst;
-  };
-}
+draft_1 = record usual_node { remote = true }
 
 -- the script
 abbrev lines : List Asked
 lines =
-    Asks (call.Txn (op.CreateNode (codes "r1") draft_1 ∷ []))
-    ∷ Asks (call.Txn (op.CreateService (codes "web") (record { spec = spec_1; networks = [] }) ∷ []))
+    Asks (one (op.CreateNode (codes "r1") draft_1))
+    ∷ Asks (one (op.CreateService (codes "web") (draft usual_spec)))
     ∷ Asks (call.RemoteBegin (codes "r1") None None)
     ∷ Settles 100000
     ∷ Asks (call.RemoteBegin (codes "r1") None None)
@@ -94,9 +40,8 @@ lines =
 
 abbrev pub journal : List Told
 journal =
-    asked 0 (call.Txn (op.CreateNode (codes "r1") draft_1 ∷ [])) (reply.Txn (1 ∷ []))
-    ∷ asked 0 (call.Txn (op.CreateService (codes "web") (record { spec = spec_1; networks = [] }) ∷ []))
-    (reply.Txn (2 ∷ []))
+    asked 0 (one (op.CreateNode (codes "r1") draft_1)) (made 1)
+    ∷ asked 0 (one (op.CreateService (codes "web") (draft usual_spec))) (made 2)
     ∷ asked 0 (call.RemoteBegin (codes "r1") None None) (reply.SessionBegun 3 15000)
     ∷ did 0 (duty.ReplicatedCreate 2 1)
     ∷ did 0 (duty.Address 4)
@@ -105,87 +50,20 @@ journal =
     ∷ asked 0 (call.RemoteBegin (codes "r1") None None) (reply.SessionBegun 5 15000)
     ∷ asked 0 (call.RemoteStatus (codes "r1") 3 4 state.Running) (reply.Refused (refusal.InvalidSession (Some 5)))
     ∷ asked 0 (call.View (query.ListTasks None)) (reply.View (view.Tasks (
-    record {
-      id = 4;
-      service = by.Name (codes "web");
-      place = place_shown.Slot 1;
-      node = Some (by.Name (codes "r1"));
-      state = state.Assigned;
-      desired = desired.Running;
-      note = note_shown.Empty;
-    }
-    ∷ [])))
+    task_seen 4 (codes "web") (place_shown.Slot 1) (codes "r1") state.Assigned ∷ [])))
     ∷ asked 0 call.Halt reply.HaltDone
     ∷ []
 
 abbrev pub world : World
-world = record {
+world = record empty_world {
   entries = 11;
-  tables = record {
-    clock = 0;
+  tables = record empty_tables {
     next_id = 6;
-    nodes =
-        record {
-          id = 1;
-          version = 8;
-          name = codes "r1";
-          labels = [];
-          role = node_role.Worker;
-          availability = availability.Active;
-          state = node_state.Ready;
-          down_since = 0;
-          cpu = 4000;
-          mem = 8589934592;
-          os = codes "linux";
-          arch = codes "amd64";
-          engine = [];
-          remote = true;
-        }
-        ∷ [];
-    services =
-        record {
-          id = 2;
-          version = 2;
-          name = codes "web";
-          spec = spec_1;
-          previous = None;
-          template_version = 2;
-          rolling_back = false;
-          iteration = 0;
-          numbers = [];
-          run = None;
-        }
-        ∷ [];
-    tasks =
-        record {
-          id = 4;
-          version = 6;
-          service = 2;
-          place = Slot 1;
-          iteration = 0;
-          template = template_1;
-          born = 2;
-          goal = desired.Running;
-          node = Some 1;
-          state = state.Assigned;
-          since = 0;
-          desired = desired.Running;
-          created = 0;
-          raise_at = 0;
-          addresses = [];
-          note = note.Empty;
-          closed = None;
-        }
-        ∷ [];
-    networks = [];
-    attempts = [];
-    sessions = record { node = 1; session = record { id = 5; deadline = 15000; beat = 0 } } ∷ [];
-    settings = record { heartbeat = 5000; orphan = 86400000; history = 5 };
+    nodes = node_row 1 8 (codes "r1") draft_1 ∷ [];
+    services = service_row 2 2 (codes "web") usual_spec ∷ [];
+    tasks = record (task_row 4 6 2 2 (Slot 1) usual_template) { node = Some 1; state = state.Assigned } ∷ [];
+    sessions = session_row 1 5 15000 0 ∷ [];
   };
-  sent = [];
-  agents = [];
-  watchers = [];
-  events = [];
   halted = true;
 }
 

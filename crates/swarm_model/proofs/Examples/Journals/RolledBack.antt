@@ -1,32 +1,28 @@
 -- An update whose new tasks are rejected is rolled back.
-use Rattle.std.specs.Prelude.{List, None, Some, [], codes, false, refl, true, ◌∷◌, ◌≡◌}
+use Rattle.std.specs.Prelude.{List, None, Some, [], codes, refl, true, ◌∷◌, ◌≡◌}
 use Rattle.swarm_model.proofs.Examples.Audit.{IsPlayed, Told, asked, did, entries_of, played}
 use Rattle.swarm_model.proofs.Examples.LawTests.{laws_hold}
+use Rattle.swarm_model.proofs.Examples.Usual.{agent_row, assigned, draft, executor_row, made, node_row, service_row, session_row, task_row, ticks}
+use Rattle.swarm_model.proofs.Examples.Words.{one}
 use Rattle.swarm_model.specs.Laws.Matches.{Matches}
 use Rattle.swarm_model.specs.Script.{Asked, Asks, Settles, Waits}
 use Rattle.swarm_model.specs.Serial.{serial}
-use Rattle.swarm_objects.specs.World.{World, empty_world}
-use Rattle.swarm_objects.specs.declared.agents.AgentMode.TheVariants as agent_mode
+use Rattle.swarm_objects.specs.Defaults.{usual_node, usual_restart, usual_spec, usual_template, usual_update, usual_workload}
+use Rattle.swarm_objects.specs.World.{World, empty_tables, empty_world}
 use Rattle.swarm_objects.specs.declared.calls.Call.TheVariants as call
 use Rattle.swarm_objects.specs.declared.calls.Entry.{Entry}
 use Rattle.swarm_objects.specs.declared.calls.Op.TheVariants as op
 use Rattle.swarm_objects.specs.declared.calls.Query.TheVariants as query
 use Rattle.swarm_objects.specs.declared.duties.Duty.TheVariants as duty
 use Rattle.swarm_objects.specs.declared.duties.Settle.TheVariants as settle
-use Rattle.swarm_objects.specs.declared.nodes.Availability.TheVariants as availability
-use Rattle.swarm_objects.specs.declared.nodes.NodeDraft.{NodeDraft}
-use Rattle.swarm_objects.specs.declared.nodes.NodeRole.TheVariants as node_role
-use Rattle.swarm_objects.specs.declared.nodes.NodeState.TheVariants as node_state
 use Rattle.swarm_objects.specs.declared.replies.Reply.TheVariants as reply
 use Rattle.swarm_objects.specs.declared.replies.ViewReply.TheVariants as view
 use Rattle.swarm_objects.specs.declared.services.FailureAction.TheVariants as action
 use Rattle.swarm_objects.specs.declared.services.Mode.TheVariants as mode
 use Rattle.swarm_objects.specs.declared.services.RunStatus.TheVariants as status
 use Rattle.swarm_objects.specs.declared.services.ServiceSpec.{ServiceSpec}
-use Rattle.swarm_objects.specs.declared.services.UpdateOrder.TheVariants as order
 use Rattle.swarm_objects.specs.declared.tasks.Closed.TheVariants as closed
 use Rattle.swarm_objects.specs.declared.tasks.Desired.TheVariants as desired
-use Rattle.swarm_objects.specs.declared.tasks.Note.TheVariants as note
 use Rattle.swarm_objects.specs.declared.tasks.Place.TheVariants.{Slot}
 use Rattle.swarm_objects.specs.declared.tasks.TaskState.TheVariants as state
 use Rattle.swarm_objects.specs.declared.templates.End.TheVariants as end
@@ -34,90 +30,39 @@ use Rattle.swarm_objects.specs.declared.templates.RestartCondition.TheVariants a
 use Rattle.swarm_objects.specs.declared.templates.Template.{Template}
 use Rattle.swarm_objects.specs.declared.templates.Workload.{Workload}
 
-abbrev draft_1 : NodeDraft
-draft_1 = record {
-  labels = [];
-  role = node_role.Worker;
-  availability = availability.Active;
-  cpu = 4000;
-  mem = 8589934592;
-  os = codes "linux";
-  arch = codes "amd64";
-  engine = [];
-  remote = false;
-}
-
-abbrev workload_1 : Workload
-workload_1 = record { prepare = 1; start = 1; stop = 1; end = end.Never }
-
 abbrev template_1 : Template
-template_1 = record {
-  workload = workload_1;
-  cpu = 0;
-  mem = 0;
-  constraints = [];
-  spread = [];
-  platforms = [];
-  max_replicas = 0;
-  networks = [];
-  host_ports = [];
-  restart = record { condition = condition.Never; delay = 5000; max_attempts = 0; window = 0 };
-}
+template_1 = record usual_template { restart = record usual_restart { condition = condition.Never } }
 
 abbrev spec_1 : ServiceSpec
-spec_1 = record {
+spec_1 = record usual_spec {
   mode = mode.Replicated 4;
   template = template_1;
-  ports = [];
-  update = record {
-    parallelism = 2;
-    delay = 0;
-    monitor = 5000;
-    action = action.Pause;
-    ratio = 0;
-    order = order.StopFirst;
-  };
+  update = record usual_update { parallelism = 2 };
 }
 
 abbrev workload_2 : Workload
-workload_2 = record { prepare = 1; start = 1; stop = 1; end = end.Reject }
+workload_2 = record usual_workload { end = end.Reject }
 
 abbrev template_2 : Template
-template_2 = record {
+template_2 = record usual_template {
   workload = workload_2;
-  cpu = 0;
-  mem = 0;
-  constraints = [];
-  spread = [];
-  platforms = [];
-  max_replicas = 0;
-  networks = [];
-  host_ports = [];
-  restart = record { condition = condition.Never; delay = 5000; max_attempts = 0; window = 0 };
+  restart = record usual_restart { condition = condition.Never };
 }
 
 abbrev spec_2 : ServiceSpec
-spec_2 = record {
+spec_2 = record usual_spec {
   mode = mode.Replicated 4;
   template = template_2;
-  ports = [];
-  update = record {
-    parallelism = 2;
-    delay = 0;
-    monitor = 5000;
-    action = action.Rollback;
-    ratio = 0;
-    order = order.StopFirst;
-  };
+  update = record usual_update { parallelism = 2; action = action.Rollback };
 }
 
 -- the script
 abbrev lines : List Asked
 lines =
-    Asks (call.Txn (op.CreateNode (codes "n1") draft_1 ∷ []))
-    ∷ Asks (call.Txn (op.CreateService (codes "web") (record { spec = spec_1; networks = [] }) ∷ []))
+    Asks (one (op.CreateNode (codes "n1") usual_node))
+    ∷ Asks (one (op.CreateService (codes "web") (draft spec_1)))
     ∷ Waits 10
-    ∷ Asks (call.Txn (op.UpdateService (codes "web") None (record { spec = spec_2; networks = [] }) ∷ []))
+    ∷ Asks (one (op.UpdateService (codes "web") None (draft spec_2)))
     ∷ Waits 10000
     ∷ Settles 100000
     ∷ Asks (call.View query.ListServices)
@@ -125,9 +70,8 @@ lines =
 
 abbrev pub journal : List Told
 journal =
-    asked 0 (call.Txn (op.CreateNode (codes "n1") draft_1 ∷ [])) (reply.Txn (1 ∷ []))
-    ∷ asked 0 (call.Txn (op.CreateService (codes "web") (record { spec = spec_1; networks = [] }) ∷ []))
-    (reply.Txn (2 ∷ []))
+    asked 0 (one (op.CreateNode (codes "n1") usual_node)) (made 1)
+    ∷ asked 0 (one (op.CreateService (codes "web") (draft spec_1))) (made 2)
     ∷ did 0 (duty.ReplicatedCreate 2 1)
     ∷ did 0 (duty.ReplicatedCreate 2 2)
     ∷ did 0 (duty.ReplicatedCreate 2 3)
@@ -155,7 +99,7 @@ journal =
     ∷ did 0 (duty.Report 1 4)
     ∷ did 0 (duty.Report 1 5)
     ∷ did 0 (duty.Report 1 6)
-    ∷ asked 0 (call.Tick 1) reply.Ticked
+    ∷ ticks 1
     ∷ did 0 (duty.Exec 1 3)
     ∷ did 0 (duty.Exec 1 3)
     ∷ did 0 (duty.Exec 1 4)
@@ -168,7 +112,7 @@ journal =
     ∷ did 0 (duty.Report 1 4)
     ∷ did 0 (duty.Report 1 5)
     ∷ did 0 (duty.Report 1 6)
-    ∷ asked 0 (call.Tick 1) reply.Ticked
+    ∷ ticks 1
     ∷ did 0 (duty.Exec 1 3)
     ∷ did 0 (duty.Exec 1 4)
     ∷ did 0 (duty.Exec 1 5)
@@ -177,9 +121,8 @@ journal =
     ∷ did 0 (duty.Report 1 4)
     ∷ did 0 (duty.Report 1 5)
     ∷ did 0 (duty.Report 1 6)
-    ∷ asked 0 (call.Tick 8) reply.Ticked
-    ∷ asked 0 (call.Txn (op.UpdateService (codes "web") None (record { spec = spec_2; networks = [] }) ∷ []))
-    (reply.Txn (2 ∷ []))
+    ∷ ticks 8
+    ∷ asked 0 (one (op.UpdateService (codes "web") None (draft spec_2))) (made 2)
     ∷ did 0 (duty.Start 2)
     ∷ did 0 (duty.Replace 2 1)
     ∷ did 0 (duty.Replace 2 2)
@@ -195,7 +138,7 @@ journal =
     ∷ did 0 (duty.Exec 1 9)
     ∷ did 0 (duty.Report 1 8)
     ∷ did 0 (duty.Report 1 9)
-    ∷ asked 0 (call.Tick 1) reply.Ticked
+    ∷ ticks 1
     ∷ did 0 (duty.Exec 1 3)
     ∷ did 0 (duty.Exec 1 4)
     ∷ did 0 (duty.Exec 1 8)
@@ -228,30 +171,30 @@ journal =
     ∷ did 0 (duty.Apply 1)
     ∷ did 0 (duty.Report 1 10)
     ∷ did 0 (duty.Report 1 11)
-    ∷ asked 0 (call.Tick 1) reply.Ticked
+    ∷ ticks 1
     ∷ did 0 (duty.Exec 1 10)
     ∷ did 0 (duty.Exec 1 10)
     ∷ did 0 (duty.Exec 1 11)
     ∷ did 0 (duty.Exec 1 11)
     ∷ did 0 (duty.Report 1 10)
     ∷ did 0 (duty.Report 1 11)
-    ∷ asked 0 (call.Tick 1) reply.Ticked
+    ∷ ticks 1
     ∷ did 0 (duty.Exec 1 10)
     ∷ did 0 (duty.Exec 1 11)
     ∷ did 0 (duty.Report 1 10)
     ∷ did 0 (duty.Report 1 11)
-    ∷ asked 0 (call.Tick 1000) reply.Ticked
-    ∷ asked 0 (call.Tick 1000) reply.Ticked
-    ∷ asked 0 (call.Tick 1000) reply.Ticked
-    ∷ asked 0 (call.Tick 1000) reply.Ticked
-    ∷ asked 0 (call.Tick 998) reply.Ticked
+    ∷ ticks 1000
+    ∷ ticks 1000
+    ∷ ticks 1000
+    ∷ ticks 1000
+    ∷ ticks 998
     ∷ did 0 (duty.Finish 2)
     ∷ did 0 (duty.Beat 1)
-    ∷ asked 0 (call.Tick 1000) reply.Ticked
-    ∷ asked 0 (call.Tick 1000) reply.Ticked
-    ∷ asked 0 (call.Tick 1000) reply.Ticked
-    ∷ asked 0 (call.Tick 1000) reply.Ticked
-    ∷ asked 0 (call.Tick 999) reply.Ticked
+    ∷ ticks 1000
+    ∷ ticks 1000
+    ∷ ticks 1000
+    ∷ ticks 1000
+    ∷ ticks 999
     ∷ asked 0 (call.Settle 100000) (reply.Settle 100000 settle.Settled)
     ∷ asked 0 (call.View query.ListServices) (reply.View (view.Services (
     record {
@@ -267,40 +210,16 @@ journal =
     ∷ []
 
 abbrev pub world : World
-world = record {
+world = record empty_world {
   entries = 128;
-  tables = record {
+  tables = record empty_tables {
     clock = 10010;
     next_id = 12;
-    nodes =
-        record {
-          id = 1;
-          version = 15;
-          name = codes "n1";
-          labels = [];
-          role = node_role.Worker;
-          availability = availability.Active;
-          state = node_state.Ready;
-          down_since = 0;
-          cpu = 4000;
-          mem = 8589934592;
-          os = codes "linux";
-          arch = codes "amd64";
-          engine = [];
-          remote = false;
-        }
-        ∷ [];
+    nodes = node_row 1 15 (codes "n1") usual_node ∷ [];
     services =
-        record {
-          id = 2;
-          version = 119;
-          name = codes "web";
-          spec = spec_1;
-          previous = None;
+        record (service_row 2 119 (codes "web") spec_1) {
           template_version = 84;
           rolling_back = true;
-          iteration = 0;
-          numbers = [];
           run = Some (record {
             status = status.RollbackCompleted;
             version = 84;
@@ -313,272 +232,82 @@ world = record {
         }
         ∷ [];
     tasks =
-        record {
-          id = 3;
-          version = 74;
-          service = 2;
-          place = Slot 1;
-          iteration = 0;
-          template = template_1;
-          born = 2;
-          goal = desired.Running;
+        record (task_row 3 74 2 2 (Slot 1) template_1) {
           node = Some 1;
           state = state.Shutdown;
           since = 11;
           desired = desired.Shutdown;
-          created = 0;
-          raise_at = 0;
-          addresses = [];
-          note = note.Empty;
-          closed = None;
         }
-        ∷ record {
-          id = 4;
-          version = 78;
-          service = 2;
-          place = Slot 2;
-          iteration = 0;
-          template = template_1;
-          born = 2;
-          goal = desired.Running;
+        ∷ record (task_row 4 78 2 2 (Slot 2) template_1) {
           node = Some 1;
           state = state.Shutdown;
           since = 11;
           desired = desired.Shutdown;
-          created = 0;
-          raise_at = 0;
-          addresses = [];
-          note = note.Empty;
-          closed = None;
         }
-        ∷ record {
-          id = 5;
-          version = 50;
-          service = 2;
-          place = Slot 3;
-          iteration = 0;
-          template = template_1;
-          born = 2;
-          goal = desired.Running;
-          node = Some 1;
-          state = state.Running;
-          since = 2;
-          desired = desired.Running;
-          created = 0;
-          raise_at = 0;
-          addresses = [];
-          note = note.Empty;
-          closed = None;
-        }
-        ∷ record {
-          id = 6;
-          version = 51;
-          service = 2;
-          place = Slot 4;
-          iteration = 0;
-          template = template_1;
-          born = 2;
-          goal = desired.Running;
-          node = Some 1;
-          state = state.Running;
-          since = 2;
-          desired = desired.Running;
-          created = 0;
-          raise_at = 0;
-          addresses = [];
-          note = note.Empty;
-          closed = None;
-        }
-        ∷ record {
-          id = 8;
-          version = 83;
-          service = 2;
-          place = Slot 1;
-          iteration = 0;
-          template = template_2;
-          born = 53;
-          goal = desired.Running;
+        ∷ record (task_row 5 50 2 2 (Slot 3) template_1) { node = Some 1; state = state.Running; since = 2 }
+        ∷ record (task_row 6 51 2 2 (Slot 4) template_1) { node = Some 1; state = state.Running; since = 2 }
+        ∷ record (task_row 8 83 2 53 (Slot 1) template_2) {
           node = Some 1;
           state = state.Rejected;
           since = 11;
           desired = desired.Shutdown;
           created = 10;
           raise_at = 10;
-          addresses = [];
-          note = note.Empty;
           closed = Some closed.Condition;
         }
-        ∷ record {
-          id = 9;
-          version = 96;
-          service = 2;
-          place = Slot 2;
-          iteration = 0;
-          template = template_2;
-          born = 53;
-          goal = desired.Running;
+        ∷ record (task_row 9 96 2 53 (Slot 2) template_2) {
           node = Some 1;
           state = state.Rejected;
           since = 11;
           desired = desired.Shutdown;
           created = 10;
           raise_at = 10;
-          addresses = [];
-          note = note.Empty;
-          closed = None;
         }
-        ∷ record {
-          id = 10;
-          version = 112;
-          service = 2;
-          place = Slot 1;
-          iteration = 0;
-          template = template_1;
-          born = 84;
-          goal = desired.Running;
+        ∷ record (task_row 10 112 2 84 (Slot 1) template_1) {
           node = Some 1;
           state = state.Running;
           since = 13;
-          desired = desired.Running;
           created = 11;
           raise_at = 11;
-          addresses = [];
-          note = note.Empty;
-          closed = None;
         }
-        ∷ record {
-          id = 11;
-          version = 113;
-          service = 2;
-          place = Slot 2;
-          iteration = 0;
-          template = template_1;
-          born = 84;
-          goal = desired.Running;
+        ∷ record (task_row 11 113 2 84 (Slot 2) template_1) {
           node = Some 1;
           state = state.Running;
           since = 13;
-          desired = desired.Running;
           created = 11;
           raise_at = 11;
-          addresses = [];
-          note = note.Empty;
-          closed = None;
         }
         ∷ [];
-    networks = [];
-    attempts = [];
-    sessions = record { node = 1; session = record { id = 7; deadline = 20011; beat = 5011 } } ∷ [];
-    settings = record { heartbeat = 5000; orphan = 86400000; history = 5 };
+    sessions = session_row 1 7 20011 5011 ∷ [];
   };
   sent =
       record {
         node = 1;
         count = 6;
         tasks =
-            record { task = 3; desired = desired.Shutdown; workload = workload_1 }
-            ∷ record { task = 4; desired = desired.Shutdown; workload = workload_1 }
-            ∷ record { task = 5; desired = desired.Running; workload = workload_1 }
-            ∷ record { task = 6; desired = desired.Running; workload = workload_1 }
-            ∷ record { task = 8; desired = desired.Shutdown; workload = workload_2 }
-            ∷ record { task = 9; desired = desired.Shutdown; workload = workload_2 }
-            ∷ record { task = 10; desired = desired.Running; workload = workload_1 }
-            ∷ record { task = 11; desired = desired.Running; workload = workload_1 }
+            assigned 3 desired.Shutdown usual_workload
+            ∷ assigned 4 desired.Shutdown usual_workload
+            ∷ assigned 5 desired.Running usual_workload
+            ∷ assigned 6 desired.Running usual_workload
+            ∷ assigned 8 desired.Shutdown workload_2
+            ∷ assigned 9 desired.Shutdown workload_2
+            ∷ assigned 10 desired.Running usual_workload
+            ∷ assigned 11 desired.Running usual_workload
             ∷ [];
       }
       ∷ [];
   agents =
-      record {
-        node = 1;
-        mode = agent_mode.On;
-        inbox = None;
-        applied = 6;
-        executors =
-            record {
-              task = 3;
-              desired = desired.Shutdown;
-              workload = workload_1;
-              state = state.Shutdown;
-              since = 11;
-              stopping = Some 11;
-              reported = Some state.Shutdown;
-              gone = false;
-            }
-            ∷ record {
-              task = 4;
-              desired = desired.Shutdown;
-              workload = workload_1;
-              state = state.Shutdown;
-              since = 11;
-              stopping = Some 11;
-              reported = Some state.Shutdown;
-              gone = false;
-            }
-            ∷ record {
-              task = 5;
-              desired = desired.Running;
-              workload = workload_1;
-              state = state.Running;
-              since = 2;
-              stopping = None;
-              reported = Some state.Running;
-              gone = false;
-            }
-            ∷ record {
-              task = 6;
-              desired = desired.Running;
-              workload = workload_1;
-              state = state.Running;
-              since = 2;
-              stopping = None;
-              reported = Some state.Running;
-              gone = false;
-            }
-            ∷ record {
-              task = 8;
-              desired = desired.Shutdown;
-              workload = workload_2;
-              state = state.Rejected;
-              since = 11;
-              stopping = None;
-              reported = Some state.Rejected;
-              gone = false;
-            }
-            ∷ record {
-              task = 9;
-              desired = desired.Shutdown;
-              workload = workload_2;
-              state = state.Rejected;
-              since = 11;
-              stopping = None;
-              reported = Some state.Rejected;
-              gone = false;
-            }
-            ∷ record {
-              task = 10;
-              desired = desired.Running;
-              workload = workload_1;
-              state = state.Running;
-              since = 13;
-              stopping = None;
-              reported = Some state.Running;
-              gone = false;
-            }
-            ∷ record {
-              task = 11;
-              desired = desired.Running;
-              workload = workload_1;
-              state = state.Running;
-              since = 13;
-              stopping = None;
-              reported = Some state.Running;
-              gone = false;
-            }
-            ∷ [];
-      }
+      agent_row 1 6 (
+      record (executor_row 3 usual_workload state.Shutdown 11) { desired = desired.Shutdown; stopping = Some 11 }
+      ∷ record (executor_row 4 usual_workload state.Shutdown 11) { desired = desired.Shutdown; stopping = Some 11 }
+      ∷ executor_row 5 usual_workload state.Running 2
+      ∷ executor_row 6 usual_workload state.Running 2
+      ∷ record (executor_row 8 workload_2 state.Rejected 11) { desired = desired.Shutdown }
+      ∷ record (executor_row 9 workload_2 state.Rejected 11) { desired = desired.Shutdown }
+      ∷ executor_row 10 usual_workload state.Running 13
+      ∷ executor_row 11 usual_workload state.Running 13
+      ∷ [])
       ∷ [];
-  watchers = [];
-  events = [];
   halted = true;
 }
 

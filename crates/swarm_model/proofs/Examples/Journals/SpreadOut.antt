@@ -1,117 +1,62 @@
 -- Four replicas are spread over the zones of four nodes.
-use Rattle.std.specs.Prelude.{List, None, Some, [], codes, false, refl, true, ◌∷◌, ◌≡◌}
+use Rattle.std.specs.Prelude.{List, None, Some, [], codes, refl, true, ◌∷◌, ◌≡◌}
 use Rattle.swarm_model.proofs.Examples.Audit.{IsPlayed, Told, asked, did, entries_of, played}
 use Rattle.swarm_model.proofs.Examples.LawTests.{laws_hold}
+use Rattle.swarm_model.proofs.Examples.Usual.{agent_row, assigned, draft, executor_row, made, node_row, service_row, session_row, task_row, task_seen, ticks}
+use Rattle.swarm_model.proofs.Examples.Words.{one}
 use Rattle.swarm_model.specs.Script.{Asked, Asks, Settles, Waits}
 use Rattle.swarm_model.specs.Serial.{serial}
-use Rattle.swarm_objects.specs.World.{World, empty_world}
-use Rattle.swarm_objects.specs.declared.agents.AgentMode.TheVariants as agent_mode
+use Rattle.swarm_objects.specs.Defaults.{usual_node, usual_spec, usual_template, usual_workload}
+use Rattle.swarm_objects.specs.World.{World, empty_tables, empty_world}
 use Rattle.swarm_objects.specs.declared.calls.Call.TheVariants as call
 use Rattle.swarm_objects.specs.declared.calls.Entry.{Entry}
 use Rattle.swarm_objects.specs.declared.calls.Op.TheVariants as op
 use Rattle.swarm_objects.specs.declared.calls.Query.TheVariants as query
 use Rattle.swarm_objects.specs.declared.duties.Duty.TheVariants as duty
 use Rattle.swarm_objects.specs.declared.duties.Settle.TheVariants as settle
-use Rattle.swarm_objects.specs.declared.nodes.Availability.TheVariants as availability
 use Rattle.swarm_objects.specs.declared.nodes.NodeDraft.{NodeDraft}
-use Rattle.swarm_objects.specs.declared.nodes.NodeRole.TheVariants as node_role
-use Rattle.swarm_objects.specs.declared.nodes.NodeState.TheVariants as node_state
 use Rattle.swarm_objects.specs.declared.replies.Reply.TheVariants as reply
 use Rattle.swarm_objects.specs.declared.replies.ViewReply.TheVariants as view
-use Rattle.swarm_objects.specs.declared.services.FailureAction.TheVariants as action
 use Rattle.swarm_objects.specs.declared.services.Mode.TheVariants as mode
 use Rattle.swarm_objects.specs.declared.services.ServiceSpec.{ServiceSpec}
-use Rattle.swarm_objects.specs.declared.services.UpdateOrder.TheVariants as order
 use Rattle.swarm_objects.specs.declared.tasks.Desired.TheVariants as desired
-use Rattle.swarm_objects.specs.declared.tasks.Note.TheVariants as note
 use Rattle.swarm_objects.specs.declared.tasks.Place.TheVariants.{Slot}
 use Rattle.swarm_objects.specs.declared.tasks.TaskState.TheVariants as state
-use Rattle.swarm_objects.specs.declared.templates.End.TheVariants as end
 use Rattle.swarm_objects.specs.declared.templates.Key.TheVariants as key
-use Rattle.swarm_objects.specs.declared.templates.RestartCondition.TheVariants as condition
 use Rattle.swarm_objects.specs.declared.templates.Template.{Template}
-use Rattle.swarm_objects.specs.declared.templates.Workload.{Workload}
-use Rattle.swarm_objects.specs.declared.views.NoteShown.TheVariants as note_shown
 use Rattle.swarm_objects.specs.declared.views.PlaceShown.TheVariants as place_shown
-use Rattle.swarm_objects.specs.declared.views.Shown.TheVariants as by
 
 abbrev draft_1 : NodeDraft
-draft_1 = record {
-  labels = (codes "zone", codes "a") ∷ [];
-  role = node_role.Worker;
-  availability = availability.Active;
-  cpu = 4000;
-  mem = 8589934592;
-  os = codes "linux";
-  arch = codes "amd64";
-  engine = [];
-  remote = false;
-}
+draft_1 = record usual_node { labels = (codes "zone", codes "a") ∷ [] }
 
 abbrev draft_2 : NodeDraft
-draft_2 = record {
-  labels = (codes "zone", codes "b") ∷ [];
-  role = node_role.Worker;
-  availability = availability.Active;
-  cpu = 4000;
-  mem = 8589934592;
-  os = codes "linux";
-  arch = codes "amd64";
-  engine = [];
-  remote = false;
-}
-
-abbrev workload_1 : Workload
-workload_1 = record { prepare = 1; start = 1; stop = 1; end = end.Never }
+draft_2 = record usual_node { labels = (codes "zone", codes "b") ∷ [] }
 
 abbrev template_1 : Template
-template_1 = record {
-  workload = workload_1;
-  cpu = 0;
-  mem = 0;
-  constraints = [];
-  spread = key.Label (codes "zone") ∷ [];
-  platforms = [];
-  max_replicas = 0;
-  networks = [];
-  host_ports = [];
-  restart = record { condition = condition.Any; delay = 5000; max_attempts = 0; window = 0 };
-}
+template_1 = record usual_template { spread = key.Label (codes "zone") ∷ [] }
 
 abbrev spec_1 : ServiceSpec
-spec_1 = record {
-  mode = mode.Replicated 4;
-  template = template_1;
-  ports = [];
-  update = record {
-    parallelism = 1;
-    delay = 0;
-    monitor = 5000;
-    action = action.Pause;
-    ratio = 0;
-    order = order.StopFirst;
-  };
-}
+spec_1 = record usual_spec { mode = mode.Replicated 4; template = template_1 }
 
 -- the script
 abbrev lines : List Asked
 lines =
-    Asks (call.Txn (op.CreateNode (codes "n1") draft_1 ∷ []))
-    ∷ Asks (call.Txn (op.CreateNode (codes "n2") draft_1 ∷ []))
-    ∷ Asks (call.Txn (op.CreateNode (codes "n3") draft_1 ∷ []))
-    ∷ Asks (call.Txn (op.CreateNode (codes "n4") draft_2 ∷ []))
+    Asks (one (op.CreateNode (codes "n1") draft_1))
+    ∷ Asks (one (op.CreateNode (codes "n2") draft_1))
+    ∷ Asks (one (op.CreateNode (codes "n3") draft_1))
+    ∷ Asks (one (op.CreateNode (codes "n4") draft_2))
     ∷ Settles 100000
-    ∷ Asks (call.Txn (op.CreateService (codes "web") (record { spec = spec_1; networks = [] }) ∷ []))
+    ∷ Asks (one (op.CreateService (codes "web") (draft spec_1)))
     ∷ Waits 10
     ∷ Asks (call.View (query.ListTasks None))
     ∷ []
 
 abbrev pub journal : List Told
 journal =
-    asked 0 (call.Txn (op.CreateNode (codes "n1") draft_1 ∷ [])) (reply.Txn (1 ∷ []))
-    ∷ asked 0 (call.Txn (op.CreateNode (codes "n2") draft_1 ∷ [])) (reply.Txn (2 ∷ []))
-    ∷ asked 0 (call.Txn (op.CreateNode (codes "n3") draft_1 ∷ [])) (reply.Txn (3 ∷ []))
-    ∷ asked 0 (call.Txn (op.CreateNode (codes "n4") draft_2 ∷ [])) (reply.Txn (4 ∷ []))
+    asked 0 (one (op.CreateNode (codes "n1") draft_1)) (made 1)
+    ∷ asked 0 (one (op.CreateNode (codes "n2") draft_1)) (made 2)
+    ∷ asked 0 (one (op.CreateNode (codes "n3") draft_1)) (made 3)
+    ∷ asked 0 (one (op.CreateNode (codes "n4") draft_2)) (made 4)
     ∷ did 0 (duty.Register 1)
     ∷ did 0 (duty.Pull 1)
     ∷ did 0 (duty.Apply 1)
@@ -125,8 +70,7 @@ journal =
     ∷ did 0 (duty.Pull 4)
     ∷ did 0 (duty.Apply 4)
     ∷ asked 0 (call.Settle 100000) (reply.Settle 100000 settle.Settled)
-    ∷ asked 0 (call.Txn (op.CreateService (codes "web") (record { spec = spec_1; networks = [] }) ∷ []))
-    (reply.Txn (9 ∷ []))
+    ∷ asked 0 (one (op.CreateService (codes "web") (draft spec_1))) (made 9)
     ∷ did 0 (duty.ReplicatedCreate 9 1)
     ∷ did 0 (duty.ReplicatedCreate 9 2)
     ∷ did 0 (duty.ReplicatedCreate 9 3)
@@ -153,7 +97,7 @@ journal =
     ∷ did 0 (duty.Exec 4 13)
     ∷ did 0 (duty.Report 4 11)
     ∷ did 0 (duty.Report 4 13)
-    ∷ asked 0 (call.Tick 1) reply.Ticked
+    ∷ ticks 1
     ∷ did 0 (duty.Exec 1 10)
     ∷ did 0 (duty.Exec 1 10)
     ∷ did 0 (duty.Report 1 10)
@@ -166,7 +110,7 @@ journal =
     ∷ did 0 (duty.Exec 4 13)
     ∷ did 0 (duty.Report 4 11)
     ∷ did 0 (duty.Report 4 13)
-    ∷ asked 0 (call.Tick 1) reply.Ticked
+    ∷ ticks 1
     ∷ did 0 (duty.Exec 1 10)
     ∷ did 0 (duty.Report 1 10)
     ∷ did 0 (duty.Exec 2 12)
@@ -175,308 +119,55 @@ journal =
     ∷ did 0 (duty.Exec 4 13)
     ∷ did 0 (duty.Report 4 11)
     ∷ did 0 (duty.Report 4 13)
-    ∷ asked 0 (call.Tick 8) reply.Ticked
+    ∷ ticks 8
     ∷ asked 0 (call.View (query.ListTasks None)) (reply.View (view.Tasks (
-    record {
-      id = 10;
-      service = by.Name (codes "web");
-      place = place_shown.Slot 1;
-      node = Some (by.Name (codes "n1"));
-      state = state.Running;
-      desired = desired.Running;
-      note = note_shown.Empty;
-    }
-    ∷ record {
-      id = 11;
-      service = by.Name (codes "web");
-      place = place_shown.Slot 2;
-      node = Some (by.Name (codes "n4"));
-      state = state.Running;
-      desired = desired.Running;
-      note = note_shown.Empty;
-    }
-    ∷ record {
-      id = 12;
-      service = by.Name (codes "web");
-      place = place_shown.Slot 3;
-      node = Some (by.Name (codes "n2"));
-      state = state.Running;
-      desired = desired.Running;
-      note = note_shown.Empty;
-    }
-    ∷ record {
-      id = 13;
-      service = by.Name (codes "web");
-      place = place_shown.Slot 4;
-      node = Some (by.Name (codes "n4"));
-      state = state.Running;
-      desired = desired.Running;
-      note = note_shown.Empty;
-    }
+    task_seen 10 (codes "web") (place_shown.Slot 1) (codes "n1") state.Running
+    ∷ task_seen 11 (codes "web") (place_shown.Slot 2) (codes "n4") state.Running
+    ∷ task_seen 12 (codes "web") (place_shown.Slot 3) (codes "n2") state.Running
+    ∷ task_seen 13 (codes "web") (place_shown.Slot 4) (codes "n4") state.Running
     ∷ [])))
     ∷ asked 0 call.Halt reply.HaltDone
     ∷ []
 
 abbrev pub world : World
-world = record {
+world = record empty_world {
   entries = 69;
-  tables = record {
+  tables = record empty_tables {
     clock = 10;
     next_id = 14;
     nodes =
-        record {
-          id = 1;
-          version = 5;
-          name = codes "n1";
-          labels = (codes "zone", codes "a") ∷ [];
-          role = node_role.Worker;
-          availability = availability.Active;
-          state = node_state.Ready;
-          down_since = 0;
-          cpu = 4000;
-          mem = 8589934592;
-          os = codes "linux";
-          arch = codes "amd64";
-          engine = [];
-          remote = false;
-        }
-        ∷ record {
-          id = 2;
-          version = 8;
-          name = codes "n2";
-          labels = (codes "zone", codes "a") ∷ [];
-          role = node_role.Worker;
-          availability = availability.Active;
-          state = node_state.Ready;
-          down_since = 0;
-          cpu = 4000;
-          mem = 8589934592;
-          os = codes "linux";
-          arch = codes "amd64";
-          engine = [];
-          remote = false;
-        }
-        ∷ record {
-          id = 3;
-          version = 11;
-          name = codes "n3";
-          labels = (codes "zone", codes "a") ∷ [];
-          role = node_role.Worker;
-          availability = availability.Active;
-          state = node_state.Ready;
-          down_since = 0;
-          cpu = 4000;
-          mem = 8589934592;
-          os = codes "linux";
-          arch = codes "amd64";
-          engine = [];
-          remote = false;
-        }
-        ∷ record {
-          id = 4;
-          version = 14;
-          name = codes "n4";
-          labels = (codes "zone", codes "b") ∷ [];
-          role = node_role.Worker;
-          availability = availability.Active;
-          state = node_state.Ready;
-          down_since = 0;
-          cpu = 4000;
-          mem = 8589934592;
-          os = codes "linux";
-          arch = codes "amd64";
-          engine = [];
-          remote = false;
-        }
+        node_row 1 5 (codes "n1") draft_1
+        ∷ node_row 2 8 (codes "n2") draft_1
+        ∷ node_row 3 11 (codes "n3") draft_1
+        ∷ node_row 4 14 (codes "n4") draft_2
         ∷ [];
-    services =
-        record {
-          id = 9;
-          version = 18;
-          name = codes "web";
-          spec = spec_1;
-          previous = None;
-          template_version = 18;
-          rolling_back = false;
-          iteration = 0;
-          numbers = [];
-          run = None;
-        }
-        ∷ [];
+    services = service_row 9 18 (codes "web") spec_1 ∷ [];
     tasks =
-        record {
-          id = 10;
-          version = 60;
-          service = 9;
-          place = Slot 1;
-          iteration = 0;
-          template = template_1;
-          born = 18;
-          goal = desired.Running;
-          node = Some 1;
-          state = state.Running;
-          since = 2;
-          desired = desired.Running;
-          created = 0;
-          raise_at = 0;
-          addresses = [];
-          note = note.Empty;
-          closed = None;
-        }
-        ∷ record {
-          id = 11;
-          version = 65;
-          service = 9;
-          place = Slot 2;
-          iteration = 0;
-          template = template_1;
-          born = 18;
-          goal = desired.Running;
-          node = Some 4;
-          state = state.Running;
-          since = 2;
-          desired = desired.Running;
-          created = 0;
-          raise_at = 0;
-          addresses = [];
-          note = note.Empty;
-          closed = None;
-        }
-        ∷ record {
-          id = 12;
-          version = 62;
-          service = 9;
-          place = Slot 3;
-          iteration = 0;
-          template = template_1;
-          born = 18;
-          goal = desired.Running;
-          node = Some 2;
-          state = state.Running;
-          since = 2;
-          desired = desired.Running;
-          created = 0;
-          raise_at = 0;
-          addresses = [];
-          note = note.Empty;
-          closed = None;
-        }
-        ∷ record {
-          id = 13;
-          version = 66;
-          service = 9;
-          place = Slot 4;
-          iteration = 0;
-          template = template_1;
-          born = 18;
-          goal = desired.Running;
-          node = Some 4;
-          state = state.Running;
-          since = 2;
-          desired = desired.Running;
-          created = 0;
-          raise_at = 0;
-          addresses = [];
-          note = note.Empty;
-          closed = None;
-        }
+        record (task_row 10 60 9 18 (Slot 1) template_1) { node = Some 1; state = state.Running; since = 2 }
+        ∷ record (task_row 11 65 9 18 (Slot 2) template_1) { node = Some 4; state = state.Running; since = 2 }
+        ∷ record (task_row 12 62 9 18 (Slot 3) template_1) { node = Some 2; state = state.Running; since = 2 }
+        ∷ record (task_row 13 66 9 18 (Slot 4) template_1) { node = Some 4; state = state.Running; since = 2 }
         ∷ [];
-    networks = [];
-    attempts = [];
     sessions =
-        record { node = 1; session = record { id = 5; deadline = 15000; beat = 0 } }
-        ∷ record { node = 2; session = record { id = 6; deadline = 15000; beat = 0 } }
-        ∷ record { node = 3; session = record { id = 7; deadline = 15000; beat = 0 } }
-        ∷ record { node = 4; session = record { id = 8; deadline = 15000; beat = 0 } }
-        ∷ [];
-    settings = record { heartbeat = 5000; orphan = 86400000; history = 5 };
+        session_row 1 5 15000 0 ∷ session_row 2 6 15000 0 ∷ session_row 3 7 15000 0 ∷ session_row 4 8 15000 0 ∷ [];
   };
   sent =
-      record { node = 1; count = 2; tasks = record { task = 10; desired = desired.Running; workload = workload_1 } ∷ [] }
-      ∷ record {
-        node = 2;
-        count = 2;
-        tasks = record { task = 12; desired = desired.Running; workload = workload_1 } ∷ [];
-      }
+      record { node = 1; count = 2; tasks = assigned 10 desired.Running usual_workload ∷ [] }
+      ∷ record { node = 2; count = 2; tasks = assigned 12 desired.Running usual_workload ∷ [] }
       ∷ record { node = 3; count = 1; tasks = [] }
       ∷ record {
         node = 4;
         count = 2;
-        tasks =
-            record { task = 11; desired = desired.Running; workload = workload_1 }
-            ∷ record { task = 13; desired = desired.Running; workload = workload_1 }
-            ∷ [];
+        tasks = assigned 11 desired.Running usual_workload ∷ assigned 13 desired.Running usual_workload ∷ [];
       }
       ∷ [];
   agents =
-      record {
-        node = 1;
-        mode = agent_mode.On;
-        inbox = None;
-        applied = 2;
-        executors =
-            record {
-              task = 10;
-              desired = desired.Running;
-              workload = workload_1;
-              state = state.Running;
-              since = 2;
-              stopping = None;
-              reported = Some state.Running;
-              gone = false;
-            }
-            ∷ [];
-      }
-      ∷ record {
-        node = 2;
-        mode = agent_mode.On;
-        inbox = None;
-        applied = 2;
-        executors =
-            record {
-              task = 12;
-              desired = desired.Running;
-              workload = workload_1;
-              state = state.Running;
-              since = 2;
-              stopping = None;
-              reported = Some state.Running;
-              gone = false;
-            }
-            ∷ [];
-      }
-      ∷ record { node = 3; mode = agent_mode.On; inbox = None; applied = 1; executors = [] }
-      ∷ record {
-        node = 4;
-        mode = agent_mode.On;
-        inbox = None;
-        applied = 2;
-        executors =
-            record {
-              task = 11;
-              desired = desired.Running;
-              workload = workload_1;
-              state = state.Running;
-              since = 2;
-              stopping = None;
-              reported = Some state.Running;
-              gone = false;
-            }
-            ∷ record {
-              task = 13;
-              desired = desired.Running;
-              workload = workload_1;
-              state = state.Running;
-              since = 2;
-              stopping = None;
-              reported = Some state.Running;
-              gone = false;
-            }
-            ∷ [];
-      }
+      agent_row 1 2 (executor_row 10 usual_workload state.Running 2 ∷ [])
+      ∷ agent_row 2 2 (executor_row 12 usual_workload state.Running 2 ∷ [])
+      ∷ agent_row 3 1 []
+      ∷ agent_row 4 2 (
+      executor_row 11 usual_workload state.Running 2 ∷ executor_row 13 usual_workload state.Running 2 ∷ [])
       ∷ [];
-  watchers = [];
-  events = [];
   halted = true;
 }
 

@@ -2,78 +2,31 @@
 use Rattle.std.specs.Prelude.{List, None, Some, [], codes, refl, true, ◌∷◌, ◌≡◌}
 use Rattle.swarm_model.proofs.Examples.Audit.{IsPlayed, Told, asked, entries_of, played}
 use Rattle.swarm_model.proofs.Examples.LawTests.{laws_hold}
+use Rattle.swarm_model.proofs.Examples.Usual.{draft, made}
+use Rattle.swarm_model.proofs.Examples.Words.{one}
 use Rattle.swarm_model.specs.Script.{Asked, Asks}
 use Rattle.swarm_model.specs.Serial.{serial}
-use Rattle.swarm_objects.specs.World.{World, empty_world}
+use Rattle.swarm_objects.specs.Defaults.{usual_spec}
+use Rattle.swarm_objects.specs.World.{World, empty_tables, empty_world}
 use Rattle.swarm_objects.specs.declared.calls.Call.TheVariants as call
 use Rattle.swarm_objects.specs.declared.calls.Entry.{Entry}
 use Rattle.swarm_objects.specs.declared.calls.Op.TheVariants as op
 use Rattle.swarm_objects.specs.declared.ids.Kind.TheVariants as kind
 use Rattle.swarm_objects.specs.declared.replies.Reply.TheVariants as reply
-use Rattle.swarm_objects.specs.declared.services.FailureAction.TheVariants as action
 use Rattle.swarm_objects.specs.declared.services.Mode.TheVariants as mode
 use Rattle.swarm_objects.specs.declared.services.ServiceSpec.{ServiceSpec}
-use Rattle.swarm_objects.specs.declared.services.UpdateOrder.TheVariants as order
-use Rattle.swarm_objects.specs.declared.templates.End.TheVariants as end
-use Rattle.swarm_objects.specs.declared.templates.RestartCondition.TheVariants as condition
-use Rattle.swarm_objects.specs.declared.templates.Template.{Template}
-use Rattle.swarm_objects.specs.declared.templates.Workload.{Workload}
 use Rattle.swarm_objects.specs.declared.watches.Verb.TheVariants as verb
 
-abbrev workload_1 : Workload
-workload_1 = record { prepare = 1; start = 1; stop = 1; end = end.Never }
-
-abbrev template_1 : Template
-template_1 = record {
-  workload = workload_1;
-  cpu = 0;
-  mem = 0;
-  constraints = [];
-  spread = [];
-  platforms = [];
-  max_replicas = 0;
-  networks = [];
-  host_ports = [];
-  restart = record { condition = condition.Any; delay = 5000; max_attempts = 0; window = 0 };
-}
-
-abbrev spec_1 : ServiceSpec
-spec_1 = record {
-  mode = mode.Replicated 1;
-  template = template_1;
-  ports = [];
-  update = record {
-    parallelism = 1;
-    delay = 0;
-    monitor = 5000;
-    action = action.Pause;
-    ratio = 0;
-    order = order.StopFirst;
-  };
-}
-
 abbrev spec_2 : ServiceSpec
-spec_2 = record {
-  mode = mode.Replicated 3;
-  template = template_1;
-  ports = [];
-  update = record {
-    parallelism = 1;
-    delay = 0;
-    monitor = 5000;
-    action = action.Pause;
-    ratio = 0;
-    order = order.StopFirst;
-  };
-}
+spec_2 = record usual_spec { mode = mode.Replicated 3 }
 
 -- the script
 abbrev lines : List Asked
 lines =
     Asks (call.WatchBegin (record { kind = Some kind.Service; id = None }))
-    ∷ Asks (call.Txn (op.CreateService (codes "web") (record { spec = spec_1; networks = [] }) ∷ []))
-    ∷ Asks (call.Txn (op.UpdateService (codes "web") None (record { spec = spec_2; networks = [] }) ∷ []))
-    ∷ Asks (call.Txn (op.RemoveService (codes "web") ∷ []))
+    ∷ Asks (one (op.CreateService (codes "web") (draft usual_spec)))
+    ∷ Asks (one (op.UpdateService (codes "web") None (draft spec_2)))
+    ∷ Asks (one (op.RemoveService (codes "web")))
     ∷ Asks (call.WatchPoll 1)
     ∷ Asks (call.WatchPoll 1)
     ∷ []
@@ -81,11 +34,9 @@ lines =
 abbrev pub journal : List Told
 journal =
     asked 0 (call.WatchBegin (record { kind = Some kind.Service; id = None })) (reply.WatchBegun 1)
-    ∷ asked 0 (call.Txn (op.CreateService (codes "web") (record { spec = spec_1; networks = [] }) ∷ []))
-    (reply.Txn (2 ∷ []))
-    ∷ asked 0 (call.Txn (op.UpdateService (codes "web") None (record { spec = spec_2; networks = [] }) ∷ []))
-    (reply.Txn (2 ∷ []))
-    ∷ asked 0 (call.Txn (op.RemoveService (codes "web") ∷ [])) (reply.Txn (2 ∷ []))
+    ∷ asked 0 (one (op.CreateService (codes "web") (draft usual_spec))) (made 2)
+    ∷ asked 0 (one (op.UpdateService (codes "web") None (draft spec_2))) (made 2)
+    ∷ asked 0 (one (op.RemoveService (codes "web"))) (made 2)
     ∷ asked 0 (call.WatchPoll 1) (reply.Events (
     record { entry = 2; verb = verb.Created; kind = kind.Service; id = 2 }
     ∷ record { entry = 3; verb = verb.Updated; kind = kind.Service; id = 2 }
@@ -96,23 +47,10 @@ journal =
     ∷ []
 
 abbrev pub world : World
-world = record {
+world = record empty_world {
   entries = 7;
-  tables = record {
-    clock = 0;
-    next_id = 3;
-    nodes = [];
-    services = [];
-    tasks = [];
-    networks = [];
-    attempts = [];
-    sessions = [];
-    settings = record { heartbeat = 5000; orphan = 86400000; history = 5 };
-  };
-  sent = [];
-  agents = [];
+  tables = record empty_tables { next_id = 3 };
   watchers = record { id = 1; filter = record { kind = Some kind.Service; id = None }; cursor = 6 } ∷ [];
-  events = [];
   halted = true;
 }
 

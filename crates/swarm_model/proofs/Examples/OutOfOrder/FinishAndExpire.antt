@@ -2,274 +2,139 @@
 use Rattle.std.specs.Prelude.{List, None, Some, [], codes, false, refl, true, ◌∷◌, ◌≡◌}
 use Rattle.swarm_model.proofs.Examples.Audit.{IsPlayed, Told, asked, did, entries_of, played}
 use Rattle.swarm_model.proofs.Examples.LawTests.{laws_hold}
-use Rattle.swarm_objects.specs.World.{World, empty_world}
+use Rattle.swarm_model.proofs.Examples.Usual.{agent_row, draft, made, no_node, no_service, node_row, service_row, session_row, task_row, ticks}
+use Rattle.swarm_model.proofs.Examples.Words.{one}
+use Rattle.swarm_objects.specs.Defaults.{usual_node, usual_restart, usual_spec, usual_template, usual_update, usual_workload}
+use Rattle.swarm_objects.specs.World.{World, empty_tables, empty_world}
 use Rattle.swarm_objects.specs.declared.agents.AgentMode.TheVariants as agent_mode
 use Rattle.swarm_objects.specs.declared.calls.Call.TheVariants as call
 use Rattle.swarm_objects.specs.declared.calls.Entry.{Entry}
 use Rattle.swarm_objects.specs.declared.calls.Op.TheVariants as op
 use Rattle.swarm_objects.specs.declared.duties.Duty.TheVariants as duty
-use Rattle.swarm_objects.specs.declared.ids.Kind.TheVariants as kind
 use Rattle.swarm_objects.specs.declared.nodes.Availability.TheVariants as availability
 use Rattle.swarm_objects.specs.declared.nodes.NodeDraft.{NodeDraft}
 use Rattle.swarm_objects.specs.declared.nodes.NodeRole.TheVariants as node_role
 use Rattle.swarm_objects.specs.declared.nodes.NodeState.TheVariants as node_state
 use Rattle.swarm_objects.specs.declared.replies.Refusal.TheVariants as refusal
 use Rattle.swarm_objects.specs.declared.replies.Reply.TheVariants as reply
-use Rattle.swarm_objects.specs.declared.replies.Wanted.TheVariants as wanted_by
 use Rattle.swarm_objects.specs.declared.services.FailureAction.TheVariants as action
 use Rattle.swarm_objects.specs.declared.services.Mode.TheVariants as mode
 use Rattle.swarm_objects.specs.declared.services.RunStatus.TheVariants as status
 use Rattle.swarm_objects.specs.declared.services.ServiceSpec.{ServiceSpec}
-use Rattle.swarm_objects.specs.declared.services.UpdateOrder.TheVariants as order
 use Rattle.swarm_objects.specs.declared.tasks.Desired.TheVariants as desired
 use Rattle.swarm_objects.specs.declared.tasks.Note.TheVariants as note
 use Rattle.swarm_objects.specs.declared.tasks.Place.TheVariants.{Slot}
 use Rattle.swarm_objects.specs.declared.tasks.TaskState.TheVariants as state
-use Rattle.swarm_objects.specs.declared.templates.End.TheVariants as end
 use Rattle.swarm_objects.specs.declared.templates.Key.TheVariants as key
 use Rattle.swarm_objects.specs.declared.templates.RestartCondition.TheVariants as condition
 use Rattle.swarm_objects.specs.declared.templates.Template.{Template}
 use Rattle.swarm_objects.specs.declared.templates.Workload.{Workload}
 
 abbrev draft_1 : NodeDraft
-draft_1 = record {
-  labels = (codes "zone", codes "a") ∷ [];
-  role = node_role.Worker;
-  availability = availability.Active;
-  cpu = 4000;
-  mem = 8589934592;
-  os = codes "linux";
-  arch = codes "amd64";
-  engine = [];
-  remote = false;
-}
-
-abbrev workload_1 : Workload
-workload_1 = record { prepare = 1; start = 1; stop = 1; end = end.Never }
+draft_1 = record usual_node { labels = (codes "zone", codes "a") ∷ [] }
 
 abbrev template_1 : Template
-template_1 = record {
-  workload = workload_1;
-  cpu = 0;
-  mem = 0;
-  constraints = [];
+template_1 = record usual_template {
   spread = key.Label (codes "zone") ∷ key.Engine (codes "disk") ∷ [];
-  platforms = [];
-  max_replicas = 0;
-  networks = [];
-  host_ports = [];
-  restart = record { condition = condition.Any; delay = 0; max_attempts = 0; window = 0 };
+  restart = record usual_restart { delay = 0 };
 }
 
 abbrev spec_1 : ServiceSpec
-spec_1 = record {
-  mode = mode.Replicated 1;
-  template = template_1;
-  ports = [];
-  update = record {
-    parallelism = 0;
-    delay = 0;
-    monitor = 5000;
-    action = action.Pause;
-    ratio = 0;
-    order = order.StopFirst;
-  };
-}
+spec_1 = record usual_spec { template = template_1; update = record usual_update { parallelism = 0 } }
 
 abbrev workload_2 : Workload
-workload_2 = record { prepare = 1; start = 7; stop = 1; end = end.Never }
+workload_2 = record usual_workload { start = 7 }
 
 abbrev template_2 : Template
-template_2 = record {
+template_2 = record usual_template {
   workload = workload_2;
-  cpu = 0;
-  mem = 0;
-  constraints = [];
-  spread = [];
-  platforms = [];
-  max_replicas = 0;
-  networks = [];
-  host_ports = [];
-  restart = record { condition = condition.Any; delay = 0; max_attempts = 2; window = 0 };
+  restart = record usual_restart { delay = 0; max_attempts = 2 };
 }
 
 abbrev spec_2 : ServiceSpec
-spec_2 = record {
+spec_2 = record usual_spec {
   mode = mode.Replicated 2;
   template = template_2;
-  ports = [];
-  update = record {
-    parallelism = 1;
-    delay = 0;
-    monitor = 5000;
-    action = action.Pause;
-    ratio = 250;
-    order = order.StopFirst;
-  };
+  update = record usual_update { ratio = 250 };
 }
 
 abbrev draft_2 : NodeDraft
-draft_2 = record {
-  labels = [];
-  role = node_role.Worker;
-  availability = availability.Active;
-  cpu = 2000;
-  mem = 8589934592;
-  os = codes "linux";
-  arch = codes "amd64";
-  engine = [];
-  remote = false;
-}
+draft_2 = record usual_node { cpu = 2000 }
 
 abbrev template_3 : Template
-template_3 = record {
-  workload = workload_1;
-  cpu = 0;
-  mem = 0;
-  constraints = [];
-  spread = [];
-  platforms = [];
-  max_replicas = 0;
-  networks = [];
+template_3 = record usual_template {
   host_ports =
       record { target = 80; number = Some 8000; udp = true }
       ∷ record { target = 80; number = Some 8001; udp = false }
       ∷ [];
-  restart = record { condition = condition.OnFailure; delay = 0; max_attempts = 0; window = 20 };
+  restart = record usual_restart { condition = condition.OnFailure; delay = 0; window = 20 };
 }
 
 abbrev spec_3 : ServiceSpec
-spec_3 = record {
-  mode = mode.Job 3 3;
-  template = template_3;
-  ports = [];
-  update = record {
-    parallelism = 1;
-    delay = 0;
-    monitor = 5000;
-    action = action.Pause;
-    ratio = 0;
-    order = order.StopFirst;
-  };
-}
+spec_3 = record usual_spec { mode = mode.Job 3 3; template = template_3 }
 
 abbrev workload_3 : Workload
-workload_3 = record { prepare = 1; start = 2; stop = 1; end = end.Never }
+workload_3 = record usual_workload { start = 2 }
 
 abbrev template_4 : Template
-template_4 = record {
+template_4 = record usual_template {
   workload = workload_3;
-  cpu = 0;
-  mem = 0;
-  constraints = [];
   spread = key.Label (codes "zone") ∷ key.Engine (codes "disk") ∷ [];
-  platforms = [];
-  max_replicas = 0;
-  networks = [];
-  host_ports = [];
-  restart = record { condition = condition.Any; delay = 0; max_attempts = 0; window = 0 };
+  restart = record usual_restart { delay = 0 };
 }
 
 abbrev spec_4 : ServiceSpec
-spec_4 = record {
-  mode = mode.Replicated 1;
+spec_4 = record usual_spec {
   template = template_4;
-  ports = [];
-  update = record {
-    parallelism = 0;
-    delay = 0;
-    monitor = 0;
-    action = action.Rollback;
-    ratio = 0;
-    order = order.StopFirst;
-  };
+  update = record usual_update { parallelism = 0; monitor = 0; action = action.Rollback };
 }
 
 abbrev template_5 : Template
-template_5 = record {
-  workload = workload_1;
-  cpu = 0;
-  mem = 0;
-  constraints = [];
+template_5 = record usual_template {
   spread = key.Role ∷ [];
-  platforms = [];
-  max_replicas = 0;
-  networks = [];
-  host_ports = [];
-  restart = record { condition = condition.Never; delay = 0; max_attempts = 0; window = 0 };
+  restart = record usual_restart { condition = condition.Never; delay = 0 };
 }
 
 abbrev spec_5 : ServiceSpec
-spec_5 = record {
+spec_5 = record usual_spec {
   mode = mode.Replicated 3;
   template = template_5;
-  ports = [];
-  update = record {
-    parallelism = 1;
-    delay = 1;
-    monitor = 5000;
-    action = action.Pause;
-    ratio = 0;
-    order = order.StopFirst;
-  };
+  update = record usual_update { delay = 1 };
 }
 
 abbrev draft_3 : NodeDraft
-draft_3 = record {
+draft_3 = record usual_node {
   labels = (codes "zone", codes "b") ∷ [];
   role = node_role.Manager;
   availability = availability.Drain;
   cpu = 2000;
-  mem = 8589934592;
-  os = codes "linux";
-  arch = codes "amd64";
-  engine = [];
-  remote = false;
 }
 
 abbrev workload_4 : Workload
-workload_4 = record { prepare = 2; start = 1; stop = 1; end = end.Never }
+workload_4 = record usual_workload { prepare = 2 }
 
 abbrev template_6 : Template
-template_6 = record {
+template_6 = record usual_template {
   workload = workload_4;
-  cpu = 0;
-  mem = 0;
-  constraints = [];
   spread = key.Label (codes "zone") ∷ key.Engine (codes "disk") ∷ [];
-  platforms = [];
-  max_replicas = 0;
-  networks = [];
-  host_ports = [];
-  restart = record { condition = condition.Any; delay = 0; max_attempts = 0; window = 0 };
+  restart = record usual_restart { delay = 0 };
 }
 
 abbrev spec_6 : ServiceSpec
-spec_6 = record {
+spec_6 = record usual_spec {
   mode = mode.Replicated 3;
   template = template_6;
-  ports = [];
-  update = record {
-    parallelism = 0;
-    delay = 0;
-    monitor = 5000;
-    action = action.Rollback;
-    ratio = 0;
-    order = order.StopFirst;
-  };
+  update = record usual_update { parallelism = 0; action = action.Rollback };
 }
 
 abbrev pub journal : List Told
 journal =
-    asked 0 (call.Txn (op.CreateNode (codes "n1") draft_1 ∷ [])) (reply.Txn (1 ∷ []))
-    ∷ asked 0 (call.Txn (op.CreateNetwork (codes "lan") 167772416 29 ∷ [])) (reply.Txn (2 ∷ []))
-    ∷ asked 0 (call.Txn (op.CreateNetwork (codes "wan") 167772672 28 ∷ [])) (reply.Txn (3 ∷ []))
-    ∷ asked 0 (call.Txn (op.SetCluster (record { heartbeat = 1000; orphan = 86400000; history = 1 }) ∷ []))
-    (reply.Txn (0 ∷ []))
-    ∷ asked 0 (call.Txn (op.CreateService (codes "s1") (record { spec = spec_1; networks = [] }) ∷ []))
-    (reply.Txn (4 ∷ []))
-    ∷ asked 0 (call.Txn (op.CreateService (codes "s2") (record { spec = spec_2; networks = [] }) ∷ []))
-    (reply.Txn (5 ∷ []))
+    asked 0 (one (op.CreateNode (codes "n1") draft_1)) (made 1)
+    ∷ asked 0 (one (op.CreateNetwork (codes "lan") 167772416 29)) (made 2)
+    ∷ asked 0 (one (op.CreateNetwork (codes "wan") 167772672 28)) (made 3)
+    ∷ asked 0 (one (op.SetCluster (record { heartbeat = 1000; orphan = 86400000; history = 1 }))) (made 0)
+    ∷ asked 0 (one (op.CreateService (codes "s1") (draft spec_1))) (made 4)
+    ∷ asked 0 (one (op.CreateService (codes "s2") (draft spec_2))) (made 5)
     ∷ did 0 (duty.Register 1)
     ∷ asked 0 (call.NodeFail (codes "n1")) (reply.AgentDone 1)
     ∷ did 0 (duty.ReplicatedCreate 5 1)
@@ -281,9 +146,9 @@ journal =
     ∷ did 0 (duty.Place 9 1)
     ∷ did 0 (duty.Place 7 1)
     ∷ did 0 (duty.Place 8 1)
-    ∷ asked 0 (call.Tick 1000) reply.Ticked
-    ∷ asked 0 (call.Tick 1000) reply.Ticked
-    ∷ asked 0 (call.Tick 1000) reply.Ticked
+    ∷ ticks 1000
+    ∷ ticks 1000
+    ∷ ticks 1000
     ∷ did 0 (duty.Expire 1)
     ∷ did 0 (duty.Restart 9)
     ∷ did 0 (duty.Address 10)
@@ -298,9 +163,8 @@ journal =
     ∷ did 0 (duty.Raise 12)
     ∷ did 0 (duty.Explain 12)
     ∷ asked 0 (call.NodeFail (codes "n1")) (reply.AgentDone 1)
-    ∷ asked 0 (call.Txn (op.CreateNode (codes "n1") draft_2 ∷ [])) (reply.Refused (refusal.NameTaken 1))
-    ∷ asked 0 (call.Txn (op.CreateService (codes "s4") (record { spec = spec_3; networks = [] }) ∷ []))
-    (reply.Txn (13 ∷ []))
+    ∷ asked 0 (one (op.CreateNode (codes "n1") draft_2)) (reply.Refused (refusal.NameTaken 1))
+    ∷ asked 0 (one (op.CreateService (codes "s4") (draft spec_3))) (made 13)
     ∷ did 0 (duty.JobCreate 13 0)
     ∷ did 0 (duty.JobCreate 13 1)
     ∷ did 0 (duty.JobCreate 13 2)
@@ -310,11 +174,9 @@ journal =
     ∷ did 0 (duty.Explain 14)
     ∷ did 0 (duty.Explain 16)
     ∷ did 0 (duty.Explain 15)
-    ∷ asked 0 (call.RemoteBegin (codes "r1") (Some 1000001) (Some 8589934592))
-    (reply.Refused (refusal.NotFound kind.Node (wanted_by.Name (codes "r1"))))
-    ∷ asked 0 (call.Tick 1) reply.Ticked
-    ∷ asked 0 (call.Txn (op.UpdateService (codes "s1") None (record { spec = spec_4; networks = [] }) ∷ []))
-    (reply.Txn (4 ∷ []))
+    ∷ asked 0 (call.RemoteBegin (codes "r1") (Some 1000001) (Some 8589934592)) (no_node (codes "r1"))
+    ∷ ticks 1
+    ∷ asked 0 (one (op.UpdateService (codes "s1") None (draft spec_4))) (made 4)
     ∷ did 0 (duty.Start 4)
     ∷ did 0 (duty.Replace 4 1)
     ∷ did 0 (duty.Finish 4)
@@ -322,52 +184,24 @@ journal =
     ∷ did 0 (duty.Drop 12)
     ∷ did 0 (duty.Raise 17)
     ∷ did 0 (duty.Explain 17)
-    ∷ asked 0 (call.Tick 1) reply.Ticked
-    ∷ asked 0 (call.Tick 1000) reply.Ticked
-    ∷ asked 0 (call.Tick 100) reply.Ticked
-    ∷ asked 0 (call.Txn (
-    op.UpdateService (codes "s3") None (record { spec = spec_5; networks = [] })
-    ∷ op.CreateNode (codes "n1") draft_3
-    ∷ [])) (reply.Refused (refusal.NotFound kind.Service (wanted_by.Name (codes "s3"))))
-    ∷ asked 0 (call.Txn (op.UpdateService (codes "s1") None (record { spec = spec_6; networks = [] }) ∷ []))
-    (reply.Txn (4 ∷ []))
+    ∷ ticks 1
+    ∷ ticks 1000
+    ∷ ticks 100
+    ∷ asked 0 (call.Txn (op.UpdateService (codes "s3") None (draft spec_5) ∷ op.CreateNode (codes "n1") draft_3 ∷ []))
+    (no_service (codes "s3"))
+    ∷ asked 0 (one (op.UpdateService (codes "s1") None (draft spec_6))) (made 4)
     ∷ []
 
 abbrev pub world : World
-world = record {
+world = record empty_world {
   entries = 60;
-  tables = record {
+  tables = record empty_tables {
     clock = 4102;
     next_id = 18;
-    nodes =
-        record {
-          id = 1;
-          version = 21;
-          name = codes "n1";
-          labels = (codes "zone", codes "a") ∷ [];
-          role = node_role.Worker;
-          availability = availability.Active;
-          state = node_state.Down;
-          down_since = 3000;
-          cpu = 4000;
-          mem = 8589934592;
-          os = codes "linux";
-          arch = codes "amd64";
-          engine = [];
-          remote = false;
-        }
-        ∷ [];
+    nodes = record (node_row 1 21 (codes "n1") draft_1) { state = node_state.Down; down_since = 3000 } ∷ [];
     services =
-        record {
-          id = 4;
-          version = 60;
-          name = codes "s1";
-          spec = spec_6;
+        record (service_row 4 60 (codes "s1") spec_6) {
           previous = Some spec_4;
-          template_version = 60;
-          rolling_back = false;
-          iteration = 0;
-          numbers = [];
           run = Some (record {
             status = status.Completed;
             version = 48;
@@ -375,221 +209,80 @@ world = record {
             replaced = record { place = Slot 1; task = 17; created = 3001 } ∷ [];
           });
         }
-        ∷ record {
-          id = 5;
-          version = 6;
-          name = codes "s2";
-          spec = spec_2;
-          previous = None;
-          template_version = 6;
-          rolling_back = false;
-          iteration = 0;
-          numbers = [];
-          run = None;
-        }
-        ∷ record {
-          id = 13;
-          version = 36;
-          name = codes "s4";
-          spec = spec_3;
-          previous = None;
-          template_version = 36;
-          rolling_back = false;
-          iteration = 0;
-          numbers = [];
-          run = None;
-        }
+        ∷ service_row 5 6 (codes "s2") spec_2
+        ∷ service_row 13 36 (codes "s4") spec_3
         ∷ [];
     tasks =
-        record {
-          id = 7;
-          version = 25;
-          service = 5;
-          place = Slot 1;
-          iteration = 0;
-          template = template_2;
-          born = 6;
-          goal = desired.Running;
+        record (task_row 7 25 5 6 (Slot 1) template_2) {
           node = Some 1;
           state = state.Assigned;
-          since = 0;
           desired = desired.Shutdown;
-          created = 0;
-          raise_at = 0;
-          addresses = [];
-          note = note.Empty;
-          closed = None;
         }
-        ∷ record {
-          id = 8;
-          version = 27;
-          service = 4;
-          place = Slot 1;
-          iteration = 0;
-          template = template_1;
-          born = 5;
-          goal = desired.Running;
+        ∷ record (task_row 8 27 4 5 (Slot 1) template_1) {
           node = Some 1;
           state = state.Assigned;
-          since = 0;
           desired = desired.Shutdown;
-          created = 0;
-          raise_at = 0;
-          addresses = [];
-          note = note.Empty;
-          closed = None;
         }
-        ∷ record {
-          id = 9;
-          version = 22;
-          service = 5;
-          place = Slot 2;
-          iteration = 0;
-          template = template_2;
-          born = 6;
-          goal = desired.Running;
+        ∷ record (task_row 9 22 5 6 (Slot 2) template_2) {
           node = Some 1;
           state = state.Assigned;
-          since = 0;
           desired = desired.Shutdown;
-          created = 0;
-          raise_at = 0;
-          addresses = [];
-          note = note.Empty;
-          closed = None;
         }
-        ∷ record {
-          id = 10;
-          version = 29;
-          service = 5;
-          place = Slot 2;
-          iteration = 0;
-          template = template_2;
-          born = 6;
-          goal = desired.Running;
-          node = None;
+        ∷ record (task_row 10 29 5 6 (Slot 2) template_2) {
           state = state.Pending;
           since = 3000;
-          desired = desired.Running;
           created = 3000;
           raise_at = 3000;
-          addresses = [];
           note = note.Filters (1 ∷ 0 ∷ 0 ∷ 0 ∷ 0 ∷ 0 ∷ []);
-          closed = None;
         }
-        ∷ record {
-          id = 11;
-          version = 31;
-          service = 5;
-          place = Slot 1;
-          iteration = 0;
-          template = template_2;
-          born = 6;
-          goal = desired.Running;
-          node = None;
+        ∷ record (task_row 11 31 5 6 (Slot 1) template_2) {
           state = state.Pending;
           since = 3000;
-          desired = desired.Running;
           created = 3000;
           raise_at = 3000;
-          addresses = [];
           note = note.Filters (1 ∷ 0 ∷ 0 ∷ 0 ∷ 0 ∷ 0 ∷ []);
-          closed = None;
         }
-        ∷ record {
-          id = 12;
-          version = 53;
-          service = 4;
-          place = Slot 1;
-          iteration = 0;
-          template = template_1;
-          born = 5;
-          goal = desired.Running;
-          node = None;
+        ∷ record (task_row 12 53 4 5 (Slot 1) template_1) {
           state = state.Shutdown;
           since = 3001;
           desired = desired.Shutdown;
           created = 3000;
           raise_at = 3000;
-          addresses = [];
           note = note.Filters (1 ∷ 0 ∷ 0 ∷ 0 ∷ 0 ∷ 0 ∷ []);
-          closed = None;
         }
-        ∷ record {
-          id = 14;
-          version = 43;
-          service = 13;
-          place = Slot 0;
-          iteration = 0;
-          template = template_3;
-          born = 36;
+        ∷ record (task_row 14 43 13 36 (Slot 0) template_3) {
           goal = desired.Complete;
-          node = None;
           state = state.Pending;
           since = 3000;
           desired = desired.Complete;
           created = 3000;
           raise_at = 3000;
-          addresses = [];
           note = note.Filters (1 ∷ 0 ∷ 0 ∷ 0 ∷ 0 ∷ 0 ∷ []);
-          closed = None;
         }
-        ∷ record {
-          id = 15;
-          version = 45;
-          service = 13;
-          place = Slot 1;
-          iteration = 0;
-          template = template_3;
-          born = 36;
+        ∷ record (task_row 15 45 13 36 (Slot 1) template_3) {
           goal = desired.Complete;
-          node = None;
           state = state.Pending;
           since = 3000;
           desired = desired.Complete;
           created = 3000;
           raise_at = 3000;
-          addresses = [];
           note = note.Filters (1 ∷ 0 ∷ 0 ∷ 0 ∷ 0 ∷ 0 ∷ []);
-          closed = None;
         }
-        ∷ record {
-          id = 16;
-          version = 44;
-          service = 13;
-          place = Slot 2;
-          iteration = 0;
-          template = template_3;
-          born = 36;
+        ∷ record (task_row 16 44 13 36 (Slot 2) template_3) {
           goal = desired.Complete;
-          node = None;
           state = state.Pending;
           since = 3000;
           desired = desired.Complete;
           created = 3000;
           raise_at = 3000;
-          addresses = [];
           note = note.Filters (1 ∷ 0 ∷ 0 ∷ 0 ∷ 0 ∷ 0 ∷ []);
-          closed = None;
         }
-        ∷ record {
-          id = 17;
-          version = 55;
-          service = 4;
-          place = Slot 1;
-          iteration = 0;
-          template = template_4;
-          born = 48;
-          goal = desired.Running;
-          node = None;
+        ∷ record (task_row 17 55 4 48 (Slot 1) template_4) {
           state = state.Pending;
           since = 3001;
-          desired = desired.Running;
           created = 3001;
           raise_at = 3001;
-          addresses = [];
           note = note.Filters (1 ∷ 0 ∷ 0 ∷ 0 ∷ 0 ∷ 0 ∷ []);
-          closed = None;
         }
         ∷ [];
     networks =
@@ -601,14 +294,10 @@ world = record {
         ∷ record { service = 5; place = Slot 1; version = 6; at = 3000 }
         ∷ record { service = 4; place = Slot 1; version = 5; at = 3000 }
         ∷ [];
-    sessions = record { node = 1; session = record { id = 6; deadline = 3000; beat = 0 } } ∷ [];
+    sessions = session_row 1 6 3000 0 ∷ [];
     settings = record { heartbeat = 1000; orphan = 86400000; history = 1 };
   };
-  sent = [];
-  agents = record { node = 1; mode = agent_mode.PowerOff; inbox = None; applied = 0; executors = [] } ∷ [];
-  watchers = [];
-  events = [];
-  halted = false;
+  agents = record (agent_row 1 0 []) { mode = agent_mode.PowerOff } ∷ [];
 }
 
 abbrev pub history : List Entry

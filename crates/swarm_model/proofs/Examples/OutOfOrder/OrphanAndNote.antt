@@ -2,22 +2,22 @@
 use Rattle.std.specs.Prelude.{List, None, Some, [], codes, false, refl, true, ◌∷◌, ◌≡◌}
 use Rattle.swarm_model.proofs.Examples.Audit.{IsPlayed, Told, asked, did, entries_of, played}
 use Rattle.swarm_model.proofs.Examples.LawTests.{laws_hold}
-use Rattle.swarm_objects.specs.World.{World, empty_world}
+use Rattle.swarm_model.proofs.Examples.Usual.{agent_row, assigned, made, no_node, node_row, service_row, session_row, task_row, ticks}
+use Rattle.swarm_model.proofs.Examples.Words.{one}
+use Rattle.swarm_objects.specs.Defaults.{usual_node, usual_restart, usual_spec, usual_template, usual_update, usual_workload}
+use Rattle.swarm_objects.specs.World.{World, empty_tables, empty_world}
 use Rattle.swarm_objects.specs.declared.agents.AgentMode.TheVariants as agent_mode
 use Rattle.swarm_objects.specs.declared.calls.Call.TheVariants as call
 use Rattle.swarm_objects.specs.declared.calls.Entry.{Entry}
 use Rattle.swarm_objects.specs.declared.calls.Op.TheVariants as op
 use Rattle.swarm_objects.specs.declared.duties.Duty.TheVariants as duty
 use Rattle.swarm_objects.specs.declared.duties.Settle.TheVariants as settle
-use Rattle.swarm_objects.specs.declared.ids.Kind.TheVariants as kind
 use Rattle.swarm_objects.specs.declared.messages.AssignChange.TheVariants as assign
 use Rattle.swarm_objects.specs.declared.nodes.Availability.TheVariants as availability
 use Rattle.swarm_objects.specs.declared.nodes.NodeDraft.{NodeDraft}
 use Rattle.swarm_objects.specs.declared.nodes.NodeRole.TheVariants as node_role
 use Rattle.swarm_objects.specs.declared.nodes.NodeState.TheVariants as node_state
-use Rattle.swarm_objects.specs.declared.replies.Refusal.TheVariants as refusal
 use Rattle.swarm_objects.specs.declared.replies.Reply.TheVariants as reply
-use Rattle.swarm_objects.specs.declared.replies.Wanted.TheVariants as wanted_by
 use Rattle.swarm_objects.specs.declared.services.FailureAction.TheVariants as action
 use Rattle.swarm_objects.specs.declared.services.Mode.TheVariants as mode
 use Rattle.swarm_objects.specs.declared.services.ServiceSpec.{ServiceSpec}
@@ -26,43 +26,20 @@ use Rattle.swarm_objects.specs.declared.tasks.Desired.TheVariants as desired
 use Rattle.swarm_objects.specs.declared.tasks.Note.TheVariants as note
 use Rattle.swarm_objects.specs.declared.tasks.Place.TheVariants.{Slot}
 use Rattle.swarm_objects.specs.declared.tasks.TaskState.TheVariants as state
-use Rattle.swarm_objects.specs.declared.templates.End.TheVariants as end
-use Rattle.swarm_objects.specs.declared.templates.RestartCondition.TheVariants as condition
 use Rattle.swarm_objects.specs.declared.templates.Template.{Template}
 use Rattle.swarm_objects.specs.declared.templates.Workload.{Workload}
 
 abbrev draft_1 : NodeDraft
-draft_1 = record {
-  labels = [];
-  role = node_role.Worker;
-  availability = availability.Active;
-  cpu = 2000;
-  mem = 8589934592;
-  os = codes "linux";
-  arch = codes "amd64";
-  engine = [];
-  remote = false;
-}
+draft_1 = record usual_node { cpu = 2000 }
 
 abbrev workload_1 : Workload
-workload_1 = record { prepare = 1; start = 2; stop = 1; end = end.Never }
+workload_1 = record usual_workload { start = 2 }
 
 abbrev template_1 : Template
-template_1 = record {
-  workload = workload_1;
-  cpu = 0;
-  mem = 0;
-  constraints = [];
-  spread = [];
-  platforms = [];
-  max_replicas = 0;
-  networks = [];
-  host_ports = [];
-  restart = record { condition = condition.Any; delay = 0; max_attempts = 0; window = 0 };
-}
+template_1 = record usual_template { workload = workload_1; restart = record usual_restart { delay = 0 } }
 
 abbrev spec_1 : ServiceSpec
-spec_1 = record {
+spec_1 = record usual_spec {
   mode = mode.Replicated 3;
   template = template_1;
   ports =
@@ -70,32 +47,18 @@ spec_1 = record {
       ∷ record { target = 81; number = None; udp = false }
       ∷ record { target = 82; number = None; udp = false }
       ∷ [];
-  update = record {
-    parallelism = 1;
-    delay = 0;
-    monitor = 5000;
-    action = action.Rollback;
-    ratio = 0;
-    order = order.StartFirst;
-  };
+  update = record usual_update { action = action.Rollback; order = order.StartFirst };
 }
 
 abbrev template_2 : Template
-template_2 = record {
+template_2 = record usual_template {
   workload = workload_1;
-  cpu = 0;
-  mem = 0;
-  constraints = [];
-  spread = [];
-  platforms = [];
-  max_replicas = 0;
   networks = 2 ∷ [];
-  host_ports = [];
-  restart = record { condition = condition.Any; delay = 0; max_attempts = 0; window = 0 };
+  restart = record usual_restart { delay = 0 };
 }
 
 abbrev spec_2 : ServiceSpec
-spec_2 = record {
+spec_2 = record usual_spec {
   mode = mode.Replicated 3;
   template = template_2;
   ports =
@@ -103,25 +66,16 @@ spec_2 = record {
       ∷ record { target = 81; number = None; udp = false }
       ∷ record { target = 82; number = None; udp = false }
       ∷ [];
-  update = record {
-    parallelism = 1;
-    delay = 0;
-    monitor = 5000;
-    action = action.Rollback;
-    ratio = 0;
-    order = order.StartFirst;
-  };
+  update = record usual_update { action = action.Rollback; order = order.StartFirst };
 }
 
 abbrev pub journal : List Told
 journal =
-    asked 0 (call.Txn (op.CreateNode (codes "n1") draft_1 ∷ [])) (reply.Txn (1 ∷ []))
-    ∷ asked 0 (call.Txn (op.CreateNetwork (codes "lan") 167772416 29 ∷ [])) (reply.Txn (2 ∷ []))
-    ∷ asked 0 (call.Txn (op.CreateNetwork (codes "wan") 167772672 28 ∷ [])) (reply.Txn (3 ∷ []))
-    ∷ asked 0 (call.Txn (op.SetCluster (record { heartbeat = 1000; orphan = 50; history = 0 }) ∷ []))
-    (reply.Txn (0 ∷ []))
-    ∷ asked 0 (call.Txn (op.CreateService (codes "s1") (record { spec = spec_1; networks = codes "lan" ∷ [] }) ∷ []))
-    (reply.Txn (4 ∷ []))
+    asked 0 (one (op.CreateNode (codes "n1") draft_1)) (made 1)
+    ∷ asked 0 (one (op.CreateNetwork (codes "lan") 167772416 29)) (made 2)
+    ∷ asked 0 (one (op.CreateNetwork (codes "wan") 167772672 28)) (made 3)
+    ∷ asked 0 (one (op.SetCluster (record { heartbeat = 1000; orphan = 50; history = 0 }))) (made 0)
+    ∷ asked 0 (one (op.CreateService (codes "s1") (record { spec = spec_1; networks = codes "lan" ∷ [] }))) (made 4)
     ∷ did 0 (duty.Register 1)
     ∷ did 0 (duty.ReplicatedCreate 4 1)
     ∷ did 0 (duty.ReplicatedCreate 4 2)
@@ -134,15 +88,15 @@ journal =
     ∷ did 0 (duty.Address 6)
     ∷ did 0 (duty.Place 6 1)
     ∷ did 0 (duty.Pull 1)
-    ∷ asked 0 (call.Tick 1) reply.Ticked
-    ∷ asked 0 (call.Tick 1000) reply.Ticked
+    ∷ ticks 1
+    ∷ ticks 1000
     ∷ asked 0 (call.NodeFail (codes "n1")) (reply.AgentDone 1)
     ∷ did 0 (duty.Address 7)
     ∷ did 0 (duty.Place 7 1)
-    ∷ asked 0 (call.Tick 1000) reply.Ticked
+    ∷ ticks 1000
     ∷ did 0 (duty.Address 8)
     ∷ did 0 (duty.Place 8 1)
-    ∷ asked 0 (call.Tick 999) reply.Ticked
+    ∷ ticks 999
     ∷ did 0 (duty.Expire 1)
     ∷ did 0 (duty.Restart 8)
     ∷ did 0 (duty.Raise 9)
@@ -156,26 +110,21 @@ journal =
     ∷ did 0 (duty.Address 9)
     ∷ did 0 (duty.Explain 9)
     ∷ did 0 (duty.Note 10)
-    ∷ asked 0 (call.Tick 1) reply.Ticked
-    ∷ asked 0 (call.NodeFail (codes "n2")) (reply.Refused (refusal.NotFound kind.Node (wanted_by.Name (codes "n2"))))
-    ∷ asked 0 (call.RemoteBegin (codes "r1") None None)
-    (reply.Refused (refusal.NotFound kind.Node (wanted_by.Name (codes "r1"))))
-    ∷ asked 0 (call.NodeFail (codes "n3")) (reply.Refused (refusal.NotFound kind.Node (wanted_by.Name (codes "n3"))))
-    ∷ asked 0 (call.Txn
-    (op.UpdateNode (codes "r1") None ((codes "zone", codes "a") ∷ []) node_role.Manager availability.Active ∷ []))
-    (reply.Refused (refusal.NotFound kind.Node (wanted_by.Name (codes "r1"))))
-    ∷ asked 0 (call.Tick 1) reply.Ticked
-    ∷ asked 0 (call.RemoteBegin (codes "r1") None None)
-    (reply.Refused (refusal.NotFound kind.Node (wanted_by.Name (codes "r1"))))
-    ∷ asked 0 (call.RemoteBegin (codes "r1") (Some 1000) (Some 0))
-    (reply.Refused (refusal.NotFound kind.Node (wanted_by.Name (codes "r1"))))
-    ∷ asked 0 (call.RemoteBegin (codes "r1") None None)
-    (reply.Refused (refusal.NotFound kind.Node (wanted_by.Name (codes "r1"))))
-    ∷ asked 0 (call.Tick 1) reply.Ticked
-    ∷ asked 0 (call.RemoteBegin (codes "r1") None None)
-    (reply.Refused (refusal.NotFound kind.Node (wanted_by.Name (codes "r1"))))
+    ∷ ticks 1
+    ∷ asked 0 (call.NodeFail (codes "n2")) (no_node (codes "n2"))
+    ∷ asked 0 (call.RemoteBegin (codes "r1") None None) (no_node (codes "r1"))
+    ∷ asked 0 (call.NodeFail (codes "n3")) (no_node (codes "n3"))
+    ∷ asked 0
+    (one (op.UpdateNode (codes "r1") None ((codes "zone", codes "a") ∷ []) node_role.Manager availability.Active))
+    (no_node (codes "r1"))
+    ∷ ticks 1
+    ∷ asked 0 (call.RemoteBegin (codes "r1") None None) (no_node (codes "r1"))
+    ∷ asked 0 (call.RemoteBegin (codes "r1") (Some 1000) (Some 0)) (no_node (codes "r1"))
+    ∷ asked 0 (call.RemoteBegin (codes "r1") None None) (no_node (codes "r1"))
+    ∷ ticks 1
+    ∷ asked 0 (call.RemoteBegin (codes "r1") None None) (no_node (codes "r1"))
     ∷ asked 0 (call.Settle 67988) (reply.Settle 67988 settle.Settled)
-    ∷ asked 0 (call.Tick 1000) reply.Ticked
+    ∷ ticks 1000
     ∷ did 0 (duty.Orphan 7)
     ∷ did 0 (duty.Trim 7)
     ∷ did 0 (duty.Orphan 6)
@@ -187,104 +136,46 @@ journal =
     ∷ []
 
 abbrev pub world : World
-world = record {
+world = record empty_world {
   entries = 60;
-  tables = record {
+  tables = record empty_tables {
     clock = 4003;
     next_id = 12;
-    nodes =
-        record {
-          id = 1;
-          version = 27;
-          name = codes "n1";
-          labels = [];
-          role = node_role.Worker;
-          availability = availability.Active;
-          state = node_state.Down;
-          down_since = 3000;
-          cpu = 2000;
-          mem = 8589934592;
-          os = codes "linux";
-          arch = codes "amd64";
-          engine = [];
-          remote = false;
-        }
-        ∷ [];
+    nodes = record (node_row 1 27 (codes "n1") draft_1) { state = node_state.Down; down_since = 3000 } ∷ [];
     services =
-        record {
-          id = 4;
-          version = 14;
-          name = codes "s1";
-          spec = spec_2;
-          previous = None;
+        record (service_row 4 14 (codes "s1") spec_2) {
           template_version = 5;
-          rolling_back = false;
-          iteration = 0;
           numbers =
               record { target = 80; udp = false; number = 30000 }
               ∷ record { target = 81; udp = false; number = 30001 }
               ∷ record { target = 82; udp = false; number = 30002 }
               ∷ [];
-          run = None;
         }
         ∷ [];
     tasks =
-        record {
-          id = 9;
-          version = 38;
-          service = 4;
-          place = Slot 3;
-          iteration = 0;
-          template = template_2;
-          born = 5;
-          goal = desired.Running;
-          node = None;
+        record (task_row 9 38 4 5 (Slot 3) template_2) {
           state = state.Pending;
           since = 3000;
-          desired = desired.Running;
           created = 3000;
           raise_at = 3000;
           addresses = record { network = 2; number = 167772422 } ∷ [];
           note = note.Filters (1 ∷ 0 ∷ 0 ∷ 0 ∷ 0 ∷ 0 ∷ []);
-          closed = None;
         }
-        ∷ record {
-          id = 10;
-          version = 57;
-          service = 4;
-          place = Slot 2;
-          iteration = 0;
-          template = template_2;
-          born = 5;
-          goal = desired.Running;
-          node = None;
+        ∷ record (task_row 10 57 4 5 (Slot 2) template_2) {
           state = state.Pending;
           since = 4003;
-          desired = desired.Running;
           created = 3000;
           raise_at = 3000;
           addresses = record { network = 2; number = 167772418 } ∷ [];
           note = note.Filters (1 ∷ 0 ∷ 0 ∷ 0 ∷ 0 ∷ 0 ∷ []);
-          closed = None;
         }
-        ∷ record {
-          id = 11;
-          version = 35;
-          service = 4;
-          place = Slot 1;
-          iteration = 0;
-          template = template_2;
-          born = 5;
-          goal = desired.Running;
-          node = None;
+        ∷ record (task_row 11 35 4 5 (Slot 1) template_2) {
           state = state.Pending;
           since = 3000;
-          desired = desired.Running;
           created = 3000;
           raise_at = 3000;
           addresses = record { network = 2; number = 167772421 } ∷ [];
           note = note.Filters (1 ∷ 0 ∷ 0 ∷ 0 ∷ 0 ∷ 0 ∷ []);
-          closed = None;
         }
         ∷ [];
     networks =
@@ -296,29 +187,21 @@ world = record {
         ∷ record { service = 4; place = Slot 2; version = 5; at = 3000 }
         ∷ record { service = 4; place = Slot 1; version = 5; at = 3000 }
         ∷ [];
-    sessions = record { node = 1; session = record { id = 5; deadline = 3000; beat = 0 } } ∷ [];
+    sessions = session_row 1 5 3000 0 ∷ [];
     settings = record { heartbeat = 1000; orphan = 50; history = 0 };
   };
-  sent =
-      record { node = 1; count = 2; tasks = record { task = 6; desired = desired.Running; workload = workload_1 } ∷ [] }
-      ∷ [];
+  sent = record { node = 1; count = 2; tasks = assigned 6 desired.Running workload_1 ∷ [] } ∷ [];
   agents =
-      record {
-        node = 1;
+      record (agent_row 1 1 []) {
         mode = agent_mode.PowerOff;
         inbox = Some (record {
           complete = false;
           applies_to = 1;
           results_in = 2;
-          changes = assign.Update (record { task = 6; desired = desired.Running; workload = workload_1 }) ∷ [];
+          changes = assign.Update (assigned 6 desired.Running workload_1) ∷ [];
         });
-        applied = 1;
-        executors = [];
       }
       ∷ [];
-  watchers = [];
-  events = [];
-  halted = false;
 }
 
 abbrev pub history : List Entry

@@ -2,7 +2,10 @@
 use Rattle.std.specs.Prelude.{List, None, Some, [], codes, false, refl, true, ◌∷◌, ◌≡◌}
 use Rattle.swarm_model.proofs.Examples.Audit.{IsPlayed, Told, asked, did, entries_of, played}
 use Rattle.swarm_model.proofs.Examples.LawTests.{laws_hold}
-use Rattle.swarm_objects.specs.World.{World, empty_world}
+use Rattle.swarm_model.proofs.Examples.Usual.{agent_row, draft, made, node_row, service_row, session_row, task_row, ticks}
+use Rattle.swarm_model.proofs.Examples.Words.{one}
+use Rattle.swarm_objects.specs.Defaults.{usual_node, usual_restart, usual_settings, usual_spec, usual_template, usual_update, usual_workload}
+use Rattle.swarm_objects.specs.World.{World, empty_tables, empty_world}
 use Rattle.swarm_objects.specs.declared.agents.AgentMode.TheVariants as agent_mode
 use Rattle.swarm_objects.specs.declared.calls.Call.TheVariants as call
 use Rattle.swarm_objects.specs.declared.calls.Entry.{Entry}
@@ -12,151 +15,67 @@ use Rattle.swarm_objects.specs.declared.ids.Kind.TheVariants as kind
 use Rattle.swarm_objects.specs.declared.nodes.Availability.TheVariants as availability
 use Rattle.swarm_objects.specs.declared.nodes.NodeDraft.{NodeDraft}
 use Rattle.swarm_objects.specs.declared.nodes.NodeRole.TheVariants as node_role
-use Rattle.swarm_objects.specs.declared.nodes.NodeState.TheVariants as node_state
 use Rattle.swarm_objects.specs.declared.replies.Refusal.TheVariants as refusal
 use Rattle.swarm_objects.specs.declared.replies.Reply.TheVariants as reply
-use Rattle.swarm_objects.specs.declared.services.FailureAction.TheVariants as action
 use Rattle.swarm_objects.specs.declared.services.Mode.TheVariants as mode
 use Rattle.swarm_objects.specs.declared.services.RunStatus.TheVariants as status
 use Rattle.swarm_objects.specs.declared.services.ServiceSpec.{ServiceSpec}
-use Rattle.swarm_objects.specs.declared.services.UpdateOrder.TheVariants as order
 use Rattle.swarm_objects.specs.declared.tasks.Desired.TheVariants as desired
-use Rattle.swarm_objects.specs.declared.tasks.Note.TheVariants as note
 use Rattle.swarm_objects.specs.declared.tasks.Place.TheVariants.{On}
 use Rattle.swarm_objects.specs.declared.tasks.TaskState.TheVariants as state
 use Rattle.swarm_objects.specs.declared.templates.End.TheVariants as end
 use Rattle.swarm_objects.specs.declared.templates.Key.TheVariants as key
-use Rattle.swarm_objects.specs.declared.templates.RestartCondition.TheVariants as condition
 use Rattle.swarm_objects.specs.declared.templates.Template.{Template}
 use Rattle.swarm_objects.specs.declared.templates.Workload.{Workload}
 
 abbrev draft_1 : NodeDraft
-draft_1 = record {
-  labels = [];
-  role = node_role.Manager;
-  availability = availability.Active;
-  cpu = 2000;
-  mem = 8589934592;
-  os = codes "linux";
-  arch = codes "amd64";
-  engine = [];
-  remote = false;
-}
+draft_1 = record usual_node { role = node_role.Manager; cpu = 2000 }
 
 abbrev draft_2 : NodeDraft
-draft_2 = record {
-  labels = (codes "zone", codes "A") ∷ [];
-  role = node_role.Manager;
-  availability = availability.Active;
-  cpu = 2000;
-  mem = 8589934592;
-  os = codes "linux";
-  arch = codes "amd64";
-  engine = [];
-  remote = false;
-}
-
-abbrev draft_3 : NodeDraft
-draft_3 = record {
-  labels = [];
-  role = node_role.Worker;
-  availability = availability.Active;
-  cpu = 4000;
-  mem = 8589934592;
-  os = codes "linux";
-  arch = codes "amd64";
-  engine = [];
-  remote = false;
-}
+draft_2 = record usual_node { labels = (codes "zone", codes "A") ∷ []; role = node_role.Manager; cpu = 2000 }
 
 abbrev draft_4 : NodeDraft
-draft_4 = record {
-  labels = (codes "zone", codes "a") ∷ [];
-  role = node_role.Worker;
-  availability = availability.Active;
-  cpu = 1000;
-  mem = 8589934592;
-  os = codes "linux";
-  arch = codes "amd64";
-  engine = [];
-  remote = true;
-}
+draft_4 = record usual_node { labels = (codes "zone", codes "a") ∷ []; cpu = 1000; remote = true }
 
 abbrev workload_1 : Workload
-workload_1 = record { prepare = 1; start = 1; stop = 1; end = end.Exit 1000 1 }
+workload_1 = record usual_workload { end = end.Exit 1000 1 }
 
 abbrev template_1 : Template
-template_1 = record {
+template_1 = record usual_template {
   workload = workload_1;
-  cpu = 0;
-  mem = 0;
   constraints = record { key = key.Role; equal = true; value = codes "worker" } ∷ [];
-  spread = [];
-  platforms = [];
-  max_replicas = 0;
-  networks = [];
-  host_ports = [];
-  restart = record { condition = condition.Any; delay = 50; max_attempts = 0; window = 0 };
+  restart = record usual_restart { delay = 50 };
 }
 
 abbrev spec_1 : ServiceSpec
-spec_1 = record {
+spec_1 = record usual_spec {
   mode = mode.Global;
   template = template_1;
-  ports = [];
-  update = record {
-    parallelism = 1;
-    delay = 1;
-    monitor = 1;
-    action = action.Pause;
-    ratio = 0;
-    order = order.StopFirst;
-  };
+  update = record usual_update { delay = 1; monitor = 1 };
 }
 
-abbrev workload_2 : Workload
-workload_2 = record { prepare = 1; start = 1; stop = 1; end = end.Never }
-
 abbrev template_2 : Template
-template_2 = record {
-  workload = workload_2;
-  cpu = 0;
-  mem = 0;
+template_2 = record usual_template {
   constraints = record { key = key.Label (codes "zone"); equal = false; value = codes "b" } ∷ [];
-  spread = [];
-  platforms = [];
-  max_replicas = 0;
-  networks = [];
-  host_ports = [];
-  restart = record { condition = condition.Any; delay = 50; max_attempts = 0; window = 0 };
+  restart = record usual_restart { delay = 50 };
 }
 
 abbrev spec_2 : ServiceSpec
-spec_2 = record {
+spec_2 = record usual_spec {
   mode = mode.Global;
   template = template_2;
-  ports = [];
-  update = record {
-    parallelism = 1;
-    delay = 1;
-    monitor = 1;
-    action = action.Pause;
-    ratio = 0;
-    order = order.StopFirst;
-  };
+  update = record usual_update { delay = 1; monitor = 1 };
 }
 
 abbrev pub journal : List Told
 journal =
-    asked 0 (call.Txn (op.CreateNode (codes "n1") draft_1 ∷ [])) (reply.Txn (1 ∷ []))
-    ∷ asked 0 (call.Txn (op.CreateNode (codes "n2") draft_2 ∷ [])) (reply.Txn (2 ∷ []))
-    ∷ asked 0 (call.Txn (op.CreateNode (codes "n3") draft_3 ∷ [])) (reply.Txn (3 ∷ []))
-    ∷ asked 0 (call.Txn (op.CreateNode (codes "r1") draft_4 ∷ [])) (reply.Txn (4 ∷ []))
+    asked 0 (one (op.CreateNode (codes "n1") draft_1)) (made 1)
+    ∷ asked 0 (one (op.CreateNode (codes "n2") draft_2)) (made 2)
+    ∷ asked 0 (one (op.CreateNode (codes "n3") usual_node)) (made 3)
+    ∷ asked 0 (one (op.CreateNode (codes "r1") draft_4)) (made 4)
     ∷ asked 0 (call.RemoteBegin (codes "r1") None None) (reply.SessionBegun 5 15000)
-    ∷ asked 0 (call.Txn (op.SetCluster (record { heartbeat = 5000; orphan = 86400000; history = 5 }) ∷ []))
-    (reply.Txn (0 ∷ []))
-    ∷ asked 0 (call.Txn (op.CreateService (codes "s1") (record { spec = spec_1; networks = [] }) ∷ []))
-    (reply.Txn (6 ∷ []))
+    ∷ asked 0 (one (op.SetCluster (usual_settings))) (made 0)
+    ∷ asked 0 (one (op.CreateService (codes "s1") (draft spec_1))) (made 6)
     ∷ did 0 (duty.GlobalCreate 6 4)
     ∷ did 0 (duty.Address 7)
     ∷ did 0 (duty.Place 7 4)
@@ -175,16 +94,15 @@ journal =
     ∷ did 0 (duty.Exec 3 11)
     ∷ did 0 (duty.Report 3 11)
     ∷ asked 0 (call.WatchBegin (record { kind = Some kind.Service; id = Some 13 })) (reply.WatchBegun 12)
-    ∷ asked 0 (call.Tick 1000) reply.Ticked
+    ∷ ticks 1000
     ∷ did 0 (duty.Exec 3 11)
     ∷ did 0 (duty.Exec 3 11)
-    ∷ asked 0 (call.Tick 1) reply.Ticked
+    ∷ ticks 1
     ∷ did 0 (duty.Exec 3 11)
     ∷ did 0 (duty.Report 3 11)
-    ∷ asked 0 (call.Tick 1000) reply.Ticked
+    ∷ ticks 1000
     ∷ did 0 (duty.Exec 3 11)
-    ∷ asked 0 (call.Txn (op.UpdateNode (codes "n3") (Some 17) [] node_role.Manager availability.Active ∷ []))
-    (reply.Txn (3 ∷ []))
+    ∷ asked 0 (one (op.UpdateNode (codes "n3") (Some 17) [] node_role.Manager availability.Active)) (made 3)
     ∷ did 0 (duty.Reject 11)
     ∷ did 0 (duty.Restart 11)
     ∷ did 0 (duty.Leave 6 3)
@@ -194,113 +112,48 @@ journal =
     ∷ did 0 (duty.Pull 3)
     ∷ did 0 (duty.Apply 3)
     ∷ did 0 (duty.Forget 3 11)
-    ∷ asked 0 (call.Tick 1000) reply.Ticked
+    ∷ ticks 1000
     ∷ asked 0 (call.AgentStart (codes "r1")) (reply.Refused (refusal.WrongKind 4))
     ∷ asked 0 (call.RemoteBeat (codes "r1") 5) (reply.Beat 18001)
-    ∷ asked 0 (call.Tick 1000) reply.Ticked
-    ∷ asked 0 (call.Txn
-    (op.UpdateNode (codes "n2") None ((codes "zone", codes "b") ∷ []) node_role.Manager availability.Pause ∷ []))
-    (reply.Txn (2 ∷ []))
+    ∷ ticks 1000
+    ∷ asked 0
+    (one (op.UpdateNode (codes "n2") None ((codes "zone", codes "b") ∷ []) node_role.Manager availability.Pause))
+    (made 2)
     ∷ asked 0 (call.NodeStart (codes "n3")) (reply.AgentDone 3)
     ∷ asked 0 (call.RemoteBegin (codes "r1") None None) (reply.SessionBegun 14 19001)
-    ∷ asked 0 (call.Txn (op.UpdateService (codes "s1") None (record { spec = spec_2; networks = [] }) ∷ []))
-    (reply.Txn (6 ∷ []))
+    ∷ asked 0 (one (op.UpdateService (codes "s1") None (draft spec_2))) (made 6)
     ∷ asked 0 (call.AgentStop (codes "n3")) (reply.AgentDone 3)
     ∷ did 0 (duty.Start 6)
     ∷ did 0 (duty.Replace 6 4)
     ∷ did 0 (duty.GlobalCreate 6 1)
     ∷ did 0 (duty.GlobalCreate 6 3)
-    ∷ asked 0 (call.Txn
-    (op.UpdateNode (codes "n1") None ((codes "zone", codes "A") ∷ []) node_role.Manager availability.Active ∷ []))
-    (reply.Txn (1 ∷ []))
+    ∷ asked 0
+    (one (op.UpdateNode (codes "n1") None ((codes "zone", codes "A") ∷ []) node_role.Manager availability.Active))
+    (made 1)
     ∷ did 0 (duty.Address 15)
     ∷ did 0 (duty.Address 16)
     ∷ did 0 (duty.Address 17)
     ∷ []
 
 abbrev pub world : World
-world = record {
+world = record empty_world {
   entries = 60;
-  tables = record {
+  tables = record empty_tables {
     clock = 4001;
     next_id = 18;
     nodes =
-        record {
-          id = 1;
-          version = 57;
-          name = codes "n1";
-          labels = (codes "zone", codes "A") ∷ [];
-          role = node_role.Manager;
-          availability = availability.Active;
-          state = node_state.Ready;
-          down_since = 0;
-          cpu = 2000;
-          mem = 8589934592;
-          os = codes "linux";
-          arch = codes "amd64";
-          engine = [];
-          remote = false;
-        }
-        ∷ record {
-          id = 2;
-          version = 48;
-          name = codes "n2";
+        node_row 1 57 (codes "n1") draft_2
+        ∷ record (node_row 2 48 (codes "n2") draft_1) {
           labels = (codes "zone", codes "b") ∷ [];
-          role = node_role.Manager;
           availability = availability.Pause;
-          state = node_state.Ready;
-          down_since = 0;
-          cpu = 2000;
-          mem = 8589934592;
-          os = codes "linux";
-          arch = codes "amd64";
-          engine = [];
-          remote = false;
         }
-        ∷ record {
-          id = 3;
-          version = 34;
-          name = codes "n3";
-          labels = [];
-          role = node_role.Manager;
-          availability = availability.Active;
-          state = node_state.Ready;
-          down_since = 0;
-          cpu = 4000;
-          mem = 8589934592;
-          os = codes "linux";
-          arch = codes "amd64";
-          engine = [];
-          remote = false;
-        }
-        ∷ record {
-          id = 4;
-          version = 50;
-          name = codes "r1";
-          labels = (codes "zone", codes "a") ∷ [];
-          role = node_role.Worker;
-          availability = availability.Active;
-          state = node_state.Ready;
-          down_since = 0;
-          cpu = 1000;
-          mem = 8589934592;
-          os = codes "linux";
-          arch = codes "amd64";
-          engine = [];
-          remote = true;
-        }
+        ∷ record (node_row 3 34 (codes "n3") draft_1) { cpu = 4000 }
+        ∷ node_row 4 50 (codes "r1") draft_4
         ∷ [];
     services =
-        record {
-          id = 6;
-          version = 54;
-          name = codes "s1";
-          spec = spec_2;
+        record (service_row 6 54 (codes "s1") spec_2) {
           previous = Some spec_1;
           template_version = 51;
-          rolling_back = false;
-          iteration = 0;
-          numbers = [];
           run = Some (record {
             status = status.Updating;
             version = 51;
@@ -310,106 +163,49 @@ world = record {
         }
         ∷ [];
     tasks =
-        record {
-          id = 7;
-          version = 54;
-          service = 6;
-          place = On 4;
-          iteration = 0;
-          template = template_1;
-          born = 7;
-          goal = desired.Running;
+        record (task_row 7 54 6 7 (On 4) template_1) {
           node = Some 4;
           state = state.Assigned;
-          since = 0;
           desired = desired.Shutdown;
-          created = 0;
-          raise_at = 0;
-          addresses = [];
-          note = note.Empty;
-          closed = None;
         }
-        ∷ record {
-          id = 15;
-          version = 58;
-          service = 6;
-          place = On 4;
-          iteration = 0;
-          template = template_2;
-          born = 51;
-          goal = desired.Running;
+        ∷ record (task_row 15 58 6 51 (On 4) template_2) {
           node = Some 4;
           state = state.Pending;
           since = 4001;
           desired = desired.Ready;
           created = 4001;
           raise_at = 4001;
-          addresses = [];
-          note = note.Empty;
-          closed = None;
         }
-        ∷ record {
-          id = 16;
-          version = 59;
-          service = 6;
-          place = On 1;
-          iteration = 0;
-          template = template_2;
-          born = 51;
-          goal = desired.Running;
+        ∷ record (task_row 16 59 6 51 (On 1) template_2) {
           node = Some 1;
           state = state.Pending;
           since = 4001;
-          desired = desired.Running;
           created = 4001;
           raise_at = 4001;
-          addresses = [];
-          note = note.Empty;
-          closed = None;
         }
-        ∷ record {
-          id = 17;
-          version = 60;
-          service = 6;
-          place = On 3;
-          iteration = 0;
-          template = template_2;
-          born = 51;
-          goal = desired.Running;
+        ∷ record (task_row 17 60 6 51 (On 3) template_2) {
           node = Some 3;
           state = state.Pending;
           since = 4001;
-          desired = desired.Running;
           created = 4001;
           raise_at = 4001;
-          addresses = [];
-          note = note.Empty;
-          closed = None;
         }
         ∷ [];
-    networks = [];
     attempts = record { service = 6; place = On 3; version = 7; at = 2001 } ∷ [];
     sessions =
-        record { node = 1; session = record { id = 8; deadline = 15000; beat = 0 } }
-        ∷ record { node = 2; session = record { id = 9; deadline = 15000; beat = 0 } }
-        ∷ record { node = 3; session = record { id = 10; deadline = 15000; beat = 0 } }
-        ∷ record { node = 4; session = record { id = 14; deadline = 19001; beat = 4001 } }
+        session_row 1 8 15000 0
+        ∷ session_row 2 9 15000 0
+        ∷ session_row 3 10 15000 0
+        ∷ session_row 4 14 19001 4001
         ∷ [];
-    settings = record { heartbeat = 5000; orphan = 86400000; history = 5 };
   };
   sent =
       record { node = 1; count = 1; tasks = [] }
       ∷ record { node = 2; count = 1; tasks = [] }
       ∷ record { node = 3; count = 2; tasks = [] }
       ∷ [];
-  agents =
-      record { node = 1; mode = agent_mode.On; inbox = None; applied = 1; executors = [] }
-      ∷ record { node = 2; mode = agent_mode.On; inbox = None; applied = 1; executors = [] }
-      ∷ record { node = 3; mode = agent_mode.AgentOff; inbox = None; applied = 2; executors = [] }
-      ∷ [];
+  agents = agent_row 1 1 [] ∷ agent_row 2 1 [] ∷ record (agent_row 3 2 []) { mode = agent_mode.AgentOff } ∷ [];
   watchers = record { id = 12; filter = record { kind = Some kind.Service; id = Some 13 }; cursor = 25 } ∷ [];
-  events = [];
-  halted = false;
 }
 
 abbrev pub history : List Entry

@@ -1,149 +1,67 @@
 -- Duties out of order, among them swap, beat, start and replace.
-use Rattle.std.specs.Prelude.{List, None, Some, [], codes, false, refl, true, ◌∷◌, ◌≡◌}
+use Rattle.std.specs.Prelude.{List, None, Some, [], codes, refl, true, ◌∷◌, ◌≡◌}
 use Rattle.swarm_model.proofs.Examples.Audit.{IsPlayed, Told, asked, did, entries_of, played}
 use Rattle.swarm_model.proofs.Examples.LawTests.{laws_hold}
-use Rattle.swarm_objects.specs.World.{World, empty_world}
-use Rattle.swarm_objects.specs.declared.agents.AgentMode.TheVariants as agent_mode
+use Rattle.swarm_model.proofs.Examples.Usual.{agent_row, assigned, draft, executor_row, made, node_row, service_row, session_row, task_row, ticks}
+use Rattle.swarm_model.proofs.Examples.Words.{one}
+use Rattle.swarm_objects.specs.Defaults.{usual_node, usual_spec, usual_template, usual_update, usual_workload}
+use Rattle.swarm_objects.specs.World.{World, empty_tables, empty_world}
 use Rattle.swarm_objects.specs.declared.calls.Call.TheVariants as call
 use Rattle.swarm_objects.specs.declared.calls.Entry.{Entry}
 use Rattle.swarm_objects.specs.declared.calls.Op.TheVariants as op
 use Rattle.swarm_objects.specs.declared.duties.Duty.TheVariants as duty
-use Rattle.swarm_objects.specs.declared.nodes.Availability.TheVariants as availability
 use Rattle.swarm_objects.specs.declared.nodes.NodeDraft.{NodeDraft}
-use Rattle.swarm_objects.specs.declared.nodes.NodeRole.TheVariants as node_role
-use Rattle.swarm_objects.specs.declared.nodes.NodeState.TheVariants as node_state
 use Rattle.swarm_objects.specs.declared.replies.Refusal.TheVariants as refusal
 use Rattle.swarm_objects.specs.declared.replies.Reply.TheVariants as reply
-use Rattle.swarm_objects.specs.declared.services.FailureAction.TheVariants as action
 use Rattle.swarm_objects.specs.declared.services.Mode.TheVariants as mode
 use Rattle.swarm_objects.specs.declared.services.RunStatus.TheVariants as status
 use Rattle.swarm_objects.specs.declared.services.ServiceSpec.{ServiceSpec}
 use Rattle.swarm_objects.specs.declared.services.UpdateOrder.TheVariants as order
 use Rattle.swarm_objects.specs.declared.tasks.Desired.TheVariants as desired
-use Rattle.swarm_objects.specs.declared.tasks.Note.TheVariants as note
 use Rattle.swarm_objects.specs.declared.tasks.Place.TheVariants.{On}
 use Rattle.swarm_objects.specs.declared.tasks.TaskState.TheVariants as state
-use Rattle.swarm_objects.specs.declared.templates.End.TheVariants as end
-use Rattle.swarm_objects.specs.declared.templates.RestartCondition.TheVariants as condition
 use Rattle.swarm_objects.specs.declared.templates.Template.{Template}
 use Rattle.swarm_objects.specs.declared.templates.Workload.{Workload}
 
 abbrev draft_1 : NodeDraft
-draft_1 = record {
+draft_1 = record usual_node {
   labels = (codes "zone", codes "b") ∷ [];
-  role = node_role.Worker;
-  availability = availability.Active;
   cpu = 1000;
-  mem = 8589934592;
-  os = codes "linux";
-  arch = codes "amd64";
   engine = (codes "disk", codes "ssd") ∷ [];
-  remote = false;
 }
 
 abbrev draft_2 : NodeDraft
-draft_2 = record {
-  labels = (codes "zone", codes "b") ∷ [];
-  role = node_role.Worker;
-  availability = availability.Active;
-  cpu = 2000;
-  mem = 8589934592;
-  os = codes "linux";
-  arch = codes "amd64";
-  engine = [];
-  remote = true;
-}
-
-abbrev workload_1 : Workload
-workload_1 = record { prepare = 1; start = 1; stop = 1; end = end.Never }
-
-abbrev template_1 : Template
-template_1 = record {
-  workload = workload_1;
-  cpu = 0;
-  mem = 0;
-  constraints = [];
-  spread = [];
-  platforms = [];
-  max_replicas = 0;
-  networks = [];
-  host_ports = [];
-  restart = record { condition = condition.Any; delay = 5000; max_attempts = 0; window = 0 };
-}
+draft_2 = record usual_node { labels = (codes "zone", codes "b") ∷ []; cpu = 2000; remote = true }
 
 abbrev spec_1 : ServiceSpec
-spec_1 = record {
-  mode = mode.Global;
-  template = template_1;
-  ports = [];
-  update = record {
-    parallelism = 1;
-    delay = 0;
-    monitor = 5000;
-    action = action.Pause;
-    ratio = 0;
-    order = order.StopFirst;
-  };
-}
+spec_1 = record usual_spec { mode = mode.Global }
 
 abbrev workload_2 : Workload
-workload_2 = record { prepare = 1; start = 2; stop = 1; end = end.Never }
+workload_2 = record usual_workload { start = 2 }
 
 abbrev template_2 : Template
-template_2 = record {
-  workload = workload_2;
-  cpu = 0;
-  mem = 0;
-  constraints = [];
-  spread = [];
-  platforms = [];
-  max_replicas = 0;
-  networks = [];
-  host_ports = [];
-  restart = record { condition = condition.Any; delay = 5000; max_attempts = 0; window = 0 };
-}
+template_2 = record usual_template { workload = workload_2 }
 
 abbrev spec_2 : ServiceSpec
-spec_2 = record {
+spec_2 = record usual_spec {
   mode = mode.Global;
   template = template_2;
-  ports = [];
-  update = record {
-    parallelism = 1;
-    delay = 0;
-    monitor = 5000;
-    action = action.Pause;
-    ratio = 0;
-    order = order.StartFirst;
-  };
+  update = record usual_update { order = order.StartFirst };
 }
 
 abbrev draft_3 : NodeDraft
-draft_3 = record {
-  labels = (codes "zone", codes "A") ∷ [];
-  role = node_role.Worker;
-  availability = availability.Active;
-  cpu = 2000;
-  mem = 8589934592;
-  os = codes "linux";
-  arch = codes "amd64";
-  engine = [];
-  remote = true;
-}
+draft_3 = record usual_node { labels = (codes "zone", codes "A") ∷ []; cpu = 2000; remote = true }
 
 abbrev pub journal : List Told
 journal =
-    asked 0 (call.Txn (op.CreateNode (codes "n1") draft_1 ∷ [])) (reply.Txn (1 ∷ []))
-    ∷ asked 0 (call.Txn (op.CreateNode (codes "r1") draft_2 ∷ [])) (reply.Txn (2 ∷ []))
+    asked 0 (one (op.CreateNode (codes "n1") draft_1)) (made 1)
+    ∷ asked 0 (one (op.CreateNode (codes "r1") draft_2)) (made 2)
     ∷ asked 0 (call.RemoteBegin (codes "r1") None None) (reply.SessionBegun 3 15000)
-    ∷ asked 0 (call.Txn (op.CreateNetwork (codes "lan") 167772416 29 ∷ [])) (reply.Txn (4 ∷ []))
-    ∷ asked 0 (call.Txn (op.CreateNetwork (codes "wan") 167772672 28 ∷ [])) (reply.Txn (5 ∷ []))
-    ∷ asked 0 (call.Txn (op.SetCluster (record { heartbeat = 1000; orphan = 86400000; history = 5 }) ∷ []))
-    (reply.Txn (0 ∷ []))
-    ∷ asked 0 (call.Txn (op.CreateService (codes "s1") (record { spec = spec_1; networks = [] }) ∷ []))
-    (reply.Txn (6 ∷ []))
-    ∷ asked 0 (call.Txn (op.CreateService (codes "s2") (record { spec = spec_1; networks = [] }) ∷ []))
-    (reply.Txn (7 ∷ []))
+    ∷ asked 0 (one (op.CreateNetwork (codes "lan") 167772416 29)) (made 4)
+    ∷ asked 0 (one (op.CreateNetwork (codes "wan") 167772672 28)) (made 5)
+    ∷ asked 0 (one (op.SetCluster (record { heartbeat = 1000; orphan = 86400000; history = 5 }))) (made 0)
+    ∷ asked 0 (one (op.CreateService (codes "s1") (draft spec_1))) (made 6)
+    ∷ asked 0 (one (op.CreateService (codes "s2") (draft spec_1))) (made 7)
     ∷ did 0 (duty.GlobalCreate 6 2)
     ∷ did 0 (duty.GlobalCreate 7 2)
     ∷ did 0 (duty.Address 8)
@@ -153,20 +71,18 @@ journal =
     ∷ did 0 (duty.Register 1)
     ∷ did 0 (duty.GlobalCreate 6 1)
     ∷ did 0 (duty.GlobalCreate 7 1)
-    ∷ asked 0 (call.Tick 2) reply.Ticked
+    ∷ ticks 2
     ∷ did 0 (duty.Address 11)
     ∷ did 0 (duty.Address 12)
-    ∷ asked 0 (call.Tick 1000) reply.Ticked
-    ∷ asked 0 (call.Txn (op.UpdateService (codes "s2") None (record { spec = spec_2; networks = [] }) ∷ []))
-    (reply.Txn (7 ∷ []))
+    ∷ ticks 1000
+    ∷ asked 0 (one (op.UpdateService (codes "s2") None (draft spec_2))) (made 7)
     ∷ did 0 (duty.Start 7)
     ∷ did 0 (duty.Replace 7 1)
     ∷ did 0 (duty.Address 13)
     ∷ did 0 (duty.Place 11 1)
     ∷ did 0 (duty.Place 12 1)
     ∷ did 0 (duty.Place 13 1)
-    ∷ asked 0 (call.Txn (op.UpdateService (codes "s1") (Some 7) (record { spec = spec_1; networks = [] }) ∷ []))
-    (reply.Txn (6 ∷ []))
+    ∷ asked 0 (one (op.UpdateService (codes "s1") (Some 7) (draft spec_1))) (made 6)
     ∷ did 0 (duty.Beat 1)
     ∷ did 0 (duty.Pull 1)
     ∷ did 0 (duty.Apply 1)
@@ -176,8 +92,8 @@ journal =
     ∷ did 0 (duty.Report 1 11)
     ∷ did 0 (duty.Report 1 12)
     ∷ did 0 (duty.Report 1 13)
-    ∷ asked 0 (call.Txn (op.CreateNode (codes "r1") draft_3 ∷ [])) (reply.Refused (refusal.NameTaken 2))
-    ∷ asked 0 (call.Tick 2) reply.Ticked
+    ∷ asked 0 (one (op.CreateNode (codes "r1") draft_3)) (reply.Refused (refusal.NameTaken 2))
+    ∷ ticks 2
     ∷ did 0 (duty.Exec 1 11)
     ∷ did 0 (duty.Exec 1 11)
     ∷ did 0 (duty.Exec 1 12)
@@ -187,12 +103,12 @@ journal =
     ∷ did 0 (duty.Report 1 11)
     ∷ did 0 (duty.Report 1 12)
     ∷ did 0 (duty.Report 1 13)
-    ∷ asked 0 (call.Tick 1) reply.Ticked
+    ∷ ticks 1
     ∷ did 0 (duty.Exec 1 11)
     ∷ did 0 (duty.Exec 1 12)
     ∷ did 0 (duty.Report 1 11)
     ∷ did 0 (duty.Report 1 12)
-    ∷ asked 0 (call.Tick 1) reply.Ticked
+    ∷ ticks 1
     ∷ did 0 (duty.Exec 1 13)
     ∷ did 0 (duty.Report 1 13)
     ∷ did 0 (duty.Swap 7 1)
@@ -201,68 +117,17 @@ journal =
     ∷ []
 
 abbrev pub world : World
-world = record {
+world = record empty_world {
   entries = 60;
-  tables = record {
+  tables = record empty_tables {
     clock = 1006;
     next_id = 15;
-    nodes =
-        record {
-          id = 1;
-          version = 15;
-          name = codes "n1";
-          labels = (codes "zone", codes "b") ∷ [];
-          role = node_role.Worker;
-          availability = availability.Active;
-          state = node_state.Ready;
-          down_since = 0;
-          cpu = 1000;
-          mem = 8589934592;
-          os = codes "linux";
-          arch = codes "amd64";
-          engine = (codes "disk", codes "ssd") ∷ [];
-          remote = false;
-        }
-        ∷ record {
-          id = 2;
-          version = 3;
-          name = codes "r1";
-          labels = (codes "zone", codes "b") ∷ [];
-          role = node_role.Worker;
-          availability = availability.Active;
-          state = node_state.Ready;
-          down_since = 0;
-          cpu = 2000;
-          mem = 8589934592;
-          os = codes "linux";
-          arch = codes "amd64";
-          engine = [];
-          remote = true;
-        }
-        ∷ [];
+    nodes = node_row 1 15 (codes "n1") draft_1 ∷ node_row 2 3 (codes "r1") draft_2 ∷ [];
     services =
-        record {
-          id = 6;
-          version = 29;
-          name = codes "s1";
-          spec = spec_1;
-          previous = Some spec_1;
-          template_version = 7;
-          rolling_back = false;
-          iteration = 0;
-          numbers = [];
-          run = None;
-        }
-        ∷ record {
-          id = 7;
-          version = 59;
-          name = codes "s2";
-          spec = spec_2;
+        record (service_row 6 29 (codes "s1") spec_1) { previous = Some spec_1; template_version = 7 }
+        ∷ record (service_row 7 59 (codes "s2") spec_2) {
           previous = Some spec_1;
           template_version = 22;
-          rolling_back = false;
-          iteration = 0;
-          numbers = [];
           run = Some (record {
             status = status.Updating;
             version = 22;
@@ -275,130 +140,35 @@ world = record {
         }
         ∷ [];
     tasks =
-        record {
-          id = 8;
-          version = 13;
-          service = 6;
-          place = On 2;
-          iteration = 0;
-          template = template_1;
-          born = 7;
-          goal = desired.Running;
-          node = Some 2;
-          state = state.Assigned;
-          since = 0;
-          desired = desired.Running;
-          created = 0;
-          raise_at = 0;
-          addresses = [];
-          note = note.Empty;
-          closed = None;
-        }
-        ∷ record {
-          id = 9;
-          version = 14;
-          service = 7;
-          place = On 2;
-          iteration = 0;
-          template = template_1;
-          born = 8;
-          goal = desired.Running;
-          node = Some 2;
-          state = state.Assigned;
-          since = 0;
-          desired = desired.Running;
-          created = 0;
-          raise_at = 0;
-          addresses = [];
-          note = note.Empty;
-          closed = None;
-        }
-        ∷ record {
-          id = 11;
-          version = 53;
-          service = 6;
-          place = On 1;
-          iteration = 0;
-          template = template_1;
-          born = 7;
-          goal = desired.Running;
-          node = Some 1;
-          state = state.Running;
-          since = 1005;
-          desired = desired.Running;
-          created = 0;
-          raise_at = 0;
-          addresses = [];
-          note = note.Empty;
-          closed = None;
-        }
-        ∷ record {
-          id = 12;
-          version = 58;
-          service = 7;
-          place = On 1;
-          iteration = 0;
-          template = template_1;
-          born = 8;
-          goal = desired.Running;
+        record (task_row 8 13 6 7 (On 2) usual_template) { node = Some 2; state = state.Assigned }
+        ∷ record (task_row 9 14 7 8 (On 2) usual_template) { node = Some 2; state = state.Assigned }
+        ∷ record (task_row 11 53 6 7 (On 1) usual_template) { node = Some 1; state = state.Running; since = 1005 }
+        ∷ record (task_row 12 58 7 8 (On 1) usual_template) {
           node = Some 1;
           state = state.Running;
           since = 1005;
           desired = desired.Shutdown;
-          created = 0;
-          raise_at = 0;
-          addresses = [];
-          note = note.Empty;
-          closed = None;
         }
-        ∷ record {
-          id = 13;
-          version = 57;
-          service = 7;
-          place = On 1;
-          iteration = 0;
-          template = template_2;
-          born = 22;
-          goal = desired.Running;
+        ∷ record (task_row 13 57 7 22 (On 1) template_2) {
           node = Some 1;
           state = state.Running;
           since = 1006;
-          desired = desired.Running;
           created = 1002;
           raise_at = 1002;
-          addresses = [];
-          note = note.Empty;
-          closed = None;
         }
-        ∷ record {
-          id = 14;
-          version = 60;
-          service = 7;
-          place = On 2;
-          iteration = 0;
-          template = template_2;
-          born = 22;
-          goal = desired.Running;
+        ∷ record (task_row 14 60 7 22 (On 2) template_2) {
           node = Some 2;
           state = state.Pending;
           since = 1006;
-          desired = desired.Running;
           created = 1006;
           raise_at = 1006;
-          addresses = [];
-          note = note.Empty;
-          closed = None;
         }
         ∷ [];
     networks =
         record { id = 4; version = 4; name = codes "lan"; base = 167772416; length = 29 }
         ∷ record { id = 5; version = 5; name = codes "wan"; base = 167772672; length = 28 }
         ∷ [];
-    attempts = [];
-    sessions =
-        record { node = 1; session = record { id = 10; deadline = 4002; beat = 1002 } }
-        ∷ record { node = 2; session = record { id = 3; deadline = 15000; beat = 0 } }
-        ∷ [];
+    sessions = session_row 1 10 4002 1002 ∷ session_row 2 3 15000 0 ∷ [];
     settings = record { heartbeat = 1000; orphan = 86400000; history = 5 };
   };
   sent =
@@ -406,55 +176,19 @@ world = record {
         node = 1;
         count = 1;
         tasks =
-            record { task = 11; desired = desired.Running; workload = workload_1 }
-            ∷ record { task = 12; desired = desired.Running; workload = workload_1 }
-            ∷ record { task = 13; desired = desired.Running; workload = workload_2 }
+            assigned 11 desired.Running usual_workload
+            ∷ assigned 12 desired.Running usual_workload
+            ∷ assigned 13 desired.Running workload_2
             ∷ [];
       }
       ∷ [];
   agents =
-      record {
-        node = 1;
-        mode = agent_mode.On;
-        inbox = None;
-        applied = 1;
-        executors =
-            record {
-              task = 11;
-              desired = desired.Running;
-              workload = workload_1;
-              state = state.Running;
-              since = 1005;
-              stopping = None;
-              reported = Some state.Running;
-              gone = false;
-            }
-            ∷ record {
-              task = 12;
-              desired = desired.Running;
-              workload = workload_1;
-              state = state.Running;
-              since = 1005;
-              stopping = None;
-              reported = Some state.Running;
-              gone = false;
-            }
-            ∷ record {
-              task = 13;
-              desired = desired.Running;
-              workload = workload_2;
-              state = state.Running;
-              since = 1006;
-              stopping = None;
-              reported = Some state.Running;
-              gone = false;
-            }
-            ∷ [];
-      }
+      agent_row 1 1 (
+      executor_row 11 usual_workload state.Running 1005
+      ∷ executor_row 12 usual_workload state.Running 1005
+      ∷ executor_row 13 workload_2 state.Running 1006
+      ∷ [])
       ∷ [];
-  watchers = [];
-  events = [];
-  halted = false;
 }
 
 abbrev pub history : List Entry
