@@ -244,39 +244,48 @@ fn update_named(fields: &[Field]) -> UpdateConfig
     }
 }
 
+// The template that the fields of a service say.
+fn template_named(alloc: Global, fields: &[Field]) -> Result<Template, NoMemory>
+    ensures { IfOk result (λ template. template ≡ (draft_of fields.now).spec.template) }
+{
+    Ok(Template {
+        workload: Workload {
+            prepare: number_named(Table::Service, NumberField::Prepare, fields),
+            start: number_named(Table::Service, NumberField::Start, fields),
+            stop: number_named(Table::Service, NumberField::Stop, fields),
+            end: end_named(fields),
+        },
+        cpu: number_named(Table::Service, NumberField::Cpu, fields),
+        mem: number_named(Table::Service, NumberField::Mem, fields),
+        constraints: constraints_named(alloc, fields)?,
+        spread: spreads_named(alloc, fields)?,
+        platforms: platforms_named(alloc, fields)?,
+        max_replicas: number_named(Table::Service, NumberField::MaxReplicas, fields),
+        networks: List::new(alloc),
+        host_ports: hosts_named(alloc, fields)?,
+        restart: RestartPolicy {
+            condition: restart_named(fields),
+            delay: number_named(Table::Service, NumberField::RestartDelay, fields),
+            max_attempts: number_named(Table::Service, NumberField::RestartMax, fields),
+            window: number_named(Table::Service, NumberField::RestartWindow, fields),
+        },
+    })
+}
+
 /// The draft that the fields of a service say.
 pub fn draft_of(alloc: Global, fields: &[Field]) -> Result<Draft, NoMemory>
     ensures { IfOk result (λ draft. draft ≡ draft_of fields.now) }
 {
+    let networks = nets_named(alloc, fields)?;
+    let ports = ports_named(alloc, fields)?;
     Ok(Draft {
         spec: ServiceSpec {
             mode: mode_named(fields),
-            template: Template {
-                workload: Workload {
-                    prepare: number_named(Table::Service, NumberField::Prepare, fields),
-                    start: number_named(Table::Service, NumberField::Start, fields),
-                    stop: number_named(Table::Service, NumberField::Stop, fields),
-                    end: end_named(fields),
-                },
-                cpu: number_named(Table::Service, NumberField::Cpu, fields),
-                mem: number_named(Table::Service, NumberField::Mem, fields),
-                constraints: constraints_named(alloc, fields)?,
-                spread: spreads_named(alloc, fields)?,
-                platforms: platforms_named(alloc, fields)?,
-                max_replicas: number_named(Table::Service, NumberField::MaxReplicas, fields),
-                networks: List::new(alloc),
-                host_ports: hosts_named(alloc, fields)?,
-                restart: RestartPolicy {
-                    condition: restart_named(fields),
-                    delay: number_named(Table::Service, NumberField::RestartDelay, fields),
-                    max_attempts: number_named(Table::Service, NumberField::RestartMax, fields),
-                    window: number_named(Table::Service, NumberField::RestartWindow, fields),
-                },
-            },
-            ports: ports_named(alloc, fields)?,
+            template: template_named(alloc, fields)?,
+            ports,
             update: update_named(fields),
         },
-        networks: nets_named(alloc, fields)?,
+        networks,
     })
 }
 

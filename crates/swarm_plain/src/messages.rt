@@ -24,6 +24,7 @@ ghost use Rattle.swarm_objects.specs.Same.{same_workload};
 ghost use Rattle.swarm_plain.specs.Plain.{tables_of, world_of};
 
 use crate::Plain;
+use crate::reads::row_at;
 use std::alloc::Global;
 use swarm_objects::{
     AssignChange, Assigned, Id, List, Message, NoMemory, NodeSent, Same, Task, TaskState, Workload,
@@ -189,7 +190,7 @@ impl Plain {
     fn sent_of(&self, node: Id) -> Option<&NodeSent>
         ensures { option_copied result ≡ sent_of (world_of self.now) node }
     {
-        self.sent.as_slice().iter().find(|row| row.node == node)
+        row_at(self.sent.as_slice(), node)
     }
 
     /// The message that is there for the node: all that is due, where nothing was sent in its session; else the

@@ -26,20 +26,22 @@ fn new_node(
 ) -> Result<Node, NoMemory>
     ensures { IfOk result (λ node. node ≡ new_node version id name.now draft.now) }
 {
+    let name = name.duplicate(alloc)?;
+    let draft = draft.duplicate(alloc)?;
     Ok(Node {
         id,
         version,
-        name: name.duplicate(alloc)?,
-        labels: draft.labels.duplicate(alloc)?,
+        name,
+        labels: draft.labels,
         role: draft.role,
         availability: draft.availability,
         state: NodeState::Unknown,
         down_since: 0,
         cpu: draft.cpu,
         mem: draft.mem,
-        os: draft.os.duplicate(alloc)?,
-        arch: draft.arch.duplicate(alloc)?,
-        engine: draft.engine.duplicate(alloc)?,
+        os: draft.os,
+        arch: draft.arch,
+        engine: draft.engine,
         remote: draft.remote,
     })
 }
@@ -68,22 +70,13 @@ fn respecified_node(
 ) -> Result<Node, NoMemory>
     ensures { IfOk result (λ new. new ≡ respecified_node version labels.now role availability node.now) }
 {
-    Ok(Node {
-        id: node.id,
-        version,
-        name: node.name.duplicate(alloc)?,
-        labels: labels.duplicate(alloc)?,
-        role,
-        availability,
-        state: node.state,
-        down_since: node.down_since,
-        cpu: node.cpu,
-        mem: node.mem,
-        os: node.os.duplicate(alloc)?,
-        arch: node.arch.duplicate(alloc)?,
-        engine: node.engine.duplicate(alloc)?,
-        remote: node.remote,
-    })
+    let labels = labels.duplicate(alloc)?;
+    let mut new = node.duplicate(alloc)?;
+    new.version = version;
+    new.labels = labels;
+    new.role = role;
+    new.availability = availability;
+    Ok(new)
 }
 
 // Every task of the node up to RUNNING is ORPHANED now.

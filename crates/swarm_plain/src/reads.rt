@@ -1,12 +1,13 @@
 // Reading the rows by scans.
-ghost use Rattle.std.specs.Prelude.{◌≡◌};
+ghost use Rattle.std.specs.Prelude.{◌≡◌, filter};
 ghost use Rattle.std.specs.Option.{option_copied};
-ghost use Rattle.swarm_objects.specs.Rows.{row_at, session_node};
+ghost use Rattle.swarm_objects.specs.Rows.{row_above, row_at, session_node, task_id};
+ghost use Rattle.swarm_objects.specs.Tasks.Words.{is_of, is_on};
 ghost use Rattle.swarm_plain.specs.Plain.{tables_of};
 
 use crate::Plain;
 use swarm_objects::{
-    Id, Ms, Network, Node, NodeSession, Place, Rows, Service, Settings, Task, Version,
+    Id, Keyed, Ms, Network, Node, NodeSession, Place, Rows, Service, Settings, Task, Version,
 };
 
 impl Rows for Plain {
@@ -25,51 +26,43 @@ impl Rows for Plain {
     }
 
     fn node(&self, id: Id) -> Option<&Node> {
-        self.nodes.as_slice().iter().find(|row| row.id == id)
+        row_at(self.nodes.as_slice(), id)
     }
 
     fn service(&self, id: Id) -> Option<&Service> {
-        self.services.as_slice().iter().find(|row| row.id == id)
+        row_at(self.services.as_slice(), id)
     }
 
     fn task(&self, id: Id) -> Option<&Task> {
-        self.tasks.as_slice().iter().find(|row| row.id == id)
+        row_at(self.tasks.as_slice(), id)
     }
 
     fn network(&self, id: Id) -> Option<&Network> {
-        self.networks.as_slice().iter().find(|row| row.id == id)
+        row_at(self.networks.as_slice(), id)
     }
 
     fn next_node(&self, after: Id) -> Option<&Node> {
-        self.nodes.as_slice().iter().find(|row| row.id > after)
+        row_above(self.nodes.as_slice(), after)
     }
 
     fn next_service(&self, after: Id) -> Option<&Service> {
-        self.services.as_slice().iter().find(|row| row.id > after)
+        row_above(self.services.as_slice(), after)
     }
 
     fn next_task(&self, after: Id) -> Option<&Task> {
-        self.tasks.as_slice().iter().find(|row| row.id > after)
+        row_above(self.tasks.as_slice(), after)
     }
 
     fn next_network(&self, after: Id) -> Option<&Network> {
-        self.networks.as_slice().iter().find(|row| row.id > after)
+        row_above(self.networks.as_slice(), after)
     }
 
     fn next_task_of(&self, service: Id, after: Id) -> Option<&Task> {
-        self.tasks
-            .as_slice()
-            .iter()
-            .filter(|row| row.service == service)
-            .find(|row| row.id > after)
+        next_of(self.tasks.as_slice(), service, after)
     }
 
     fn next_task_on(&self, node: Id, after: Id) -> Option<&Task> {
-        self.tasks
-            .as_slice()
-            .iter()
-            .filter(|row| row.node == Some(node))
-            .find(|row| row.id > after)
+        next_on(self.tasks.as_slice(), node, after)
     }
 
     fn session_live(&self, node: Id) -> bool {
@@ -94,9 +87,47 @@ impl Rows for Plain {
     }
 }
 
+// The first row with this key.
+pub(crate) fn row_at<T: Keyed>(rows: &[T], key: Id) -> Option<&T>
+    ensures { option_copied result ≡ row_at T.key_of key rows.now }
+{
+    rows.iter().find(|row| row.key() == key)
+}
+
+// The first row whose key is above this one.
+fn row_above<T: Keyed>(rows: &[T], after: Id) -> Option<&T>
+    ensures { option_copied result ≡ row_above T.key_of after rows.now }
+{
+    rows.iter().find(|row| row.key() > after)
+}
+
+// The first of the service's tasks whose id is above this one.
+fn next_of(tasks: &[Task], service: Id, after: Id) -> Option<&Task>
+    ensures { option_copied result ≡ row_above task_id after (filter (is_of service) tasks.now) }
+{
+    for task in tasks {
+        if task.is_of(service) && task.id > after {
+            return Some(task);
+        }
+    }
+    None
+}
+
+// The first of the node's tasks whose id is above this one.
+fn next_on(tasks: &[Task], node: Id, after: Id) -> Option<&Task>
+    ensures { option_copied result ≡ row_above task_id after (filter (is_on node) tasks.now) }
+{
+    for task in tasks {
+        if task.is_on(node) && task.id > after {
+            return Some(task);
+        }
+    }
+    None
+}
+
 // The session on record of a node.
 pub(crate) fn session_of(sessions: &[NodeSession], node: Id) -> Option<&NodeSession>
     ensures { option_copied result ≡ row_at session_node node sessions.now }
 {
-    sessions.iter().find(|row| row.node == node)
+    row_at(sessions, node)
 }

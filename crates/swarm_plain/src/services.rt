@@ -1,5 +1,5 @@
 // The operations on services.
-ghost use Rattle.std.specs.Prelude.{◌≡◌, ◌⊎◌, ℕ, ◌+◌, ◌^◌, ◌<◌, IfOk, Some, not, filter, ◌&&◌};
+ghost use Rattle.std.specs.Prelude.{◌≡◌, ◌⊎◌, ℕ, ◌+◌, ◌^◌, ◌<◌, IfOk, None, Some, not, filter, ◌&&◌};
 ghost use Rattle.std.specs.List.{list_any};
 ghost use Rattle.std.specs.Option.{option_eq};
 ghost use Rattle.std.specs.Result.{result_err};
@@ -159,6 +159,33 @@ fn next_iteration(mode: Mode, iteration: u64) -> u64
     }
 }
 
+// What the service keeps as it is respecified: all but the two specifications. The one that it has is copied last, so
+// that no way out drops it.
+fn kept_service(
+    alloc: Global,
+    version: Version,
+    back: bool,
+    spec: &ServiceSpec,
+    service: &Service,
+) -> Result<Service, NoMemory>
+    requires { service.now.iteration + 1 < 2 ^ 64 }
+    ensures { let there = service.now in let new = respecified version back spec.now there in
+        IfOk result (λ kept. kept ≡ record new { spec = there.spec; previous = None }) }
+{
+    Ok(Service {
+        id: service.id,
+        version,
+        name: service.name.duplicate(alloc)?,
+        previous: None,
+        template_version: version_of_template(version, spec, service),
+        rolling_back: back,
+        iteration: next_iteration(service.spec.mode, service.iteration),
+        numbers: kept_numbers(alloc, service, spec)?,
+        run: service.run.duplicate(alloc)?,
+        spec: service.spec.duplicate(alloc)?,
+    })
+}
+
 // The service with the specification, after a rollback or another change.
 fn respecified(
     alloc: Global,
@@ -170,20 +197,9 @@ fn respecified(
     requires { service.now.iteration + 1 < 2 ^ 64 }
     ensures { IfOk result (λ new. new ≡ respecified version back spec service.now) }
 {
-    let numbers = kept_numbers(alloc, service, &spec)?;
-    let template_version = version_of_template(version, &spec, service);
-    Ok(Service {
-        id: service.id,
-        version,
-        name: service.name.duplicate(alloc)?,
-        spec,
-        previous: Some(service.spec.duplicate(alloc)?),
-        template_version,
-        rolling_back: back,
-        iteration: next_iteration(service.spec.mode, service.iteration),
-        numbers,
-        run: service.run.duplicate(alloc)?,
-    })
+    let mut new = kept_service(alloc, version, back, &spec, service)?;
+    new.previous = Some(replace(&mut new.spec, spec));
+    Ok(new)
 }
 
 // The attempts of the service are forgotten.

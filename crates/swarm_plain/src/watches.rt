@@ -8,6 +8,7 @@ ghost use Rattle.swarm_plain.specs.Plain.{AnswersCall, world_of};
 
 use crate::Plain;
 use crate::events::waits_for;
+use crate::reads::row_at;
 use std::alloc::Global;
 use swarm_objects::limits::{MOST_EVENTS, MOST_WATCHERS};
 use swarm_objects::{
@@ -18,7 +19,7 @@ use swarm_objects::{
 fn watcher_at(watchers: &[Watcher], id: Id) -> Option<&Watcher>
     ensures { option_copied result ≡ row_at watcher_id id watchers.now }
 {
-    watchers.iter().find(|watcher| watcher.id == id)
+    row_at(watchers, id)
 }
 
 // How many events wait for the watcher.

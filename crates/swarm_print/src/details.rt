@@ -35,13 +35,12 @@ fn labels_value(alloc: Global, labels: &[(Name, Name)]) -> Result<Value, AllocEr
 fn node_value(alloc: Global, node: &NodeDetail) -> Result<Value, AllocError>
     ensures { IfOk result (λ value. view value ≡ node_data node.now) }
 {
-    let labels = labels_value(alloc, node.labels.as_slice())?;
     json!(in alloc; {
         "availability": availability_word(node.availability),
         "cpu": node.cpu,
         "id": node.id,
         "kind": "node",
-        "labels": labels,
+        "labels": labels_value(alloc, node.labels.as_slice())?,
         "mem": node.mem,
         "name": node.name.as_str(),
         "role": node.role.as_str(),
@@ -82,13 +81,12 @@ fn ports_value(alloc: Global, ports: &[Port]) -> Result<Value, AllocError>
 fn service_value(alloc: Global, service: &ServiceDetail) -> Result<Value, AllocError>
     ensures { IfOk result (λ value. view value ≡ service_data service.now) }
 {
-    let ports = ports_value(alloc, service.ports.as_slice())?;
     json!(in alloc; {
         "id": service.id,
         "kind": "service",
         "mode": mode_word(service.mode),
         "name": service.name.as_str(),
-        "ports": ports,
+        "ports": ports_value(alloc, service.ports.as_slice())?,
         "running": service.running,
         "update": update_word(service.update),
         "version": service.version,
@@ -107,12 +105,11 @@ fn subnet_value(alloc: Global, base: u32, length: u8) -> Result<Value, AllocErro
 fn network_value(alloc: Global, network: &NetworkDetail) -> Result<Value, AllocError>
     ensures { IfOk result (λ value. view value ≡ network_data network.now) }
 {
-    let subnet = subnet_value(alloc, network.base, network.length)?;
     json!(in alloc; {
         "id": network.id,
         "kind": "network",
         "name": network.name.as_str(),
-        "subnet": subnet,
+        "subnet": subnet_value(alloc, network.base, network.length)?,
         "version": network.version
     })
 }
@@ -163,17 +160,14 @@ fn place_value(alloc: Global, place: &PlaceShown) -> Result<Value, AllocError>
 fn task_value(alloc: Global, task: &TaskDetail) -> Result<Value, AllocError>
     ensures { IfOk result (λ value. view value ≡ task_data task.now) }
 {
-    let addresses = addresses_value(alloc, task.addresses.as_slice())?;
-    let note = note_value(alloc, &task.note)?;
-    let place = place_value(alloc, &task.place)?;
     json!(in alloc; {
-        "addresses": addresses,
+        "addresses": addresses_value(alloc, task.addresses.as_slice())?,
         "desired": desired_word(task.desired),
         "id": task.id,
         "kind": "task",
         "node": id_value(task.node),
-        "note": note,
-        "place": place,
+        "note": note_value(alloc, &task.note)?,
+        "place": place_value(alloc, &task.place)?,
         "service": task.service,
         "state": task.state.as_str(),
         "version": task.version

@@ -1,5 +1,5 @@
 // The operations on services.
-ghost use Rattle.std.specs.Prelude.{◌≡◌, ◌⊎◌, ◌∷◌, [], IfOk, IfSome, Some, length, not, ◌&&◌};
+ghost use Rattle.std.specs.Prelude.{◌≡◌, ◌⊎◌, ◌∷◌, [], IfOk, IfSome, None, Some, length, not, ◌&&◌};
 ghost use Rattle.std.specs.List.{list_any};
 ghost use Rattle.std.specs.Option.{option_eq, option_map};
 ghost use Rattle.std.specs.Result.{result_err};
@@ -37,6 +37,7 @@ use crate::names::not_found;
 use crate::state::State;
 use crate::transactions::check_version;
 use std::alloc::Global;
+use std::mem::replace;
 use swarm_check::check_service;
 use swarm_objects::limits::MOST_SERVICES;
 use swarm_objects::{
@@ -171,6 +172,35 @@ fn next_iteration(mode: Mode, iteration: u64) -> Option<u64>
     }
 }
 
+// What the service keeps as it is respecified: all but the two specifications. The one that it has is copied last, so
+// that no way out drops it.
+fn kept_service(
+    alloc: Global,
+    version: Version,
+    back: bool,
+    spec: &ServiceSpec,
+    service: &Service,
+) -> Result<Service, NoMemory>
+    ensures { let there = service.now in let new = respecified version back spec.now there in
+        IfOk result (λ kept. kept ≡ record new { spec = there.spec; previous = None }) }
+{
+    let Some(iteration) = next_iteration(service.spec.mode, service.iteration) else {
+        return Err(NoMemory);
+    };
+    Ok(Service {
+        id: service.id,
+        version,
+        name: service.name.duplicate(alloc)?,
+        previous: None,
+        template_version: version_of_template(version, spec, service),
+        rolling_back: back,
+        iteration,
+        numbers: kept_numbers(alloc, service, spec)?,
+        run: service.run.duplicate(alloc)?,
+        spec: service.spec.duplicate(alloc)?,
+    })
+}
+
 // The service with the specification, after a rollback or another change.
 fn respecified(
     alloc: Global,
@@ -181,23 +211,9 @@ fn respecified(
 ) -> Result<Service, NoMemory>
     ensures { IfOk result (λ new. new ≡ respecified version back spec service.now) }
 {
-    let Some(iteration) = next_iteration(service.spec.mode, service.iteration) else {
-        return Err(NoMemory);
-    };
-    let numbers = kept_numbers(alloc, service, &spec)?;
-    let template_version = version_of_template(version, &spec, service);
-    Ok(Service {
-        id: service.id,
-        version,
-        name: service.name.duplicate(alloc)?,
-        spec,
-        previous: Some(service.spec.duplicate(alloc)?),
-        template_version,
-        rolling_back: back,
-        iteration,
-        numbers,
-        run: service.run.duplicate(alloc)?,
-    })
+    let mut new = kept_service(alloc, version, back, &spec, service)?;
+    new.previous = Some(replace(&mut new.spec, spec));
+    Ok(new)
 }
 
 impl State {

@@ -21,7 +21,7 @@ ghost use Rattle.swarm_objects.specs.declared.services.UpdateRun.{UpdateRun as R
 ghost use Rattle.swarm_roles.specs.Changes.{Makes};
 ghost use Rattle.swarm_roles.specs.Usable.{IsUsable};
 
-use crate::starting::{new_run, with_run};
+use crate::starting::{new_run, put_with_run};
 use std::alloc::Global;
 use swarm_objects::{
     Change, Duplicate, FailureAction, List, NoMemory, Port, PortNumber, Rows, RunStatus, Service,
@@ -63,10 +63,7 @@ fn pausing(alloc: Global, version: Version, service: &Service) -> Result<List<Ch
     ensures { let pause : Run → Run = λ run. in_status (paused_status run.status) run in
         IfOk result (λ changes. changes ≡ Change.PutService (change_run pause version service.now) ∷ []) }
 {
-    let mut row = service.duplicate(alloc)?;
-    row.version = version;
-    row.run = run_paused(alloc, service)?;
-    list_of(alloc, Change::PutService(row))
+    put_with_run(alloc, service, version, run_paused(alloc, service)?)
 }
 
 #[tactic(auto, using(crate::proofs::Running::pause_makes))]
@@ -138,7 +135,7 @@ fn kept_numbers(
     Ok(kept)
 }
 
-// The service with its previous specification.
+// The service with its previous specification, which is copied last, so that no way out drops it.
 fn back_at(
     alloc: Global,
     version: Version,
@@ -151,13 +148,13 @@ fn back_at(
         id: service.id,
         version,
         name: service.name.duplicate(alloc)?,
-        spec: spec.duplicate(alloc)?,
         previous: None,
         template_version: version,
         rolling_back: true,
         iteration: service.iteration,
         numbers: kept_numbers(alloc, service.numbers.as_slice(), spec)?,
         run: service.run.duplicate(alloc)?,
+        spec: spec.duplicate(alloc)?,
     })
 }
 
@@ -173,12 +170,9 @@ fn rolling<R: Rows>(
         IfOk result (λ changes. changes
         ≡ Change.PutService (with_run version (new_run t back RunStatus.RollbackStarted) back) ∷ []) }
 {
-    let back = back_at(alloc, version, service, spec)?;
-    let run = new_run(alloc, rows, &back, RunStatus::RollbackStarted);
-    list_of(
-        alloc,
-        Change::PutService(with_run(alloc, &back, version, run)?),
-    )
+    let mut back = back_at(alloc, version, service, spec)?;
+    back.run = Some(new_run(alloc, rows, &back, RunStatus::RollbackStarted));
+    list_of(alloc, Change::PutService(back))
 }
 
 // The service with its previous specification comes in its place, with the run back to it.

@@ -1,5 +1,5 @@
 // Places whose old tasks stop, and places that get new tasks.
-ghost use Rattle.std.specs.Prelude.{◌≡◌, IfOk, Some};
+ghost use Rattle.std.specs.Prelude.{◌≡◌, ◌++◌, ◌∷◌, [], IfOk, OnOk, Some};
 ghost use Rattle.std.specs.Option.{option_map};
 ghost use Rattle.swarm_objects.specs.Changes.{wanted};
 ghost use Rattle.swarm_objects.specs.Loops.Update.{
@@ -11,12 +11,12 @@ ghost use Rattle.swarm_objects.specs.Loops.Update.{
 };
 ghost use Rattle.swarm_objects.specs.Rows.{row_at, service_id};
 ghost use Rattle.swarm_objects.specs.Services.Words.{is_live_dirty};
-ghost use Rattle.swarm_objects.specs.Tasks.Places.{place_tasks};
+ghost use Rattle.swarm_objects.specs.Tasks.Places.{place_at, place_tasks};
 ghost use Rattle.swarm_objects.specs.Tasks.Words.{is_live};
 ghost use Rattle.swarm_objects.specs.declared.services.UpdateRun.{UpdateRun as Run};
 ghost use Rattle.swarm_roles.specs.Changes.{Makes, put_each};
 ghost use Rattle.swarm_roles.specs.Usable.{IsUsable};
-ghost use Rattle.swarm_update.specs.Replacing.{desired_by_order, replacing, stops_by_order};
+ghost use Rattle.swarm_update.specs.Replacing.{desired_by_order, new_by_order, replacing, stops_by_order};
 
 use std::alloc::Global;
 use swarm_objects::{
@@ -24,6 +24,22 @@ use swarm_objects::{
     UpdateRun, Version, add,
 };
 use swarm_roles::{place_tasks, wanted};
+
+// The task is to stop.
+fn add_stop(
+    alloc: Global,
+    changes: &mut List<Change>,
+    version: Version,
+    task: &Task,
+) -> Result<(), NoMemory>
+    ensures { let stop = Change.PutTask (wanted version Desired.Shutdown task.now) in
+        OnOk result (changes.new ≡ changes.old ++ stop ∷ []) }
+{
+    add(
+        changes,
+        Change::PutTask(wanted(alloc, task, version, Desired::Shutdown)?),
+    )
+}
 
 // Swaps.
 
@@ -41,10 +57,7 @@ fn dirty_stops<R: Rows>(
     let mut changes = List::new(alloc);
     for task in place_tasks(rows, service, number) {
         if task.is_live_dirty(service) {
-            add(
-                &mut changes,
-                Change::PutTask(wanted(alloc, task, version, Desired::Shutdown)?),
-            )?;
+            add_stop(alloc, &mut changes, version, task)?;
         }
     }
     Ok(changes)
@@ -117,9 +130,10 @@ fn replaced_in(
 ) -> Result<Service, NoMemory>
     ensures { IfOk result (λ row. row ≡ replaced_in version item service.now) }
 {
+    let run = run_with_item(alloc, service, item)?;
     let mut row = service.duplicate(alloc)?;
     row.version = version;
-    row.run = run_with_item(alloc, service, item)?;
+    row.run = run;
     Ok(row)
 }
 
@@ -160,10 +174,7 @@ fn live_stops<R: Rows>(
     let mut changes = List::new(alloc);
     for task in place_tasks(rows, service, number) {
         if task.is_live() {
-            add(
-                &mut changes,
-                Change::PutTask(wanted(alloc, task, version, Desired::Shutdown)?),
-            )?;
+            add_stop(alloc, &mut changes, version, task)?;
         }
     }
     Ok(changes)
@@ -187,6 +198,32 @@ fn stops_by_order<R: Rows>(
     }
 }
 
+// The new task comes behind what stops, and then the service with the item.
+fn add_new<R: Rows>(
+    alloc: Global,
+    rows: &R,
+    version: Version,
+    service: &Service,
+    number: u64,
+    changes: &mut List<Change>,
+) -> Result<(), NoMemory>
+    requires { IsUsable (R.tables rows.now) }
+    ensures { let t = R.tables rows.now in let s = service.now in
+        let row = Change.PutService (replaced_in version (item_of t (place_at s.spec.mode number)) s) in
+        OnOk result (changes.new ≡ (changes.old ++ new_by_order version t s number ∷ []) ++ row ∷ []) }
+{
+    let place = service.spec.mode.place_at(number);
+    let desired = desired_by_order(service);
+    add(
+        changes,
+        Change::PutTask(Task::new(alloc, rows, version, service, place, desired)?),
+    )?;
+    add(
+        changes,
+        Change::PutService(replaced_in(alloc, service, version, item_of(rows, place))?),
+    )
+}
+
 fn replacing<R: Rows>(
     alloc: Global,
     rows: &R,
@@ -198,17 +235,8 @@ fn replacing<R: Rows>(
     ensures { let t = R.tables rows.now in
         IfOk result (λ changes. changes ≡ replacing version t service.now number) }
 {
-    let place = service.spec.mode.place_at(number);
-    let desired = desired_by_order(service);
     let mut changes = stops_by_order(alloc, rows, version, service, number)?;
-    add(
-        &mut changes,
-        Change::PutTask(Task::new(alloc, rows, version, service, place, desired)?),
-    )?;
-    add(
-        &mut changes,
-        Change::PutService(replaced_in(alloc, service, version, item_of(rows, place))?),
-    )?;
+    add_new(alloc, rows, version, service, number, &mut changes)?;
     Ok(changes)
 }
 

@@ -55,19 +55,20 @@ pub fn new_run<R: Rows>(alloc: Global, rows: &R, service: &Service, status: RunS
     }
 }
 
-/// The service with this run.
-pub fn with_run(
+/// The service in its place, with this run.
+pub fn put_with_run(
     alloc: Global,
     service: &Service,
     version: Version,
-    run: UpdateRun,
-) -> Result<Service, NoMemory>
-    ensures { IfOk result (λ row. row ≡ with_run version run service.now) }
+    run: Option<UpdateRun>,
+) -> Result<List<Change>, NoMemory>
+    ensures { let row = record service.now { version = version; run = run } in
+        IfOk result (λ changes. changes ≡ Change.PutService row ∷ []) }
 {
     let mut row = service.duplicate(alloc)?;
     row.version = version;
-    row.run = Some(run);
-    Ok(row)
+    row.run = run;
+    list_of(alloc, Change::PutService(row))
 }
 
 fn started<R: Rows>(
@@ -81,10 +82,7 @@ fn started<R: Rows>(
         ≡ Change.PutService (with_run version (new_run t s (start_status s.rolling_back)) s) ∷ []) }
 {
     let run = new_run(alloc, rows, service, start_status(service.rolling_back));
-    list_of(
-        alloc,
-        Change::PutService(with_run(alloc, service, version, run)?),
-    )
+    put_with_run(alloc, service, version, Some(run))
 }
 
 /// The update of the service starts.
@@ -126,10 +124,7 @@ fn finishing(alloc: Global, version: Version, service: &Service) -> Result<List<
     ensures { let finish : Run → Run = λ run. in_status (finished_status run.status) run in
         IfOk result (λ changes. changes ≡ Change.PutService (change_run finish version service.now) ∷ []) }
 {
-    let mut row = service.duplicate(alloc)?;
-    row.version = version;
-    row.run = run_finished(alloc, service)?;
-    list_of(alloc, Change::PutService(row))
+    put_with_run(alloc, service, version, run_finished(alloc, service)?)
 }
 
 /// The update of the service is complete.

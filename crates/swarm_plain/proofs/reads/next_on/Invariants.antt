@@ -1,0 +1,10 @@
+use Rattle.std.proofs.Common.{◌≡◌, drop}
+use Rattle.std.specs.Prelude.{filter}
+use Rattle.swarm_objects.specs.Rows.{row_above, task_id}
+use Rattle.swarm_objects.specs.Tasks.Words.{is_on}
+use Rattle.swarm_plain.proofs.reads.next_on.Given as goal
+
+abbrev pub invariant-loop-task : goal.invariant-loop-task
+invariant-loop-task l =
+    row_above task_id l.after (filter (is_on l.node) (drop l.task-index l.tasks))
+    ≡ row_above task_id l.after (filter (is_on l.node) l.tasks)
