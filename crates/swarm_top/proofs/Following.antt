@@ -16,14 +16,15 @@ use Rattle.swarm_objects.specs.declared.calls.Call.TheVariants.{Halt}
 use Rattle.swarm_objects.specs.declared.calls.Entry.{Entry}
 use Rattle.swarm_objects.specs.declared.replies.Reply.{Reply}
 use Rattle.swarm_script.specs.Line.{Line}
-use Rattle.swarm_top.proofs.Readings.{entries-snoc}
+use Rattle.swarm_run.proofs.Readings.{entries-snoc}
 use Rattle.swarm_top.specs.Callers.{FollowsAllLines, FollowsFirstLines, FollowsScript, FollowsToLast, PutsOf, PutsOwnReplies, PutsOwnUpToLast, next_asked, texts_of}
-use Rattle.swarm_top.specs.Script.{Reading, reading}
-use Rattle.swarm_top.specs.Serial.{asked, entries, entries_from, is_by_first, line_entries, output_text, serial}
-use Rattle.swarm_top.specs.Streams.{Stream, PutsThenPrefix}
-use Rattle.swarm_top.specs.Theorem.{BeginsNext, IsOfAllLines, IsOfFullHistory, IsOfLinesToLast, IsOfScript, PutsReplies, PutsUpToLast}
-use Rattle.swarm_top.specs.declared.endings.Ending.{Ending}
-use Rattle.swarm_top.specs.declared.endings.Ending.TheVariants.{Done, Refused, ReadFault, OutFault, JournalFault, NoMemory, NoMemoryAt, BadLine, Full}
+use Rattle.swarm_input.specs.Script.{Reading, reading}
+use Rattle.swarm_run.specs.Serial.{asked, entries, entries_from, is_by_first, line_entries, output_text, serial}
+use Rattle.swarm_input.specs.Streams.{Stream, PutsThenPrefix}
+use Rattle.swarm_run.specs.OfScript.{BeginsNext, IsOfAllLines, IsOfFullHistory, IsOfLinesToLast, IsOfScript, PutsUpToLast}
+use Rattle.swarm_top.specs.Theorem.{PutsReplies}
+use Rattle.swarm_run.specs.declared.endings.Ending.{Ending}
+use Rattle.swarm_run.specs.declared.endings.Ending.TheVariants.{Done, Refused, ReadFault, OutFault, JournalFault, NoMemory, NoMemoryAt, BadLine, Full}
 
 abbrev AreFirsts : List Entry → Type 0
 AreFirsts h = list_all is_by_first h ≡ true

@@ -10,13 +10,13 @@ use Rattle.swarm_objects.specs.declared.calls.Entry.{Entry}
 use Rattle.swarm_objects.specs.declared.replies.Reply.{Reply}
 use Rattle.swarm_print.specs.Texts.{reply_text}
 use Rattle.swarm_script.specs.Line.{Line}
-use Rattle.swarm_top.specs.Lines.{whole_lines}
-use Rattle.swarm_top.specs.Script.{Reading, reading, reading_of, bad_line}
-use Rattle.swarm_top.specs.Serial.{asked, is_refused}
-use Rattle.swarm_top.specs.Streams.{Stream, Puts, PutsPrefix, PutsThenPrefix, PutsBoth}
-use Rattle.swarm_top.specs.declared.faults.Fault.{Fault}
-use Rattle.swarm_top.specs.declared.endings.Ending.{Ending}
-use Rattle.swarm_top.specs.declared.endings.Ending.TheVariants.{Done, Refused, ReadFault, OutFault, JournalFault, NoMemory, NoMemoryAt, BadLine, Full}
+use Rattle.swarm_input.specs.Lines.{whole_lines}
+use Rattle.swarm_input.specs.Script.{Reading, reading, reading_of, bad_line}
+use Rattle.swarm_run.specs.Serial.{asked, is_refused}
+use Rattle.swarm_input.specs.Streams.{Stream, Puts, PutsPrefix, PutsThenPrefix, PutsBoth}
+use Rattle.swarm_input.specs.declared.faults.Fault.{Fault}
+use Rattle.swarm_run.specs.declared.endings.Ending.{Ending}
+use Rattle.swarm_run.specs.declared.endings.Ending.TheVariants.{Done, Refused, ReadFault, OutFault, JournalFault, NoMemory, NoMemoryAt, BadLine, Full}
 
 -- The history and the script's bytes.
 

@@ -1,4 +1,4 @@
-use Rattle.swarm_top.proofs.Unread.{is_no_replay}
+use Rattle.swarm_replay.proofs.Unread.{is_no_replay}
 use Rattle.swarm_top.proofs.Whole.{is_no_run_at}
 use Rattle.swarm_top.proofs.swarm.Goals as goal
 

@@ -1,0 +1,5 @@
+pub mod LinesOf
+pub mod Sights
+pub mod Cutting
+pub mod Prefixes
+pub mod WholeLines

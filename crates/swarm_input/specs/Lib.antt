@@ -1,0 +1,4 @@
+pub mod LineBuffer
+pub mod Lines
+pub mod Script
+pub mod Streams

@@ -1,0 +1,9 @@
+pub mod EntryCuts
+pub mod Heads
+pub mod JournalReadings
+pub mod Judging
+pub mod Judged
+pub mod Expected
+pub mod Telling
+pub mod Taking
+pub mod Unread

@@ -1,0 +1,12 @@
+pub mod Answering
+pub mod Callers
+pub mod Calling
+pub mod Parts
+pub mod Quiet
+pub mod Reaching
+pub mod Readings
+pub mod Runs
+pub mod Settling
+pub mod Short
+pub mod Waits
+pub mod Ways
