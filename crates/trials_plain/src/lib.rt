@@ -1,0 +1,8 @@
+//! Public calls of the plain world and of its control loops under their own contracts, one function each: the must-fail
+//! edits put wrong bodies in their place.
+//!
+//! The clauses of each function are word for word those of the call, so what they refuse, the call's contract refuses.
+#![tactic(auto)]
+
+pub mod duties;
+pub mod plain;
