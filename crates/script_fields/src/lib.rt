@@ -6,8 +6,6 @@ mod fields;
 mod labels;
 mod spelling;
 mod tables;
-#[cfg(test)]
-mod tests;
 mod values;
 mod words;
 

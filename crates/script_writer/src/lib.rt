@@ -7,8 +7,6 @@ mod duties;
 mod entries;
 mod operations;
 mod rows;
-#[cfg(test)]
-mod tests;
 mod words;
 
 pub use duties::fits;

@@ -7,8 +7,6 @@ mod free_numbers;
 mod held;
 mod pooling;
 mod ports;
-#[cfg(test)]
-mod tests;
 
 pub use changing::changes;
 pub use finding::least;

@@ -1,6 +1,5 @@
 mod Confirmed
 mod Differing
 mod DueSets
-mod Examples
 mod Messages
 mod Together

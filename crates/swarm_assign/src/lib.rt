@@ -5,8 +5,6 @@ mod differences;
 mod due_sets;
 mod merging;
 mod sent;
-#[cfg(test)]
-mod tests;
 
 pub use due_sets::due_set;
 pub use sent::Sent;

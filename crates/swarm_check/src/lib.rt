@@ -3,8 +3,6 @@
 
 mod others;
 mod services;
-#[cfg(test)]
-mod tests;
 
 pub use others::{check_network, check_node, check_resources, check_settings};
 pub use services::check_service;

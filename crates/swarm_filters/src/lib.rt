@@ -6,8 +6,6 @@ mod key;
 mod machine;
 mod matching;
 mod state;
-#[cfg(test)]
-mod tests;
 
 pub use constraint::{ParseFault, parse_constraint, read_constraint};
 pub use key::{parse_key, read_key};

@@ -4,8 +4,6 @@
 mod places;
 mod pool;
 mod subnet;
-#[cfg(test)]
-mod tests;
 mod words;
 
 pub use pool::Pool;

@@ -1,125 +1,114 @@
 // Whole runs over sources and sinks in memory.
+use crate::heads::Head;
+use crate::texts::push_number;
+use crate::walks::walked;
 use std::alloc::Global;
 use std::sync::Wait;
-use std::test::Fail;
 use std::thread::Threads;
-use swarm_objects::{FailedPut, MemorySink, MemorySource, RealGate, Source};
+use swarm_objects::{FailedPut, MemorySink, MemorySource, NoMemory, RealGate, Source};
 use swarm_top::swarm;
 
-// What a run left: its status, what was put out, the journal, and what the source still has.
-#[derive(Drop)]
-pub(crate) struct Left {
-    pub(crate) status: u8,
-    pub(crate) out: Vec<u8>,
-    pub(crate) journal: Vec<u8>,
-    pub(crate) unread: Vec<u8>,
+// The words of the command line, with commas between them.
+fn words_of(alloc: Global, text: &str) -> Result<Vec<String>, NoMemory> {
+    let mut words = Vec::new(alloc);
+    for word in text.split(',') {
+        if !word.is_empty() {
+            if words.push(String::from_str(alloc, word)?).is_err() {
+                return Err(NoMemory);
+            }
+        }
+    }
+    Ok(words)
 }
 
-// How the ends of a run behave: the size of the pieces that the source gives, and the calls that fail.
-#[derive(Clone, Copy)]
-pub(crate) struct Ends<'a> {
-    pub(crate) piece: usize,
-    pub(crate) failing_takes: &'a [u64],
-    pub(crate) failing_outs: &'a [u64],
-    pub(crate) failing_journals: &'a [u64],
-}
-
-pub(crate) const SOUND: Ends<'static> = Ends {
-    piece: 4_096,
-    failing_takes: &[],
-    failing_outs: &[],
-    failing_journals: &[],
-};
-
-fn sink(alloc: Global, failing: &[u64]) -> Result<MemorySink, Fail> {
+fn sink_of(alloc: Global, failing: Option<u64>) -> Result<MemorySink, NoMemory> {
     let mut faults = Vec::new(alloc);
-    for call in failing {
-        faults.push(FailedPut {
-            call: *call,
-            taken: 0,
-        })?;
+    if let Some(call) = failing {
+        faults.extend_from_slice(&[FailedPut { call, taken: 0 }])?;
     }
     Ok(MemorySink::new(alloc, faults))
 }
 
+fn source_of(alloc: Global, head: &Head<'_>, script: &[u8]) -> Result<MemorySource, NoMemory> {
+    let mut failing = Vec::new(alloc);
+    if let Some(call) = head.take {
+        failing.extend_from_slice(&[call])?;
+    }
+    Ok(MemorySource::new(script.to_vec(alloc)?, head.piece, failing))
+}
+
 // What the source still has, at most a few pieces of it.
-fn rest_of(alloc: Global, source: &mut MemorySource) -> Result<Vec<u8>, Fail> {
-    let mut rest = Vec::new(alloc);
+fn push_rest(seen: &mut Vec<u8>, source: &mut MemorySource) -> Result<(), NoMemory> {
     let mut piece = [0u8; 64];
     for _ in 0..4u8 {
         if let Ok(count) = source.take(&mut piece) {
-            rest.extend_from_slice(&piece[..count])?;
+            seen.extend_from_slice(&piece[..count])?;
         }
     }
-    Ok(rest)
+    Ok(())
 }
 
-pub(crate) fn run_words<R: Threads + Wait + Sync + AllocGlobal>(
-    rt: &R,
-    words: &[&str],
-    script: &[u8],
-    ends: &Ends<'_>,
-) -> Result<Left, Fail> {
-    let alloc = rt.alloc();
-    let mut owned = Vec::new(alloc);
-    for word in words {
-        owned.push(String::from_str(alloc, word)?)?;
+fn push_count(alloc: Global, seen: &mut Vec<u8>, journal: &[u8]) -> Result<(), NoMemory> {
+    let count = journal.iter().filter(|byte| **byte == b'\n').count();
+    push_number(alloc, seen, b"- lines ", count as u64)
+}
+
+fn push_journal(seen: &mut Vec<u8>, journal: &[u8]) -> Result<(), NoMemory> {
+    seen.extend_from_slice(b"- journal\n")?;
+    Ok(seen.extend_from_slice(journal)?)
+}
+
+fn push_unread(seen: &mut Vec<u8>, source: &mut MemorySource) -> Result<(), NoMemory> {
+    seen.extend_from_slice(b"- unread\n")?;
+    push_rest(seen, source)
+}
+
+// What is to be seen of the journal: the parts that stand behind the status in the row.
+fn push_kept(
+    alloc: Global,
+    seen: &mut Vec<u8>,
+    journal: &[u8],
+    wanted: &str,
+) -> Result<(), NoMemory> {
+    if wanted.contains("\n- lines ") {
+        push_count(alloc, seen, journal)?;
     }
-    let failing = ends.failing_takes.to_vec(alloc)?;
-    let mut source = MemorySource::new(script.to_vec(alloc)?, ends.piece, failing);
-    let mut out = sink(alloc, ends.failing_outs)?;
-    let mut journal = sink(alloc, ends.failing_journals)?;
+    if wanted.contains("\n- journal") {
+        push_journal(seen, journal)?;
+    }
+    if wanted.contains("\n- walked ") {
+        push_number(alloc, seen, b"- walked ", walked(alloc, journal)?)?;
+    }
+    Ok(())
+}
+
+// Runs the script, and says what is seen of it.
+pub(crate) fn push_run<R: Threads + Wait + Sync + AllocGlobal>(
+    rt: &R,
+    seen: &mut Vec<u8>,
+    head: &Head<'_>,
+    script: &[u8],
+    wanted: &str,
+) -> Result<(), NoMemory> {
+    let alloc = rt.alloc();
+    let words = words_of(alloc, head.words)?;
+    let mut source = source_of(alloc, head, script)?;
+    let mut out = sink_of(alloc, head.out)?;
+    let mut journal = sink_of(alloc, head.put)?;
     let status = swarm(
         rt,
         alloc,
-        owned.as_slice(),
+        words.as_slice(),
         &mut source,
         &mut out,
         &mut journal,
         &RealGate,
     );
-    Ok(Left {
-        status,
-        out: out.bytes().to_vec(alloc)?,
-        journal: journal.bytes().to_vec(alloc)?,
-        unread: rest_of(alloc, &mut source)?,
-    })
-}
-
-pub(crate) fn run<R: Threads + Wait + Sync + AllocGlobal>(
-    rt: &R,
-    script: &[u8],
-    ends: &Ends<'_>,
-) -> Result<Left, Fail> {
-    run_words(rt, &["run", "--workers", "0"], script, ends)
-}
-
-// Whether the run ends with this status, and puts this out.
-pub(crate) fn puts<R: Threads + Wait + Sync + AllocGlobal>(
-    rt: &R,
-    script: &[u8],
-    ends: &Ends<'_>,
-    status: u8,
-    out: &[u8],
-) -> Result<bool, Fail> {
-    let left = run(rt, script, ends)?;
-    Ok(left.status == status && left.out.as_slice() == out)
-}
-
-// Whether the run ends with this status, puts this out, and writes this journal.
-pub(crate) fn leaves<R: Threads + Wait + Sync + AllocGlobal>(
-    rt: &R,
-    script: &[u8],
-    ends: &Ends<'_>,
-    status: u8,
-    out: &[u8],
-    journal: &[u8],
-) -> Result<bool, Fail> {
-    let left = run(rt, script, ends)?;
-    Ok(left.status == status && left.out.as_slice() == out && left.journal.as_slice() == journal)
-}
-
-// How often the byte stands there.
-pub(crate) fn count(bytes: &[u8], wanted: u8) -> usize {
-    bytes.iter().filter(|b| **b == wanted).count()
+    seen.extend_from_slice(out.bytes())?;
+    push_number(alloc, seen, b"- status ", u64::from(status))?;
+    push_kept(alloc, seen, journal.bytes(), wanted)?;
+    if wanted.contains("\n- unread") {
+        push_unread(seen, &mut source)?;
+    }
+    Ok(())
 }

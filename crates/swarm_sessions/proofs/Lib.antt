@@ -1,4 +1,3 @@
-mod Examples
 mod Falling
 mod Orphans
 mod Placing

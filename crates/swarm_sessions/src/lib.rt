@@ -7,8 +7,6 @@ mod dispatching;
 mod reporting;
 mod searching;
 mod sessions;
-#[cfg(test)]
-mod tests;
 
 pub use changing::changes;
 pub use dispatching::least_dispatcher;

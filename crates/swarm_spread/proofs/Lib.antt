@@ -3,4 +3,3 @@ mod Branches
 mod Counting
 mod PlaceLemmas
 mod SumLemmas
-mod Undone

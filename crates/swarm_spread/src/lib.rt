@@ -3,8 +3,6 @@
 
 mod admits;
 mod levels;
-#[cfg(test)]
-mod tests;
 mod tree;
 mod values;
 

@@ -2,8 +2,6 @@
 #![tactic(auto)]
 
 mod cursors;
-#[cfg(test)]
-mod tests;
 mod theorems;
 mod watches;
 

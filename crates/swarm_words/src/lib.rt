@@ -5,7 +5,5 @@ mod commands;
 mod finds;
 mod forms;
 mod spellings;
-#[cfg(test)]
-mod tests;
 
 pub use forms::{Form, USAGE, WordFault, read_words};

@@ -1,0 +1,119 @@
+//! Rows: runs of the program, and texts of lines and entries, each beside what must be seen of it.
+//!
+//! A row is data, so it costs no proof. The files of `data/` have the rows of one topic each, and begin with a line
+//! `// TOPIC`. A row is a line `= NAME OPTIONS`, its script, a line `-`, and what must be seen, which comes from worked
+//! examples of the specification or from an independent program:
+//!
+//! ```text
+//! = node_join_and_list
+//! node join n1
+//! list nodes
+//! -
+//! ok 1
+//! nodes 1
+//! node 1 n1 UNKNOWN ACTIVE worker 4000 8589934592
+//! - status 0
+//! ```
+//!
+//! - A line of a script that begins with `//` is a comment of the row. `*3 node join n@` is three lines, with 1, 2 and
+//!   3 in the place of `@`. A `\` at the end takes the newline away; `\s` is a space, `\t` a tab, `\r` a carriage
+//!   return, and `\` any other character itself.
+//! - Without an option the script is run by `swarm run --workers 0`. Seen is the output, `- status N`, and of these
+//!   what the row has, in this order: `- lines N` (of the journal), `- journal` and the journal, `- walked N` (entries
+//!   up to the first world that isn't as it must be), `- unread` and what the source still has. A first line `...`
+//!   stands for whatever goes before.
+//! - Options of a run: `words=replay` or `words=run,--workers=0` for the words of the command line, `piece=9` for the
+//!   most bytes that the source gives at once, `take=2`, `out=1`, `put=2` for the call of the source, the output, the
+//!   journal that fails.
+//! - Option `lines`: each line of the script as an entry of caller 0, written, read and written again, or `blank`,
+//!   `wait N`, or its fault. `entries`: the same of each line of a journal. `entry`: of the whole text. `constraints`:
+//!   each line as a constraint without spaces, or `BadConstraint` and the place of its fault.
+//!
+//! The output is one line with the number of rows, and of those that differ; above it the head of each that differs, and
+//! what was seen of it.
+#![tactic(auto)]
+
+mod comparisons;
+mod constraints;
+mod heads;
+mod rows;
+mod runs;
+mod scripts;
+mod texts;
+mod told;
+mod walks;
+
+use crate::rows::tell_rows;
+use crate::told::Told;
+use std::process::ExitCode;
+use std::rt::Files;
+use std::sync::Wait;
+use std::thread::Threads;
+use std::{fs, io};
+use swarm_objects::{NoMemory, Sink, StdSink};
+
+/// The files of rows.
+const FILES: [&str; 32] = [
+    "faults",
+    "words",
+    "limits",
+    "networks",
+    "nodes",
+    "remote",
+    "replays",
+    "replies",
+    "restarts",
+    "services",
+    "settling",
+    "updates",
+    "watches",
+    "lines",
+    "entries",
+    "walks",
+    "duties",
+    "rules",
+    "constraints",
+    "fields",
+    "usage",
+    "answers",
+    "queries",
+    "watched",
+    "notes",
+    "orders",
+    "placement",
+    "places",
+    "rollouts",
+    "upkeep",
+    "next_duties",
+    "other_duties",
+];
+
+/// The statuses where the output can't be written, and where memory is wanting.
+const UNWRITTEN: u8 = 4;
+
+const NO_MEMORY: u8 = 5;
+
+// Runs the rows of all files. One that is missing, or isn't UTF-8, is told.
+fn tell_files<R: Threads + Wait + Sync + AllocGlobal + Files>(
+    rt: &R,
+    told: &mut Told,
+) -> Result<(), NoMemory> {
+    for name in FILES {
+        match fs::read_to_string(rt, name) {
+            Ok(text) => tell_rows(rt, told, text.as_str())?,
+            Err(_) => told.add_missing(name)?,
+        }
+    }
+    told.end()
+}
+
+fn main(rt: HostRuntime) -> ExitCode {
+    let mut told = Told::new(rt.alloc());
+    if tell_files(&rt, &mut told).is_err() {
+        return ExitCode::from(NO_MEMORY);
+    }
+    match StdSink::new(io::writer(&rt)).put(told.text()) {
+        Ok(()) => ExitCode::SUCCESS,
+        Err(_) => ExitCode::from(UNWRITTEN),
+    }
+}

@@ -1,0 +1,3 @@
+pub mod Bare
+pub mod Reached
+pub mod Standing
