@@ -24,15 +24,15 @@ fn put_node(copy: &mut Plain, node: &Node) -> Result<(), Fault>
     Ok(())
 }
 
-fn put_service(copy: &mut Plain, service: &Service) -> Result<(), Fault>
-    ensures can { OnOk result (CanApply (tables_of copy.old) (Change.PutService service.now)) }
-    ensures made { OnOk result (tables_of copy.new ≡ apply_change (tables_of copy.old) (Change.PutService service.now)) }
+fn put_service(copy: &mut Plain, row: &Service) -> Result<(), Fault>
+    ensures can { OnOk result (CanApply (tables_of copy.old) (Change.PutService row.now)) }
+    ensures made { OnOk result (tables_of copy.new ≡ apply_change (tables_of copy.old) (Change.PutService row.now)) }
 {
-    if copy.service(service.id).is_none() {
+    if copy.service(row.id).is_none() {
         return Err(Fault::Differs);
     }
-    let row = service.duplicate(copy.alloc)?;
-    put_row(copy.alloc, &mut copy.services, row)?;
+    let same = row.duplicate(copy.alloc)?;
+    put_row(copy.alloc, &mut copy.services, same)?;
     Ok(())
 }
 
