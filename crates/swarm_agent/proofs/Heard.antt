@@ -4,7 +4,7 @@ use Rattle.std.proofs.lemmas.Bool.Decides.{nat_tests}
 use Rattle.std.specs.List.{list_any}
 use Rattle.std.specs.Option.{option_map}
 use Rattle.std.specs.Prelude.{filter, is_some, ◌||◌, ⊤}
-use Rattle.swarm_agent.specs.Agent.{is_stale}
+use Rattle.swarm_matching.specs.Fresh.{is_stale}
 use Rattle.swarm_agent.specs.Hearing.{AreRising, HasDue, Hears, HearingLaw, are_fresh, hear, is_due_once, is_never_due, may_be_due, messages_of, never_returns, sent_after}
 use Rattle.swarm_matching.proofs.Hearing.{keys-has, message-tells, rows-left, update-row}
 use Rattle.swarm_matching.proofs.InStep.{same-aim}

@@ -6,6 +6,7 @@ use Rattle.std.specs.declared.cmp.Ordering.{Ordering}
 use Rattle.std.specs.declared.result.Result.{Result}
 use Rattle.swarm_agent.specs.declared.agent.ApplyFault.TheVariants as fault
 use Rattle.swarm_agent.specs.declared.agent.ApplyFault.{ApplyFault}
+use Rattle.swarm_matching.specs.Fresh.{is_stale}
 use Rattle.swarm_objects.specs.Agents.Executors.{phase_time}
 use Rattle.swarm_objects.specs.Loops.Agents.{begun, has_step, is_forgotten, is_news, take_in}
 use Rattle.swarm_objects.specs.Loops.Words.{duty_where}
@@ -43,10 +44,6 @@ abbrev pub registered : ℕ → AgentState → AgentState
 registered session a = record (changed begun a) { session = Some session }
 
 -- Messages.
-
--- it has only changes, and they don't begin where the agent is
-abbrev pub is_stale : ℕ → Message → Bool
-is_stale applied m = not m.complete && not (m.applies_to == applied)
 
 abbrev pub has_stale : AgentState → Bool
 has_stale a = is_some_and (is_stale a.applied) a.inbox

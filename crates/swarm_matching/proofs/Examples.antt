@@ -1,4 +1,5 @@
 pub mod Executors
+pub mod Inboxes
 pub mod NoNode
 pub mod PausedNode
 pub mod Places

@@ -9,6 +9,7 @@ pub mod DutyOwners
 pub mod Ended
 pub mod EndedRuns
 pub mod Examples
+pub mod Fresh
 pub mod GlobalPlaces
 pub mod Goals
 pub mod HasClosings

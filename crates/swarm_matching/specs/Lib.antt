@@ -1,5 +1,6 @@
 pub mod Agents
 pub mod Aimed
+pub mod Fresh
 pub mod Laws
 pub mod Matched
 pub mod Messages

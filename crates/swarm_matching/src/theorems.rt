@@ -1,6 +1,7 @@
 //! Settled means matched, and the laws on the way to it: each is the contract of a function that does nothing.
 ghost use Rattle.swarm_matching.specs.Agents.{QuietAgentsLaw, ReportLaw};
 ghost use Rattle.swarm_matching.specs.Aimed.{AimsLaw};
+ghost use Rattle.swarm_matching.specs.Fresh.{FreshLaw};
 ghost use Rattle.swarm_matching.specs.Laws.{ClosedLaw, NothingElseLaw, OneLiveLaw, PlacesLaw, UnmetLaw, UpdatesLaw};
 ghost use Rattle.swarm_matching.specs.Messages.{MessageLaw};
 ghost use Rattle.swarm_model.specs.Laws.Reconciliation.{ReconciliationLaw};
@@ -58,6 +59,12 @@ pub fn executors_are_ahead_of_reports()
 /// Each modelled node has one agent, and there are no others.
 pub fn modelled_nodes_have_agents()
     ensures { OwnersLaw }
+{}
+
+/// A message in an agent's inbox is whole or begins where the agent is, and once it is applied the agent is where what
+/// was sent is. So no message is refused as stale.
+pub fn inboxes_are_fresh()
+    ensures { FreshLaw }
 {}
 
 /// Once an agent has applied its inbox, it has an executor for all that was sent, as it was sent; each other one is
