@@ -89,14 +89,14 @@ pub record IsSpelled (f : Field) : Type 0 where
   pub no_version : begins_version (field_text f) ≡ false
 
 -- each field so far comes before this one
-abbrev pub Follows : List Field → Field → Type 0
-Follows fs g = AllByRecursion (λ f. comes_before f g ≡ true) fs
+abbrev pub ComesAfter : List Field → Field → Type 0
+ComesAfter fs g = AllByRecursion (λ f. comes_before f g ≡ true) fs
 
-follows_yes : (fs : List Field) (g : Field) → Follows fs g → list_all (λ f. comes_before f g) fs ≡ true
+follows_yes : (fs : List Field) (g : Field) → ComesAfter fs g → list_all (λ f. comes_before f g) fs ≡ true
 follows_yes [] g h = refl
 follows_yes (f ∷ fs) g h = both (comes_before f g) (list_all (λ x. comes_before x g) fs) h.0 (follows_yes fs g h.1)
 
-pub next_yes : (t : Table) (fs : List Field) (g : Field) → IsSpelled g → belongs t g ≡ true → is_default t g ≡ false → Follows fs g →
+pub next_yes : (t : Table) (fs : List Field) (g : Field) → IsSpelled g → belongs t g ≡ true → is_default t g ≡ false → ComesAfter fs g →
     next_field form.Journal t fs (field_text g) ≡ Some (fs ++ g ∷ [])
 next_yes t fs g s b d f =
     let stands : may_stand form.Journal t fs g (field_text g) ≡ true =
@@ -104,7 +104,7 @@ next_yes t fs g s b d f =
     ap (λ o. o >>= λ x. cond (may_stand form.Journal t fs x (field_text g)) (Some (fs ++ x ∷ [])) None) s.back
     ∙ test_yes _ _ stands
 
-pub read_one : (ops : List Op) (h : Head) (fs : List Field) (g : Field) → IsSpelled g → belongs (table_of h) g ≡ true → is_default (table_of h) g ≡ false → Follows fs g →
+pub read_one : (ops : List Op) (h : Head) (fs : List Field) (g : Field) → IsSpelled g → belongs (table_of h) g ≡ true → is_default (table_of h) g ≡ false → ComesAfter fs g →
     step form.Journal (state.Fields ops h fs) (field_text g) ≡ Some (state.Fields ops h (fs ++ g ∷ []))
 read_one ops h fs g s b d f =
     let later : List ℕ → Option State = λ w. next_field form.Journal (table_of h) fs w >>= λ gs. Some (state.Fields ops h gs) in
@@ -112,13 +112,13 @@ read_one ops h fs g s b d f =
     ∙ ap (λ t. cond t (versioned ops h fs (field_text g)) (later (field_text g))) s.no_version
     ∙ ap (λ (o : Option (List Field)). o >>= λ gs. Some (state.Fields ops h gs)) (next_yes (table_of h) fs g s b d f)
 
-follows_later : (fs : List Field) (g : Field) (gs : List Field) → AllByRecursion (λ x. Follows fs x) (g ∷ gs) → AllByRecursion (λ x. comes_before g x ≡ true) gs →
-    AllByRecursion (λ x. Follows (fs ++ g ∷ []) x) gs
+follows_later : (fs : List Field) (g : Field) (gs : List Field) → AllByRecursion (λ x. ComesAfter fs x) (g ∷ gs) → AllByRecursion (λ x. comes_before g x ≡ true) gs →
+    AllByRecursion (λ x. ComesAfter (fs ++ g ∷ []) x) gs
 follows_later fs g [] h k = tt
 follows_later fs g (x ∷ gs) h k =
     (all_append (λ f. comes_before f x ≡ true) fs (g ∷ []) h.1.0 (k.0, tt), follows_later fs g gs (h.0, h.1.1) k.1)
 
-pub read_all : (ops : List Op) (h : Head) (gs fs : List Field) → AllByRecursion IsSpelled gs → IsCanonical (table_of h) gs → AllByRecursion (λ x. Follows fs x) gs →
+pub read_all : (ops : List Op) (h : Head) (gs fs : List Field) → AllByRecursion IsSpelled gs → IsCanonical (table_of h) gs → AllByRecursion (λ x. ComesAfter fs x) gs →
     run (call_grammar form.Journal) (state.Fields ops h fs) (map field_text gs) ≡ Some (state.Fields ops h (fs ++ gs))
 read_all ops h [] fs s c f = ap (λ xs. Some (state.Fields ops h xs)) (sym (append-nil fs))
 read_all ops h (g ∷ gs) fs s c f =
@@ -128,7 +128,7 @@ read_all ops h (g ∷ gs) fs s c f =
     ∙ read_all ops h gs (fs ++ g ∷ []) s.1 rest (follows_later fs g gs f c.sorted.0)
     ∙ ap (λ xs. Some (state.Fields ops h xs)) (append_assoc fs (g ∷ []) gs)
 
-no_earlier : (gs : List Field) → AllByRecursion (λ x. Follows [] x) gs
+no_earlier : (gs : List Field) → AllByRecursion (λ x. ComesAfter [] x) gs
 no_earlier [] = tt
 no_earlier (g ∷ gs) = (tt, no_earlier gs)
 
@@ -138,7 +138,7 @@ read_fields ops h gs s c = read_all ops h gs [] s c (no_earlier gs)
 
 -- ## And those of a session
 
-read_session_all : (n : List ℕ) (gs fs : List Field) → AllByRecursion IsSpelled gs → IsCanonical table.Session gs → AllByRecursion (λ x. Follows fs x) gs →
+read_session_all : (n : List ℕ) (gs fs : List Field) → AllByRecursion IsSpelled gs → IsCanonical table.Session gs → AllByRecursion (λ x. ComesAfter fs x) gs →
     run (call_grammar form.Journal) (state.SessionFields n fs) (map field_text gs) ≡ Some (state.SessionFields n (fs ++ gs))
 read_session_all n [] fs s c f = ap (λ xs. Some (state.SessionFields n xs)) (sym (append-nil fs))
 read_session_all n (g ∷ gs) fs s c f =

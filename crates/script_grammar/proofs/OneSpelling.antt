@@ -40,7 +40,7 @@ use Rattle.script_grammar.specs.Fields.{field_of, field_text}
 use Rattle.script_grammar.specs.Machines.{IsSaid, run}
 use Rattle.script_grammar.specs.Tables.{belongs, comes_before, follows, is_default, may_stand}
 use Rattle.script_grammar.specs.Texts.{call_words, filter_text, id_words, op_words, ops_words, version_words}
-use Rattle.script_grammar.proofs.Canonical.{Follows, all_append}
+use Rattle.script_grammar.proofs.Canonical.{ComesAfter, all_append}
 use Rattle.script_grammar.proofs.FieldRows.{number_same}
 use Rattle.script_grammar.proofs.Inversions.{bound, choose, found, named_only, never, same, tested}
 use Rattle.script_grammar.proofs.Nodes.{node_fields, old_fields, session_fields, settings_fields}
@@ -144,11 +144,11 @@ pub record Grows (s : State) (word : List ℕ) (next : State) : Type 0 where
 
 -- ## Fields
 
-all_before : (fs : List Field) (g : Field) → list_all (λ f. comes_before f g) fs ≡ true → Follows fs g
+all_before : (fs : List Field) (g : Field) → list_all (λ f. comes_before f g) fs ≡ true → ComesAfter fs g
 all_before [] g e = tt
 all_before (f ∷ fs) g e = let b = both_are (comes_before f g) (list_all (λ x. comes_before x g) fs) e in (b.0, all_before fs g b.1)
 
-sorted_snoc : (fs : List Field) (g : Field) → Sorted fs → Follows fs g → Sorted (fs ++ g ∷ [])
+sorted_snoc : (fs : List Field) (g : Field) → Sorted fs → ComesAfter fs g → Sorted (fs ++ g ∷ [])
 sorted_snoc [] g s f = (tt, tt)
 sorted_snoc (x ∷ fs) g s f = (all_append (λ y. comes_before x y ≡ true) fs (g ∷ []) s.0 (f.0, tt), sorted_snoc fs g s.1 f.1)
 

@@ -10,7 +10,7 @@ use Rattle.std.specs.declared.cmp.Ordering.TheVariants.{Equal, Greater, Less}
 use Rattle.std.specs.BTreeMap.Range.{entries_between}
 use Rattle.std.specs.Prelude.{map, ◌&&◌}
 use Rattle.std.specs.declared.ops.Bound.TheVariants.{Excluded, Unbounded}
-use Rattle.swarm_model.specs.Calls.Faults.{lost}
+use Rattle.swarm_objects.specs.Agents.NodeAgents.{lost}
 use Rattle.swarm_objects.specs.Agents.Executors.{is_late, moved}
 use Rattle.swarm_objects.specs.declared.tasks.TaskState.TheVariants as state
 use Rattle.swarm_agent.specs.Inside.Keyed.{Lies, LiesFrom}

@@ -4,11 +4,11 @@ use Rattle.std.proofs.lemmas.Bool.Decides.{nat_tests}
 use Rattle.std.specs.List.{list_any}
 use Rattle.std.specs.Option.{option_map}
 use Rattle.std.specs.Prelude.{filter, is_some, ◌||◌, ⊤}
-use Rattle.swarm_matching.specs.Fresh.{is_stale}
+use Rattle.swarm_objects.specs.Agents.Messages.{is_stale}
 use Rattle.swarm_agent.specs.Hearing.{AreRising, HasDue, Hears, HearingLaw, are_fresh, hear, is_due_once, is_never_due, may_be_due, messages_of, never_returns, sent_after}
-use Rattle.swarm_matching.proofs.Hearing.{keys-has, message-tells, rows-left, update-row}
-use Rattle.swarm_matching.proofs.InStep.{same-aim}
-use Rattle.swarm_matching.specs.Messages.{aimed_or_new, executor_after, is_sent_so, may_have}
+use Rattle.swarm_objects.proofs.Hearing.{keys-has, message-tells, rows-left, update-row}
+use Rattle.swarm_objects.proofs.Aims.{same-aim}
+use Rattle.swarm_objects.specs.Agents.Hearing.{aimed_or_new, executor_after, is_sent_so, may_have}
 use Rattle.swarm_objects.proofs.Empty.{flat_map_empty}
 use Rattle.swarm_objects.proofs.RowLemmas.{Has-from_row_at, number_above, row_at-Some}
 use Rattle.swarm_objects.proofs.Tests.{any-has, both, false_from_ne_true, never-both, or_left, or_right}

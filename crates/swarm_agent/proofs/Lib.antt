@@ -4,3 +4,5 @@ mod Found
 mod Naming
 mod Heard
 mod Seen
+mod Near
+mod ByNode

@@ -1,14 +1,21 @@
 -- Times that no step looks at.
 use Rattle.std.proofs.Common.{Bool, List, None, Option, Some, [], ap, cond, eqb, false, ltb, not, refl, sym, true, ℕ, ◌∙◌, ◌∷◌, ◌≡◌}
 use Rattle.std.specs.List.{list_any}
-use Rattle.std.specs.Prelude.{fold, is_some, map, ◌&&◌}
+use Rattle.std.specs.Option.{option_map}
+use Rattle.std.specs.Prelude.{filter, fold, is_some, map, ◌&&◌, ◌++◌}
 use Rattle.swarm_agent.specs.Agent.{has_news}
 use Rattle.swarm_agent.specs.Times.{TimesLaw, is_timed, seen, seen_agent}
-use Rattle.swarm_model.specs.Calls.Faults.{failed_agent, lost}
+use Rattle.swarm_objects.specs.Agents.NodeAgents.{failed_agent, lost}
 use Rattle.swarm_objects.specs.Agents.Executors.{executor_step, is_late, moved, phase_time}
 use Rattle.swarm_objects.specs.Agents.Messages.{applied, apply_change, change_executor, gone_executor, left_out, names, new_executor, updated}
-use Rattle.swarm_objects.specs.Loops.Agents.{has_step, is_forgotten, stepped, take_in, told}
-use Rattle.swarm_objects.specs.Rows.{executor_task, has_row, on_row, row_at, with_row}
+use Rattle.swarm_objects.specs.Loops.Agents.{agent_duties, duties_on, has_step, inbox_duties, is_forgotten, is_mode_on, report_duties, session_duties, stepped, take_in, told, wants_report}
+use Rattle.swarm_objects.specs.Loops.Words.{duty_where}
+use Rattle.swarm_objects.specs.Nodes.Sessions.{is_session_live}
+use Rattle.swarm_objects.proofs.RowLemmas.{row_at-map}
+use Rattle.swarm_objects.specs.Rows.{drop_row, executor_task, has_row, on_row, row_at, with_row}
+use Rattle.swarm_objects.specs.World.{World}
+use Rattle.swarm_objects.specs.declared.duties.Duty.TheVariants as duty
+use Rattle.swarm_objects.specs.declared.duties.Duty.{Duty}
 use Rattle.swarm_objects.specs.declared.agents.Executor.{Executor}
 use Rattle.swarm_objects.specs.declared.agents.NodeAgent.{NodeAgent}
 use Rattle.swarm_objects.specs.declared.messages.AssignChange.{AssignChange}
@@ -142,17 +149,44 @@ seen-change k g es same =
     one e =
         go e (eqb e.task k) ∙ ap (λ (x : ℕ). cond (eqb x k) (g (seen e)) (seen e)) (sym (seen-task e))
 
+pub seen-found : (k : ℕ) (es : List Executor) →
+    row_at executor_task k (map seen es) ≡ option_map seen (row_at executor_task k es)
+seen-found k es = row_at-map executor_task k seen es seen-task
+
 seen-row : (k : ℕ) (es : List Executor) → has_row executor_task k (map seen es) ≡ has_row executor_task k es
-seen-row k [] = refl
-seen-row k (e ∷ es) =
-    ap (λ (x : ℕ). is_some (cond (eqb x k) (Some (seen e)) (row_at executor_task k (map seen es)))) (seen-task e)
-    ∙ go (eqb e.task k) (seen-row k es)
+seen-row k es = ap is_some (seen-found k es) ∙ go (row_at executor_task k es)
   where
-    go : (b : Bool) → has_row executor_task k (map seen es) ≡ has_row executor_task k es →
-        is_some (cond b (Some (seen e)) (row_at executor_task k (map seen es)))
-        ≡ is_some (cond b (Some e) (row_at executor_task k es))
-    go true rest = refl
-    go false rest = rest
+    go : (o : Option Executor) → is_some (option_map seen o) ≡ is_some o
+    go None = refl
+    go (Some e) = refl
+
+seen-drop : (k : ℕ) (es : List Executor) →
+    map seen (drop_row executor_task k es) ≡ drop_row executor_task k (map seen es)
+seen-drop k [] = refl
+seen-drop k (e ∷ es) =
+    go (eqb e.task k) (seen-drop k es)
+    ∙ ap (λ (j : ℕ). cond (not (eqb j k)) (seen e ∷ drop_row executor_task k (map seen es))
+    (drop_row executor_task k (map seen es))) (sym (seen-task e))
+  where
+    go : (b : Bool) → map seen (drop_row executor_task k es) ≡ drop_row executor_task k (map seen es) →
+        map seen (cond (not b) (e ∷ drop_row executor_task k es) (drop_row executor_task k es))
+        ≡ cond (not b) (seen e ∷ drop_row executor_task k (map seen es)) (drop_row executor_task k (map seen es))
+    go true rest = rest
+    go false rest = ap (λ (zs : List Executor). seen e ∷ zs) rest
+
+-- a change that makes the same of an executor as it is seen
+seen-same : (k : ℕ) (g : Executor → Executor) (es : List Executor) → ((e : Executor) → seen (g (seen e)) ≡ seen (g e)) →
+    map seen (change_executor k g (map seen es)) ≡ map seen (change_executor k g es)
+seen-same k g [] same = refl
+seen-same k g (e ∷ es) same =
+    ap (λ (j : ℕ). seen (cond (eqb j k) (g (seen e)) (seen e)) ∷ map seen (change_executor k g (map seen es)))
+    (seen-task e)
+    ∙ ap (λ (z : Executor). z ∷ map seen (change_executor k g (map seen es))) (go (eqb e.task k))
+    ∙ ap (λ (zs : List Executor). seen (cond (eqb e.task k) (g e) e) ∷ zs) (seen-same k g es same)
+  where
+    go : (b : Bool) → seen (cond b (g (seen e)) (seen e)) ≡ seen (cond b (g e) e)
+    go true = same e
+    go false = by-seen (λ f. seen f ≡ seen e) e refl (λ q. seen-zero e q)
 
 seen-put : (new : Executor) (es : List Executor) → map seen (with_row executor_task new es)
     ≡ with_row executor_task (seen new) (map seen es)
@@ -214,17 +248,108 @@ seen-take clock (Some m) a =
     ap (λ (es : List Executor). record a { inbox = None; applied = m.results_in; executors = es })
     (seen-applied clock m a.executors)
 
+-- Duties.
+
+seen-duty : (test : Executor → Bool) (duty_of : ℕ → Duty) (es : List Executor) →
+    ((e : Executor) → test (seen e) ≡ test e) →
+    duty_where test (λ (e : Executor). duty_of e.task) (map seen es) ≡ duty_where test (λ (e : Executor). duty_of e.task) es
+seen-duty test duty_of [] same = refl
+seen-duty test duty_of (e ∷ es) same =
+    ap (λ (b : Bool). map (λ (f : Executor). duty_of f.task) (cond b (seen e ∷ filter test (map seen es))
+    (filter test (map seen es)))) (same e)
+    ∙ go (test e) (seen-duty test duty_of es same)
+  where
+    go : (b : Bool) →
+        duty_where test (λ (f : Executor). duty_of f.task) (map seen es)
+        ≡ duty_where test (λ (f : Executor). duty_of f.task) es →
+        map (λ (f : Executor). duty_of f.task) (cond b (seen e ∷ filter test (map seen es)) (filter test (map seen es)))
+        ≡ map (λ (f : Executor). duty_of f.task) (cond b (e ∷ filter test es) (filter test es))
+    go true rest =
+        ap (λ (d : Duty). d ∷ duty_where test (λ (f : Executor). duty_of f.task) (map seen es)) (ap duty_of (seen-task e))
+        ∙ ap (λ (ds : List Duty). duty_of e.task ∷ ds) rest
+    go false rest = rest
+
+seen-session : (w : World) (a : NodeAgent) (live : Bool) →
+    session_duties w (seen_agent a) live ≡ session_duties w a live
+seen-session w a true = refl
+seen-session w a false = refl
+
+seen-inbox : (w : World) (a : NodeAgent) (live : Bool) (o : Option Message) →
+    inbox_duties w (seen_agent a) live o ≡ inbox_duties w a live o
+seen-inbox w a live None = refl
+seen-inbox w a live (Some m) = refl
+
+seen-reports : (w : World) (a : NodeAgent) (live : Bool) → report_duties w (seen_agent a) live ≡ report_duties w a live
+seen-reports w a true =
+    seen-duty (wants_report w.tables) (duty.Report a.node) a.executors
+    (λ e. by-seen (λ f. wants_report w.tables f ≡ wants_report w.tables e) e refl (λ q. refl))
+seen-reports w a false = refl
+
+seen-due : (clock : ℕ) (e : Executor) → has_step clock (seen e) ≡ has_step clock e
+seen-due clock e = by-seen (λ f. has_step clock f ≡ has_step clock e) e refl (λ q. (zero-same e q).0 clock)
+
+seen-forgotten : (e : Executor) → is_forgotten (seen e) ≡ is_forgotten e
+seen-forgotten e = by-seen (λ f. is_forgotten f ≡ is_forgotten e) e refl (λ q. refl)
+
+seen-on : (w : World) (a : NodeAgent) (live : Bool) → duties_on w (seen_agent a) live ≡ duties_on w a live
+seen-on w a live =
+    let steps = duty_where (has_step w.tables.clock) (λ (e : Executor). duty.Exec a.node e.task) in
+    let forgets = duty_where is_forgotten (λ (e : Executor). duty.Forget a.node e.task) in
+    let b = seen_agent a in
+    ap (λ (ds : List Duty). ds ++ inbox_duties w b live a.inbox ++ steps b.executors ++ report_duties w b live
+    ++ forgets b.executors) (seen-session w a live)
+    ∙ ap (λ (ds : List Duty). session_duties w a live ++ ds ++ steps b.executors ++ report_duties w b live
+    ++ forgets b.executors) (seen-inbox w a live a.inbox)
+    ∙ ap (λ (ds : List Duty). session_duties w a live ++ inbox_duties w a live a.inbox ++ ds ++ report_duties w b live
+    ++ forgets b.executors) (seen-duty (has_step w.tables.clock) (duty.Exec a.node) a.executors (seen-due w.tables.clock))
+    ∙ ap (λ (ds : List Duty). session_duties w a live ++ inbox_duties w a live a.inbox ++ steps a.executors ++ ds
+    ++ forgets b.executors) (seen-reports w a live)
+    ∙ ap (λ (ds : List Duty). session_duties w a live ++ inbox_duties w a live a.inbox ++ steps a.executors
+    ++ report_duties w a live ++ ds) (seen-duty is_forgotten (duty.Forget a.node) a.executors seen-forgotten)
+
+seen-duties : (w : World) (a : NodeAgent) → agent_duties w (seen_agent a) ≡ agent_duties w a
+seen-duties w a = go (is_mode_on a.mode) (seen-on w a (is_session_live w.tables a.node))
+  where
+    go : (b : Bool) →
+        duties_on w (seen_agent a) (is_session_live w.tables a.node) ≡ duties_on w a (is_session_live w.tables a.node) →
+        cond b (duties_on w (seen_agent a) (is_session_live w.tables a.node)) []
+        ≡ cond b (duties_on w a (is_session_live w.tables a.node)) []
+    go true same = same
+    go false same = refl
+
+seen-step : (clock : ℕ) (e : Executor) → seen (stepped clock (seen e)) ≡ seen (stepped clock e)
+seen-step clock e =
+    by-seen (λ f. seen (stepped clock f) ≡ seen (stepped clock e)) e refl (λ q. (zero-same e q).2 clock)
+
+seen-told : (e : Executor) → seen (told (seen e)) ≡ seen (told e)
+seen-told e = by-seen (λ f. seen (told f) ≡ seen (told e)) e refl (λ q. seen-zero (told e) q)
+
+-- with these executors
+abbrev on : NodeAgent → List Executor → NodeAgent
+on a es = record a { executors = es }
+
 pub times : TimesLaw
 times = record {
-  due = λ clock e. by-seen (λ f. has_step clock f ≡ has_step clock e) e refl (λ q. (zero-same e q).0 clock);
+  task = seen-task;
+  state = λ e. by-seen (λ f. f.state ≡ e.state) e refl (λ q. refl);
+  due = seen-due;
   news = λ e. by-seen (λ f. has_news f ≡ has_news e) e refl (λ q. refl);
-  forgotten = λ e. by-seen (λ f. is_forgotten f ≡ is_forgotten e) e refl (λ q. refl);
+  forgotten = seen-forgotten;
   phase = λ e. by-seen (λ f. phase_time f ≡ phase_time e) e refl (λ q. (zero-same e q).1);
-  step = λ clock e.
-      by-seen (λ f. seen (stepped clock f) ≡ seen (stepped clock e)) e refl (λ q. (zero-same e q).2 clock);
-  report = λ e. by-seen (λ f. seen (told f) ≡ seen (told e)) e refl (λ q. seen-zero (told e) q);
+  step = seen-step;
+  report = seen-told;
+  found = seen-found;
+  there = seen-row;
+  exec = λ clock task a. ap (on a) (seen-same task (stepped clock) a.executors (seen-step clock));
+  tell = λ task a. ap (on a) (seen-same task told a.executors seen-told);
+  forget = λ task a. ap (on a) (seen-drop task a.executors);
+  duties = seen-duties;
+  begin = λ a. refl;
+  receive = λ m a. refl;
   apply = λ clock a. seen-take clock a.inbox a;
   fail = λ clock a.
       ap (λ (es : List Executor). record (failed_agent 0 a) { executors = es })
       (seen-each (lost clock) (lost 0) a.executors (seen-lost clock));
+  power = λ a. refl;
+  mode = λ change a. refl;
 }

@@ -6,7 +6,7 @@ use Rattle.std.specs.declared.cmp.Ordering.{Ordering}
 use Rattle.std.specs.declared.result.Result.{Result}
 use Rattle.swarm_agent.specs.declared.agent.ApplyFault.TheVariants as fault
 use Rattle.swarm_agent.specs.declared.agent.ApplyFault.{ApplyFault}
-use Rattle.swarm_matching.specs.Fresh.{is_stale}
+use Rattle.swarm_objects.specs.Agents.Messages.{is_stale}
 use Rattle.swarm_objects.specs.Agents.Executors.{phase_time}
 use Rattle.swarm_objects.specs.Loops.Agents.{begun, has_step, is_forgotten, is_news, take_in}
 use Rattle.swarm_objects.specs.Loops.Words.{duty_where}
@@ -55,6 +55,9 @@ Applies before (Err (fault.Stale n)) after = (has_stale before ≡ true) × (n �
 Applies before (Err fault.NoMemory) after = (has_stale before ≡ false) × (after ≡ before)
 
 -- Executors.
+
+abbrev pub executor_state : Executor → TaskState
+executor_state e = e.state
 
 -- the task of the first one that passes
 abbrev pub first_task : (Executor → Bool) → List Executor → Option ℕ

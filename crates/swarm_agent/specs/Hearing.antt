@@ -1,7 +1,7 @@
 -- What an agent has of a session's messages, applied in order.
 use Rattle.std.specs.Prelude.{Bool, List, None, Option, Some, [], fold, if◌then◌else◌, not, true, false, ℕ, ◌&&◌, ◌++◌, ◌∷◌, ◌≡◌}
 use Rattle.std.specs.List.{list_any}
-use Rattle.swarm_matching.specs.Fresh.{is_stale}
+use Rattle.swarm_objects.specs.Agents.Messages.{is_stale}
 use Rattle.swarm_objects.specs.Agents.Messages.{assigned_task, next_message}
 use Rattle.swarm_objects.specs.Loops.Agents.{begun, take_in}
 use Rattle.swarm_objects.specs.Rows.{Has, IsRising, executor_task, has_row, row_at}

@@ -1,3 +1,4 @@
 pub mod Keyed
 pub mod Named
+pub mod Near
 pub mod Undo

@@ -1,4 +1,5 @@
 pub mod Agent
+pub mod Agents
 pub mod Steps
 pub mod Hearing
 pub mod Times

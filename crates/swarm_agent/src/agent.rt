@@ -1,10 +1,12 @@
 // The agent of a node.
 ghost use Rattle.std.specs.Prelude.{◌≡◌, ◌<◌, IfSome, None, is_some, true, ℕ};
 ghost use Rattle.std.specs.List.{list_all};
+ghost use Rattle.std.specs.Option.{option_map};
 ghost use Rattle.swarm_agent.specs.Agent.{
   Applies,
   at_node,
   changed,
+  executor_state,
   first_task,
   least_phase,
   news_after,
@@ -13,16 +15,16 @@ ghost use Rattle.swarm_agent.specs.Agent.{
   registered,
   with_executors,
 };
-ghost use Rattle.swarm_model.specs.Calls.Faults.{failed_agent, in_mode, mode_after_start, mode_after_stop};
-ghost use Rattle.swarm_model.specs.Calls.Faults.{started_agent};
-ghost use Rattle.swarm_model.specs.Calls.Nodes.{new_agent};
+ghost use Rattle.swarm_objects.specs.Agents.NodeAgents.{failed_agent, in_mode, mode_after_start, mode_after_stop};
+ghost use Rattle.swarm_objects.specs.Agents.NodeAgents.{started_agent};
+ghost use Rattle.swarm_objects.specs.Agents.NodeAgents.{new_agent};
 ghost use Rattle.swarm_objects.specs.Agents.Messages.{change_executor};
-ghost use Rattle.swarm_objects.specs.Bounds.{far_end, is_near_executor};
+ghost use Rattle.swarm_objects.specs.Bounds.{far_end, is_near_change};
 ghost use Rattle.swarm_objects.specs.Loops.Agents.{has_step, is_forgotten, received, stepped, told};
-ghost use Rattle.swarm_objects.specs.Rows.{drop_row, executor_task, has_row};
+ghost use Rattle.swarm_objects.specs.Rows.{drop_row, executor_task, has_row, row_at};
 
 use crate::executors::Executors;
-use crate::looks::{are_near, first_forgotten, first_news, first_phase, first_step, phase_after};
+use crate::looks::{first_forgotten, first_news, first_phase, first_step, phase_after};
 use crate::messages::{is_stale, take_in};
 use crate::steps::make_step;
 use std::alloc::Global;
@@ -54,7 +56,8 @@ impl From<NoMemory> for ApplyFault {
 ///
 /// Its calls are what a world's calls and duties make of the agent of any node. They don't ask for the clock where a
 /// message is applied or the node fails: an executor that is ACCEPTED or has ended has no time that a step looks at,
-/// and 0 stands for it (`theorems::times_that_no_step_looks_at`).
+/// and 0 stands for it (`theorems::times_that_no_step_looks_at`). Its times stay far from the ends of their types, as
+/// each message and each clock that it is handed are near.
 #[derive(Drop)]
 pub struct Agent {
     alloc: Global,
@@ -67,6 +70,7 @@ pub struct Agent {
 
 impl Model for Agent {
     ghost use Rattle.swarm_agent.specs.Agent.{AgentState};
+    ghost use Rattle.swarm_agent.specs.Inside.Near.{AreNear};
 
     ghost Value = { AgentState };
 
@@ -77,6 +81,8 @@ impl Model for Agent {
       applied = a.applied;
       executors = a.executors;
     } };
+
+    ghost invariant = { λ a. AreNear a.executors a.inbox };
 }
 
 impl Agent {
@@ -104,17 +110,16 @@ impl Agent {
         self.applied = 0;
     }
 
-    /// It is sent the message.
+    /// It is sent the message, in the place of one that it hasn't applied.
     pub fn receive(&mut self, m: Message)
-        requires empty { self.old.inbox ≡ None }
+        requires near { list_all is_near_change m.changes ≡ true }
         ensures { self.new ≡ changed (received m) self.old }
     {
         self.inbox = Some(m);
     }
 
-    /// It applies the message in its inbox. A refusal leaves everything as it was, with the inbox full.
+    /// It applies the message in its inbox, if one is there. A refusal leaves all as it was, with the inbox full.
     pub fn apply(&mut self) -> Result<(), ApplyFault>
-        requires full { is_some self.old.inbox ≡ true }
         ensures { Applies self.old result self.new }
     {
         let Some(message) = &self.inbox else {
@@ -150,11 +155,14 @@ impl Agent {
         self.inbox.is_some()
     }
 
-    /// Whether every time of its executors is far from the end of its type.
-    pub fn has_near_times(&self) -> bool
-        ensures { result ≡ list_all is_near_executor self.now.executors }
+    /// The state of the task's executor.
+    pub fn state_of(&self, task: Id) -> Option<TaskState>
+        ensures { result ≡ option_map executor_state (row_at executor_task task self.now.executors) }
     {
-        are_near(&self.executors)
+        match self.executors.get(task) {
+            Some(executor) => Some(executor.state),
+            None => None,
+        }
     }
 
     /// The least task whose executor has a step that is due.
@@ -165,10 +173,8 @@ impl Agent {
         first_step(&self.executors, now)
     }
 
-    /// The executor of the task makes the step that is due.
+    /// The executor of the task makes the step that is due, if one is.
     pub fn exec(&mut self, task: Id, now: Ms)
-        requires due { passes (has_step now) task self.old ≡ true }
-        requires near { list_all is_near_executor self.old.executors ≡ true }
         requires clock { now < far_end }
         ensures { self.new ≡ with_executors (change_executor task (stepped now)) self.old }
     {
@@ -185,7 +191,6 @@ impl Agent {
 
     /// The state of the task's executor was reported.
     pub fn reported(&mut self, task: Id)
-        requires there { has_row executor_task task self.old.executors ≡ true }
         ensures { self.new ≡ with_executors (change_executor task told) self.old }
     {
         self.executors.tell(task);
@@ -201,7 +206,6 @@ impl Agent {
 
     /// The executor of the task goes.
     pub fn forget(&mut self, task: Id)
-        requires { passes is_forgotten task self.old ≡ true }
         ensures { self.new ≡ with_executors (drop_row executor_task task) self.old }
     {
         self.executors.remove(task);
@@ -209,7 +213,6 @@ impl Agent {
 
     /// The timed phase that ends first, with the least task at one time: its time and its task.
     pub fn pending(&self) -> Option<(Ms, Id)>
-        requires near { list_all is_near_executor self.now.executors ≡ true }
         ensures { result ≡ least_phase self.now.executors }
     {
         first_phase(&self.executors)
@@ -217,7 +220,6 @@ impl Agent {
 
     /// The least task above this one whose executor is in a timed phase, with the phase's time.
     pub fn next_phase(&self, after: Id) -> Option<(Id, Ms)>
-        requires near { list_all is_near_executor self.now.executors ≡ true }
         ensures { result ≡ phase_after after self.now.executors }
     {
         phase_after(&self.executors, after)

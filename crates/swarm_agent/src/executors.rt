@@ -1,12 +1,13 @@
 // Executors, by rising task.
 ghost use Rattle.std.specs.Prelude.{◌≡◌, ◌<◌, [], OnErr, OnOk, map, true};
-ghost use Rattle.swarm_model.specs.Calls.Faults.{lost};
+ghost use Rattle.swarm_objects.specs.Agents.NodeAgents.{lost};
 ghost use Rattle.std.specs.List.{list_all};
 ghost use Rattle.swarm_agent.specs.Inside.Named.{named_or_gone};
+ghost use Rattle.swarm_objects.specs.Bounds.{has_near_times};
 ghost use Rattle.std.specs.Map.{values_of};
 ghost use Rattle.std.specs.Option.{option_copied};
 ghost use Rattle.swarm_objects.specs.Agents.Messages.{change_executor};
-ghost use Rattle.swarm_objects.specs.Bounds.{far_end, is_near_executor};
+ghost use Rattle.swarm_objects.specs.Bounds.{far_end};
 ghost use Rattle.swarm_objects.specs.Loops.Agents.{stepped, told};
 ghost use Rattle.swarm_objects.specs.Rows.{IsRising, drop_row, executor_task, row_at, rows_above, with_row};
 
@@ -102,7 +103,7 @@ impl Executors {
 
     /// The executor of the task makes the step that is due.
     pub fn step(&mut self, task: Id, now: Ms)
-        requires near { list_all is_near_executor self.old ≡ true }
+        requires near { list_all has_near_times self.old ≡ true }
         requires clock { now < far_end }
         ensures { self.new ≡ change_executor task (stepped now) self.old }
     {

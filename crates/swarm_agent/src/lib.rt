@@ -1,7 +1,8 @@
-//! The agent of a node: its inbox, and its executors by task.
+//! The agents of nodes: each its inbox, and its executors by task.
 #![tactic(auto)]
 
 mod agent;
+mod agents;
 mod executors;
 mod looks;
 mod messages;
@@ -9,3 +10,6 @@ mod steps;
 pub mod theorems;
 
 pub use agent::{Agent, ApplyFault};
+pub use agents::Agents;
+pub use looks::{is_forgotten, is_news};
+pub use steps::{has_passed, has_step, is_late, make_step, phase_time};

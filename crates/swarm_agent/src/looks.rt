@@ -3,16 +3,13 @@ ghost use Rattle.std.specs.Prelude.{◌≡◌, true};
 ghost use Rattle.std.specs.List.{list_all};
 ghost use Rattle.swarm_agent.specs.Agent.{first_task, has_news, least_phase, news_after};
 ghost use Rattle.swarm_agent.specs.Agent.{phase_after, phase_cmp, phase_of};
-ghost use Rattle.swarm_objects.specs.Bounds.{is_near_end, is_near_executor, is_near_workload};
+ghost use Rattle.swarm_objects.specs.Bounds.{has_near_times};
 ghost use Rattle.swarm_objects.specs.Loops.Agents.{has_step, is_forgotten, is_news};
 ghost use Rattle.swarm_objects.specs.Rows.{IsRising, executor_task, keep_least};
 
 use crate::executors::Executors;
 use crate::steps::{has_step, phase_time};
-use swarm_objects::{End, Executor, Id, Ms, TaskState, Workload, rank};
-
-// No time that is handed to an agent reaches it.
-const FAR_END: Ms = 1 << 60;
+use swarm_objects::{Executor, Id, Ms, TaskState, rank};
 
 /// The first executor with a step that is due.
 pub fn first_step(executors: &Executors, now: Ms) -> Option<Id>
@@ -47,8 +44,8 @@ pub fn first_forgotten(executors: &Executors) -> Option<Id>
     None
 }
 
-// The state is above the one that was reported.
-fn is_news(state: TaskState, reported: Option<TaskState>) -> bool
+/// The state is above the one that was reported.
+pub fn is_news(state: TaskState, reported: Option<TaskState>) -> bool
     ensures { result ≡ is_news state reported }
 {
     match reported {
@@ -79,7 +76,7 @@ pub fn first_news(executors: &Executors, after: Id) -> Option<(Id, TaskState)>
 
 // The executor's phase, with its time and its task.
 fn phase_of(executor: &Executor) -> Option<(Ms, Id)>
-    requires { is_near_executor executor.now ≡ true }
+    requires { has_near_times executor.now ≡ true }
     ensures { result ≡ phase_of executor.now }
 {
     match phase_time(executor) {
@@ -99,49 +96,9 @@ fn sooner(best: Option<(Ms, Id)>, phase: (Ms, Id)) -> Option<(Ms, Id)>
     }
 }
 
-fn is_near_end(end: End) -> bool
-    ensures { result ≡ is_near_end end }
-{
-    match end {
-        End::Exit(time, _) => time < FAR_END,
-        End::Never | End::Reject => true,
-    }
-}
-
-fn is_near_workload(workload: Workload) -> bool
-    ensures { result ≡ is_near_workload workload }
-{
-    workload.prepare < FAR_END
-        && workload.start < FAR_END
-        && workload.stop < FAR_END
-        && is_near_end(workload.end)
-}
-
-fn is_near(executor: &Executor) -> bool
-    ensures { result ≡ is_near_executor executor.now }
-{
-    let stopping = match executor.stopping {
-        Some(time) => time < FAR_END,
-        None => true,
-    };
-    is_near_workload(executor.workload) && executor.since < FAR_END && stopping
-}
-
-/// Every time of theirs is far from the end of its type.
-pub fn are_near(executors: &Executors) -> bool
-    ensures { result ≡ list_all is_near_executor executors.now }
-{
-    for executor in executors.iter() {
-        if !is_near(executor) {
-            return false;
-        }
-    }
-    true
-}
-
 /// The phase that ends first.
 pub fn first_phase(executors: &Executors) -> Option<(Ms, Id)>
-    requires { list_all is_near_executor executors.now ≡ true }
+    requires { list_all has_near_times executors.now ≡ true }
     ensures { result ≡ least_phase executors.now }
 {
     let mut least = None;
@@ -155,7 +112,7 @@ pub fn first_phase(executors: &Executors) -> Option<(Ms, Id)>
 
 /// The first executor after this task in a timed phase, with the phase's time.
 pub fn phase_after(executors: &Executors, after: Id) -> Option<(Id, Ms)>
-    requires { list_all is_near_executor executors.now ≡ true }
+    requires { list_all has_near_times executors.now ≡ true }
     ensures { result ≡ phase_after after executors.now }
 {
     for (_, executor) in executors.above(after) {

@@ -1,6 +1,6 @@
 // What a message makes of executors. Where memory is wanting, what was changed so far is changed back.
 ghost use Rattle.std.specs.Prelude.{◌≡◌, ◌∷◌, ◌++◌, [], IfOk, OnErr, OnOk, fold, map};
-ghost use Rattle.swarm_matching.specs.Fresh.{is_stale};
+ghost use Rattle.swarm_objects.specs.Agents.Messages.{is_stale};
 ghost use Rattle.swarm_agent.specs.Inside.Named.{AreNamed};
 ghost use Rattle.swarm_agent.specs.Inside.Undo.{restored, undone};
 ghost use Rattle.swarm_objects.specs.Agents.Messages.{

@@ -1,6 +1,7 @@
 // The executors' steps, and the times of their phases.
 ghost use Rattle.std.specs.Prelude.{◌≡◌, ◌+◌, ◌<◌, nat_le, true};
 ghost use Rattle.std.specs.Option.{option_map};
+ghost use Rattle.swarm_objects.specs.Bounds.{has_near_times};
 ghost use Rattle.swarm_agent.specs.Steps.{at_time, taken};
 ghost use Rattle.swarm_objects.specs.Agents.Executors.{
   early_step,
@@ -19,7 +20,7 @@ ghost use Rattle.swarm_objects.specs.Agents.Executors.{
   prepared,
   wants_to_stop,
 };
-ghost use Rattle.swarm_objects.specs.Bounds.{far_end, is_near_executor};
+ghost use Rattle.swarm_objects.specs.Bounds.{far_end};
 ghost use Rattle.swarm_objects.specs.Loops.Agents.{has_step, stepped};
 
 use swarm_objects::{Desired, End, Executor, Ms, TaskState, desired_rank, rank};
@@ -185,7 +186,7 @@ pub fn has_step(clock: Ms, executor: &Executor) -> bool
 
 // The executor makes the step.
 fn take_step(executor: &mut Executor, clock: Ms, step: Step)
-    requires near { is_near_executor executor.old ≡ true }
+    requires near { has_near_times executor.old ≡ true }
     requires clock { clock < far_end }
     ensures { executor.new ≡ taken clock executor.old step }
 {
@@ -198,7 +199,7 @@ fn take_step(executor: &mut Executor, clock: Ms, step: Step)
 
 /// The executor makes the step that is due, where one is.
 pub fn make_step(executor: &mut Executor, clock: Ms)
-    requires near { is_near_executor executor.old ≡ true }
+    requires near { has_near_times executor.old ≡ true }
     requires clock { clock < far_end }
     ensures { executor.new ≡ stepped clock executor.old }
 {
@@ -208,7 +209,7 @@ pub fn make_step(executor: &mut Executor, clock: Ms)
 }
 
 fn exit_time(executor: &Executor) -> Option<Ms>
-    requires { is_near_executor executor.now ≡ true }
+    requires { has_near_times executor.now ≡ true }
     ensures { result ≡ exit_time executor.now executor.now.workload.end }
 {
     match executor.workload.end {
@@ -219,7 +220,7 @@ fn exit_time(executor: &Executor) -> Option<Ms>
 
 // The time of the phase of an executor that neither stops nor wants to.
 fn plain_phase(executor: &Executor) -> Option<Ms>
-    requires { is_near_executor executor.now ≡ true }
+    requires { has_near_times executor.now ≡ true }
     ensures { result ≡ plain_phase executor.now executor.now.state }
 {
     match executor.state {
@@ -231,7 +232,7 @@ fn plain_phase(executor: &Executor) -> Option<Ms>
 }
 
 fn late_phase(executor: &Executor) -> Option<Ms>
-    requires { is_near_executor executor.now ≡ true }
+    requires { has_near_times executor.now ≡ true }
     ensures { result ≡ late_phase executor.now executor.now.stopping }
 {
     match executor.stopping {
@@ -243,7 +244,7 @@ fn late_phase(executor: &Executor) -> Option<Ms>
 
 /// The time of the executor's timed phase, whether or not that is reached; none where it is in no such phase.
 pub fn phase_time(executor: &Executor) -> Option<Ms>
-    requires { is_near_executor executor.now ≡ true }
+    requires { has_near_times executor.now ≡ true }
     ensures { result ≡ phase_time executor.now }
 {
     if is_late(executor.state) {

@@ -14,8 +14,8 @@ use Rattle.swarm_objects.specs.declared.rows.Change.{Change}
 use Rattle.swarm_objects.specs.declared.rows.Change.TheVariants as change
 use Rattle.swarm_objects.specs.declared.services.PortNumber.{PortNumber}
 use Rattle.swarm_objects.specs.declared.services.Service.{Service}
-use Rattle.swarm_roles.proofs.Applied.{found_makes, makes_none, service_makes}
-use Rattle.swarm_roles.specs.Changes.{Makes, put_found}
+use Rattle.swarm_objects.proofs.Applied.{found_makes, makes_none, service_makes}
+use Rattle.swarm_objects.specs.ChangeLists.{Makes, put_found}
 
 pub ruleset no_changes = (makes_none)
 

@@ -11,7 +11,7 @@ use Rattle.swarm_objects.specs.declared.duties.Duty.{Duty}
 use Rattle.swarm_objects.specs.declared.duties.Duty.TheVariants as duty
 use Rattle.swarm_objects.specs.declared.services.Service.{Service}
 use Rattle.swarm_objects.specs.declared.templates.Port.{Port}
-use Rattle.swarm_roles.proofs.WalkLemmas.{first_left, first_right}
+use Rattle.swarm_objects.proofs.WalkLemmas.{first_left, first_right}
 
 pub ruleset first_steps = (first_left, first_right)
 

@@ -14,18 +14,18 @@ ghost use Rattle.swarm_objects.specs.Loops.Allocator.{
 };
 ghost use Rattle.swarm_objects.specs.Rows.{row_at, service_id, task_id};
 ghost use Rattle.swarm_objects.specs.declared.loops.Role.TheVariants as role;
-ghost use Rattle.swarm_roles.specs.Changes.{Makes, put_found};
-ghost use Rattle.swarm_roles.specs.Effects.{after_duty};
-ghost use Rattle.swarm_roles.specs.Usable.{IsUsable};
+ghost use Rattle.swarm_objects.specs.ChangeLists.{Makes, put_found};
+ghost use Rattle.swarm_objects.specs.Effects.{after_duty};
+ghost use Rattle.swarm_objects.specs.Usable.{IsUsable};
 
 use crate::finding::exhausted_for;
 use crate::pooling::{free_address, free_port};
 use std::alloc::Global;
+use swarm_objects::effects::set_note;
 use swarm_objects::{
     Address, Change, Duplicate, Duty, Id, List, NoMemory, Note, PortNumber, Rows, Service, Task,
     TaskState, Version, add, list_of,
 };
-use swarm_roles::set_note;
 
 // Ports.
 

@@ -2,31 +2,17 @@
 ghost use Rattle.std.specs.Prelude.{◌≡◌, ◌&&◌, flat_map, not};
 ghost use Rattle.std.specs.List.{list_all, list_any};
 ghost use Rattle.swarm_alloc.specs.Allocating.{gets_number};
-ghost use Rattle.swarm_objects.specs.Loops.Allocator.{
-  allocator,
-  exhausted,
-  exhausted_for,
-  exhausted_network,
-  exhausted_port,
-  gets_address,
-  has_free_address,
-  has_free_port,
-  has_numbered_ports,
-  is_fresh,
-  port_duties,
-  same_note,
-  wants_note,
-};
+ghost use Rattle.swarm_objects.specs.Loops.Allocator.{allocator, exhausted, exhausted_for, exhausted_network, exhausted_port, gets_address, has_free_address, has_free_port, has_numbered_ports, is_fresh, port_duties, same_note, wants_note};
 ghost use Rattle.swarm_objects.specs.Loops.Words.{duty_where};
 ghost use Rattle.swarm_objects.specs.Rows.{first_of};
 ghost use Rattle.swarm_objects.specs.Services.Ports.{is_unnumbered};
 ghost use Rattle.swarm_objects.specs.Services.Words.{is_service_and};
-ghost use Rattle.swarm_roles.specs.Usable.{IsUsable};
+ghost use Rattle.swarm_objects.specs.Usable.{IsUsable};
 
 use crate::free_numbers::{has_free_address, has_free_port};
 use crate::ports::is_unnumbered;
+use swarm_objects::walks::{services, tasks};
 use swarm_objects::{Duty, Id, Note, Port, Rows, Service, Task};
-use swarm_roles::{services, tasks};
 
 // The port can get a number.
 fn gets_number<R: Rows>(rows: &R, service: &Service, port: Port) -> bool
@@ -48,7 +34,7 @@ fn has_unnumbered_port(service: &Service) -> bool
         .any(|port| is_unnumbered(service, *port))
 }
 
-fn has_numbered_ports(service: &Service) -> bool
+pub fn has_numbered_ports(service: &Service) -> bool
     ensures { result ≡ has_numbered_ports service.now }
 {
     !has_unnumbered_port(service)
@@ -151,8 +137,8 @@ pub fn exhausted_for<R: Rows>(rows: &R, task: &Task) -> Option<Note>
     }
 }
 
-// The two notes are equal.
-fn same_note(one: Note, two: Note) -> bool
+/// The two notes are equal.
+pub fn same_note(one: Note, two: Note) -> bool
     ensures { result ≡ same_note one two }
 {
     match (one, two) {

@@ -4,12 +4,13 @@ ghost use Rattle.std.specs.List.{list_any};
 ghost use Rattle.swarm_objects.specs.Loops.Allocator.{has_free_address, has_free_port};
 ghost use Rattle.swarm_objects.specs.Services.Ports.{free_port, holds_port};
 ghost use Rattle.swarm_objects.specs.Tasks.Addresses.{addresses_held, free_address, free_in};
-ghost use Rattle.swarm_roles.specs.Usable.{IsUsable};
+ghost use Rattle.swarm_objects.specs.Usable.{IsUsable};
 ghost use Rattle.swarm_objects.specs.Tasks.Holders.{holds_address, is_address};
 
-use crate::ports::{FIRST_PORT, LAST_PORT, holds_port};
+use crate::ports::{FIRST_PORT, LAST_PORT};
+use swarm_objects::ports::holds_port;
+use swarm_objects::walks::{services, tasks};
 use swarm_objects::{Address, Id, Network, Rows, Task};
-use swarm_roles::{services, tasks};
 
 // A service holds the number of this protocol.
 fn is_port_held<R: Rows>(rows: &R, udp: bool, number: u16) -> bool
@@ -54,8 +55,8 @@ fn has_address(network: Id, number: u64, addresses: &[Address]) -> bool
         .any(|address| is_address(network, number, *address))
 }
 
-// The task is up to RUNNING, and has this address.
-fn holds_address(network: Id, number: u64, task: &Task) -> bool
+/// The task is up to RUNNING, and has this address.
+pub fn holds_address(network: Id, number: u64, task: &Task) -> bool
     ensures { result ≡ holds_address network number task.now }
 {
     task.is_not_over() && has_address(network, number, task.addresses.as_slice())

@@ -2,11 +2,11 @@
 ghost use Rattle.std.specs.Prelude.{◌≡◌, ◌++◌, IfOk, OnOk, flat_map};
 ghost use Rattle.swarm_objects.specs.Services.Ports.{numbers_given, numbers_named, ports_held, ports_of};
 ghost use Rattle.swarm_objects.specs.Tasks.Addresses.{addresses_held, addresses_in};
-ghost use Rattle.swarm_roles.specs.Usable.{IsUsable};
+ghost use Rattle.swarm_objects.specs.Usable.{IsUsable};
 
 use std::alloc::Global;
+use swarm_objects::walks::{services, tasks};
 use swarm_objects::{Id, List, NoMemory, Port, PortNumber, Rows, Service, ServiceSpec, Task, add};
-use swarm_roles::{services, tasks};
 
 // Adds the numbers of the protocol that the ports name.
 fn add_named(held: &mut List<u32>, udp: bool, ports: &[Port]) -> Result<(), NoMemory>

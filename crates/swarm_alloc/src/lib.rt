@@ -9,4 +9,6 @@ mod pooling;
 mod ports;
 
 pub use changing::changes;
-pub use finding::least;
+pub use finding::{has_numbered_ports, least, same_note};
+pub use free_numbers::holds_address;
+pub use ports::is_unnumbered;

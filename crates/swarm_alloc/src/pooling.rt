@@ -4,7 +4,7 @@ ghost use Rattle.swarm_objects.specs.Rows.{first_free};
 ghost use Rattle.swarm_objects.specs.Services.Ports.{free_port};
 ghost use Rattle.swarm_objects.specs.Sound.{is_subnet};
 ghost use Rattle.swarm_objects.specs.Tasks.Addresses.{addresses_held, free_address, free_in};
-ghost use Rattle.swarm_roles.specs.Usable.{IsUsable};
+ghost use Rattle.swarm_objects.specs.Usable.{IsUsable};
 
 use crate::held::{held_addresses, held_ports};
 use crate::ports::{FIRST_PORT, LAST_PORT};
@@ -23,10 +23,10 @@ pub fn free_number(
     ensures value { IfOk result (λ free. free ≡ first_free first last held.now) }
     ensures most { IfOk result (λ free. IfSome free (λ number. number ≤ last)) }
 {
-    let mut pool = Pool::new(first, last);
+    let mut pool = Pool::new(alloc, first, last);
     for number in held {
         if first <= *number && *number <= last {
-            pool.take(alloc, *number)?;
+            pool.take(*number)?;
         }
     }
     Ok(pool.least_free())

@@ -10,7 +10,7 @@ use Rattle.swarm_objects.specs.Tasks.Words.{is_on}
 use Rattle.swarm_objects.specs.World.{Tables}
 use Rattle.swarm_objects.specs.declared.messages.Assigned.{Assigned}
 use Rattle.swarm_objects.specs.declared.tasks.Task.{Task}
-use Rattle.swarm_roles.specs.Usable.{IsUsable}
+use Rattle.swarm_objects.specs.Usable.{IsUsable}
 
 pub due_of_node : (t : Tables) (node : ℕ) →
     map assigned (filter is_from_assigned (filter (is_on node) t.tasks)) ≡ due_set t node

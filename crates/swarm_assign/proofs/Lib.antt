@@ -3,3 +3,4 @@ mod Differing
 mod DueSets
 mod Messages
 mod Together
+mod ByNode

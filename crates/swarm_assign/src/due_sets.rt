@@ -2,31 +2,21 @@
 ghost use Rattle.std.specs.Prelude.{◌≡◌, ◌∷◌, false, IfOk, List, MatchOption};
 ghost use Rattle.std.specs.Cmp.Lexicographic.{pointwise};
 ghost use Rattle.swarm_assign.specs.Inside.Merging.{is_from_assigned};
-ghost use Rattle.swarm_objects.specs.Agents.Messages.{assigned, assigned_task, due_set, same_assigned};
+ghost use Rattle.swarm_objects.specs.Agents.Messages.{assigned_task, due_set, same_assigned};
 ghost use Rattle.swarm_objects.specs.Rows.{IsRising};
-ghost use Rattle.swarm_roles.specs.Usable.{IsUsable};
+ghost use Rattle.swarm_objects.specs.Usable.{IsUsable};
 
 use crate::differences::same_assigned;
 use std::alloc::Global;
+use swarm_objects::messages::assignment;
+use swarm_objects::walks::tasks_on;
 use swarm_objects::{Assigned, Id, List, NoMemory, Rows, Task, TaskState, add, rank};
-use swarm_roles::tasks_on;
 
 // It is at least ASSIGNED.
 fn is_from_assigned(task: &Task) -> bool
     ensures { result ≡ is_from_assigned task.now }
 {
     rank(TaskState::Assigned) <= rank(task.state)
-}
-
-// What its node is told of the task.
-fn assigned(task: &Task) -> Assigned
-    ensures { result ≡ assigned task.now }
-{
-    Assigned {
-        task: task.id,
-        desired: task.desired,
-        workload: task.template.workload,
-    }
 }
 
 #[tactic(auto, using(crate::proofs::DueSets::due_of_node))]
@@ -37,7 +27,7 @@ fn assigned_tasks<R: Rows>(alloc: Global, rows: &R, node: Id) -> Result<List<Ass
     let mut due = List::new(alloc);
     for task in tasks_on(rows, node) {
         if is_from_assigned(task) {
-            add(&mut due, assigned(task))?;
+            add(&mut due, assignment(task))?;
         }
     }
     Ok(due)
@@ -74,7 +64,7 @@ pub fn is_all_sent<R: Rows>(sent: &[Assigned], rows: &R, node: Id) -> bool
     let mut left = sent;
     for task in tasks_on(rows, node) {
         if is_from_assigned(task) {
-            match behind(left, &assigned(task)) {
+            match behind(left, &assignment(task)) {
                 Some(rest) => left = rest,
                 None => return false,
             }

@@ -5,6 +5,8 @@ mod differences;
 mod due_sets;
 mod merging;
 mod sent;
+mod sents;
 
 pub use due_sets::due_set;
 pub use sent::Sent;
+pub use sents::Sents;

@@ -13,7 +13,7 @@ ghost use Rattle.swarm_objects.specs.Agents.Messages.{
 ghost use Rattle.swarm_objects.specs.Bounds.{far_end};
 ghost use Rattle.swarm_objects.specs.Rows.{IsRising};
 ghost use Rattle.swarm_objects.specs.declared.messages.Assigned.{Assigned};
-ghost use Rattle.swarm_roles.specs.Usable.{IsUsable};
+ghost use Rattle.swarm_objects.specs.Usable.{IsUsable};
 
 use crate::differences::{changed, differences, updates};
 use crate::due_sets::is_all_sent;
@@ -24,6 +24,7 @@ use swarm_objects::{Assigned, Id, List, Message, NoMemory, Rows};
 /// What a node was sent in its session.
 #[derive(Drop)]
 pub struct Sent {
+    alloc: Global,
     count: u64,
     tasks: List<Assigned>,
 }
@@ -89,6 +90,7 @@ impl Sent {
         ensures { result ≡ record { count = 0; tasks = [] } }
     {
         Sent {
+            alloc,
             count: 0,
             tasks: List::new(alloc),
         }
@@ -97,26 +99,26 @@ impl Sent {
     /// The next message, where this is due: everything as the first one of a session, after that exactly the
     /// difference from what was sent, by rising task. None comes exactly where a message was sent and what was sent is
     /// what is due.
-    pub fn next(&self, alloc: Global, due: &[Assigned]) -> Result<Option<Message>, NoMemory>
+    pub fn next(&self, due: &[Assigned]) -> Result<Option<Message>, NoMemory>
         requires count { self.now.count < far_end }
         requires rises { IsRising assigned_task due.now }
         ensures message { IfOk result (λ message. (node : ℕ) → message ≡ next_message (sent_to node self.now) due.now) }
         ensures none { IfOk result (λ message. (message ≡ None) ↔ ((0 < self.now.count) × (self.now.tasks ≡ due.now))) }
     {
         if self.count == 0 {
-            return Ok(Some(complete_message(alloc, due)?));
+            return Ok(Some(complete_message(self.alloc, due)?));
         }
-        difference_message(alloc, self.count, self.tasks.as_slice(), due)
+        difference_message(self.alloc, self.count, self.tasks.as_slice(), due)
     }
 
     /// The message, which is the next one, was sent: the node has what was due.
-    pub fn confirm(&mut self, alloc: Global, message: &Message) -> Result<(), NoMemory>
+    pub fn confirm(&mut self, message: &Message) -> Result<(), NoMemory>
         requires { (due : List Assigned) × IsNext self.old due message.now }
         ensures ok { OnOk result (HasBy self.old message.now self.new) }
         ensures err { OnErr result (self.new ≡ self.old) }
     {
         let told = told_before(message, self.tasks.as_slice());
-        self.tasks = changed(alloc, message.changes.as_slice(), told)?;
+        self.tasks = changed(self.alloc, message.changes.as_slice(), told)?;
         self.count = message.results_in;
         Ok(())
     }

@@ -12,6 +12,7 @@ ghost use Rattle.swarm_objects.specs.Rules.Services.{is_zero_port, names_twice, 
 use swarm_objects::limits::{
     LONGEST_TIME, MOST_CPU, MOST_ITEMS, MOST_MEM, MOST_RATIO, MOST_REPLICAS,
 };
+use swarm_objects::ports::is_host_clash;
 use swarm_objects::{Draft, End, Key, Mode, Ms, Name, Port, ServiceSpec, SpecRule, Workload};
 
 /// The first rule that a draft of a service breaks.
@@ -176,12 +177,6 @@ fn is_zero_port(port: &Port) -> bool
     ensures { result ≡ is_zero_port port.now }
 {
     port.target == 0 || port.number == Some(0)
-}
-
-fn is_host_clash(one: &Port, two: &Port) -> bool
-    ensures { result ≡ is_host_clash one.now two.now }
-{
-    one.udp == two.udp && one.number.is_some() && one.number == two.number
 }
 
 fn is_ingress_clash(one: &Port, two: &Port) -> bool

@@ -42,14 +42,12 @@ near_some (Some r) run is e = let same : r ≡ run = cc in ap is_near_run (sym s
 pub near_run : (s : Service) (run : UpdateRun) → s.run ≡ Some run → is_near_service s ≡ true → is_near_run run ≡ true
 near_run s run is e =
     near_some s.run run is
-    (right (is_near_spec s.spec && on_row true is_near_spec s.previous) (on_row true is_near_run s.run)
-    (left (is_near_spec s.spec && on_row true is_near_spec s.previous && on_row true is_near_run s.run) (is_near s.iteration) e))
+    (right (is_near_spec s.spec && on_row true is_near_spec s.previous) (on_row true is_near_run s.run) e)
 
 near_spec : (s : Service) → is_near_service s ≡ true → is_near_spec s.spec ≡ true
 near_spec s e =
     left (is_near_spec s.spec) (on_row true is_near_spec s.previous)
-    (left (is_near_spec s.spec && on_row true is_near_spec s.previous) (on_row true is_near_run s.run)
-    (left (is_near_spec s.spec && on_row true is_near_spec s.previous && on_row true is_near_run s.run) (is_near s.iteration) e))
+    (left (is_near_spec s.spec && on_row true is_near_spec s.previous) (on_row true is_near_run s.run) e)
 
 near_delay : (s : Service) → is_near_service s ≡ true → is_near s.spec.update.delay ≡ true
 near_delay s e =

@@ -5,8 +5,8 @@ use Rattle.std.specs.Bool.{OnTrue}
 use Rattle.std.specs.List.{list_all, list_any}
 use Rattle.std.specs.Option.{option_map}
 use Rattle.std.proofs.lemmas.Bool.Decides.{nat_tests}
-use Rattle.duty_rows.proofs.First.{append_first, first_of_all, idle_names_none, role_of_first}
-use Rattle.swarm_duties.specs.Quiet.{IsQuiet, IsQuietBefore, agents_before, agents_from, is_start, left_to_ask, table_roles}
+use Rattle.swarm_plain.proofs.First.{append_first, first_of_all, idle_names_none, role_of_first}
+use Rattle.swarm_duties.specs.Quiet.{IsKnownQuiet, IsQuietBefore, agents_before, agents_from, is_start, left_to_ask, table_roles}
 use Rattle.swarm_duties.specs.declared.quiet.Quiet.{Quiet}
 use Rattle.swarm_model.proofs.Base.DutyLists.{from_either, from_when, from_where}
 use Rattle.swarm_model.specs.History.{effect}
@@ -39,26 +39,26 @@ use Rattle.swarm_objects.specs.declared.tasks.TaskState.TheVariants as state
 -- What is known.
 
 -- nothing
-pub nowhere_quiet : (q : Quiet) (w : World) → q.tables ≡ false → q.before ≡ None → IsQuiet q w
+pub nowhere_quiet : (q : Quiet) (w : World) → q.tables ≡ false → q.before ≡ None → IsKnownQuiet q w
 nowhere_quiet q w none also = record {
   tables = subst (λ b. OnTrue b (first_of (flat_map (λ r. duties r w) table_roles) ≡ None)) (sym none) tt;
   before = subst (IsQuietBefore w) (sym also) tt;
 }
 
 -- nothing of the tables, and of the agents
-before_quiet : (q : Quiet) (w : World) (n : ℕ) → q.tables ≡ false → q.before ≡ Some n → IsQuietBefore w (Some n) → IsQuiet q w
+before_quiet : (q : Quiet) (w : World) (n : ℕ) → q.tables ≡ false → q.before ≡ Some n → IsQuietBefore w (Some n) → IsKnownQuiet q w
 before_quiet q w n none is quiet = record {
   tables = subst (λ b. OnTrue b (first_of (flat_map (λ r. duties r w) table_roles) ≡ None)) (sym none) tt;
   before = subst (IsQuietBefore w) (sym is) quiet;
 }
 
-tables_quiet : (q : Quiet) (w : World) → q.tables ≡ true → q.before ≡ None → first_of (flat_map (λ r. duties r w) table_roles) ≡ None → IsQuiet q w
+tables_quiet : (q : Quiet) (w : World) → q.tables ≡ true → q.before ≡ None → first_of (flat_map (λ r. duties r w) table_roles) ≡ None → IsKnownQuiet q w
 tables_quiet q w is none tables = record {
   tables = subst (λ b. OnTrue b (first_of (flat_map (λ r. duties r w) table_roles) ≡ None)) (sym is) tables;
   before = subst (IsQuietBefore w) (sym none) tt;
 }
 
-all_quiet : (q : Quiet) (w : World) (n : ℕ) → q.tables ≡ true → q.before ≡ Some n → first_of (flat_map (λ r. duties r w) table_roles) ≡ None → IsQuietBefore w (Some n) → IsQuiet q w
+all_quiet : (q : Quiet) (w : World) (n : ℕ) → q.tables ≡ true → q.before ≡ Some n → first_of (flat_map (λ r. duties r w) table_roles) ≡ None → IsQuietBefore w (Some n) → IsKnownQuiet q w
 all_quiet q w n is also tables quiet = record {
   tables = subst (λ b. OnTrue b (first_of (flat_map (λ r. duties r w) table_roles) ≡ None)) (sym is) tables;
   before = subst (IsQuietBefore w) (sym also) quiet;
@@ -273,24 +273,24 @@ still_tables v w e none = ap first_of (same_roles v w table_roles e refl) ∙ no
 one_changed : (q : Quiet) (w v : World) (d : Duty) (n : ℕ) (f : NodeAgent → NodeAgent) → q.tables ≡ true → q.before ≡ Some n →
     role_of d ≡ role.Agents → first_of (duty_numbers d) ≡ Some n → duty_named (settle_answer w) ≡ Some d →
     v.tables ≡ w.tables → ((a : NodeAgent) → agent_duties v a ≡ agent_duties w a) →
-    v.agents ≡ change_row agent_node n f w.agents → ((a : NodeAgent) → (f a).node ≡ a.node) → IsQuiet q v
+    v.agents ≡ change_row agent_node n f w.agents → ((a : NodeAgent) → (f a).node ≡ a.node) → IsKnownQuiet q v
 one_changed q w v d n f is also of at named tables same agents_are keeps =
     let turn = agents_turn w d of named in
     all_quiet q v n is also (still_tables v w tables turn.0)
     (quiet_kept v w n f same agents_are keeps (quiet_before w n d w.agents at turn.1))
 
 pub exec_quiet : (q : Quiet) (w : World) (d : Duty) (n x : ℕ) → q.tables ≡ true → q.before ≡ Some n → d ≡ duty.Exec n x →
-    duty_named (settle_answer w) ≡ Some d → IsQuiet q (effect w d)
+    duty_named (settle_answer w) ≡ Some d → IsKnownQuiet q (effect w d)
 exec_quiet q w d n x is also same named =
-    subst (λ e. IsQuiet q (effect w e)) (sym same)
+    subst (λ e. IsKnownQuiet q (effect w e)) (sym same)
     (one_changed q w (effect w (duty.Exec n x)) (duty.Exec n x) n
     (λ a. record a { executors = change_executor x (stepped w.tables.clock) a.executors }) is also refl refl
     (named ∙ ap (λ e. Some e) same) refl (λ a. refl) refl (λ a. refl))
 
 pub forget_quiet : (q : Quiet) (w : World) (d : Duty) (n x : ℕ) → q.tables ≡ true → q.before ≡ Some n → d ≡ duty.Forget n x →
-    duty_named (settle_answer w) ≡ Some d → IsQuiet q (effect w d)
+    duty_named (settle_answer w) ≡ Some d → IsKnownQuiet q (effect w d)
 forget_quiet q w d n x is also same named =
-    subst (λ e. IsQuiet q (effect w e)) (sym same)
+    subst (λ e. IsKnownQuiet q (effect w e)) (sym same)
     (one_changed q w (effect w (duty.Forget n x)) (duty.Forget n x) n
     (λ a. record a { executors = drop_row executor_task x a.executors }) is also refl refl
     (named ∙ ap (λ e. Some e) same) refl (λ a. refl) refl (λ a. refl))
@@ -300,9 +300,9 @@ taken_node clock None a = refl
 taken_node clock (Some m) a = refl
 
 pub apply_quiet : (q : Quiet) (w : World) (d : Duty) (n : ℕ) → q.tables ≡ true → q.before ≡ Some n → d ≡ duty.Apply n →
-    duty_named (settle_answer w) ≡ Some d → IsQuiet q (effect w d)
+    duty_named (settle_answer w) ≡ Some d → IsKnownQuiet q (effect w d)
 apply_quiet q w d n is also same named =
-    subst (λ e. IsQuiet q (effect w e)) (sym same)
+    subst (λ e. IsKnownQuiet q (effect w e)) (sym same)
     (one_changed q w (effect w (duty.Apply n)) (duty.Apply n) n (λ a. take_in w.tables.clock a.inbox a) is also refl refl
     (named ∙ ap (λ e. Some e) same) refl (λ a. refl) refl (λ a. taken_node w.tables.clock a.inbox a))
 
@@ -313,9 +313,9 @@ pulled_tables w n None = refl
 pulled_tables w n (Some m) = refl
 
 pub pull_quiet : (q : Quiet) (w : World) (d : Duty) (n : ℕ) → q.tables ≡ true → q.before ≡ None → d ≡ duty.Pull n →
-    duty_named (settle_answer w) ≡ Some d → IsQuiet q (effect w d)
+    duty_named (settle_answer w) ≡ Some d → IsKnownQuiet q (effect w d)
 pull_quiet q w d n is none same named =
-    subst (λ e. IsQuiet q (effect w e)) (sym same)
+    subst (λ e. IsKnownQuiet q (effect w e)) (sym same)
     (tables_quiet q (effect w (duty.Pull n)) is none
     (still_tables (effect w (duty.Pull n)) w (pulled_tables w n (message_for w n))
     (agents_turn w (duty.Pull n) refl (named ∙ ap (λ e. Some e) same)).0))
@@ -472,7 +472,7 @@ reported_same w version n x a placed = go (executor_at w n x) refl
 
 pub report_quiet : (q : Quiet) (w : World) (n x : ℕ) → q.tables ≡ false → q.before ≡ Some n →
     list_any (λ (y : Task). y.id == x && is_below_assigned y) w.tables.tasks ≡ false →
-    duty_named (settle_answer w) ≡ Some (duty.Report n x) → IsQuiet q (effect w (duty.Report n x))
+    duty_named (settle_answer w) ≡ Some (duty.Report n x) → IsKnownQuiet q (effect w (duty.Report n x))
 report_quiet q w n x none is placed named =
     let d = duty.Report n x in
     let turn = agents_turn w d refl named in

@@ -35,7 +35,7 @@ abbrev pub IsQuietBefore : World → Option ℕ → Type 0
 IsQuietBefore w None = ⊤
 IsQuietBefore w (Some n) = first_of (flat_map (agent_duties w) (agents_before n w.agents)) ≡ None
 
-pub record IsQuiet (q : Quiet) (w : World) : Type 0 where
+pub record IsKnownQuiet (q : Quiet) (w : World) : Type 0 where
   pub tables : OnTrue q.tables (first_of (flat_map (λ r. duties r w) table_roles) ≡ None)
   pub before : IsQuietBefore w q.before
 

@@ -1,21 +1,22 @@
 // Doing the duties.
 ghost use Rattle.std.specs.Prelude.{◌≡◌, OnErr, OnOk, [], true};
 ghost use Rattle.swarm_duties.specs.Reached.{IsReached};
+ghost use Rattle.swarm_objects.specs.Usable.{IsUsableWorld};
 ghost use Rattle.swarm_model.specs.History.{effect};
 ghost use Rattle.swarm_objects.specs.Duties.{effect_by, is_due};
 ghost use Rattle.swarm_plain.specs.Plain.{world_of};
 
-use duty_agents::agents::{apply, beat, exec, forget, pull, register, report};
-use duty_orchestrators::dispatcher::{expire, orphan};
-use duty_orchestrators::enforcer::reject;
-use duty_orchestrators::global::{create_on_node, leave_node};
-use duty_orchestrators::jobs::{create_job_task, remove_old};
-use duty_orchestrators::reaper::remove_task;
-use duty_orchestrators::replicated::{create_replica, remove_gone, scale_down};
-use duty_orchestrators::restart::{raise, restart};
-use duty_placement::allocator::{address_task, give_port, note_task};
-use duty_placement::scheduler::{drop_task, explain_task, place_task};
-use duty_updates::update_effects::{
+use plain_agents::agents::{apply, beat, exec, forget, pull, register, report};
+use plain_orchestrators::dispatcher::{expire, orphan};
+use plain_orchestrators::enforcer::reject;
+use plain_orchestrators::global::{create_on_node, leave_node};
+use plain_orchestrators::jobs::{create_job_task, remove_old};
+use plain_orchestrators::reaper::remove_task;
+use plain_orchestrators::replicated::{create_replica, remove_gone, scale_down};
+use plain_orchestrators::restart::{raise, restart};
+use plain_placement::allocator::{address_task, give_port, note_task};
+use plain_placement::scheduler::{drop_task, explain_task, place_task};
+use plain_updates::update_effects::{
     fail_update, finish_update, replace_place, start_update, swap_place,
 };
 use swarm_objects::{Duty, NoMemory, Version};
@@ -23,7 +24,7 @@ use swarm_plain::Plain;
 
 // What the duty does as the entry with this number, but for the number of entries and the events.
 fn perform(plain: &mut Plain, version: Version, duty: Duty) -> Result<(), NoMemory>
-    requires { IsReached (world_of plain.old) }
+    requires { IsUsableWorld (world_of plain.old) }
     ensures ok { OnOk result (world_of plain.new ≡ effect_by version (world_of plain.old) duty) }
     ensures err { OnErr result (world_of plain.new ≡ world_of plain.old) }
 {
@@ -67,7 +68,7 @@ fn perform(plain: &mut Plain, version: Version, duty: Duty) -> Result<(), NoMemo
 
 // The duty becomes an entry, where nobody watches.
 fn do_unseen(plain: &mut Plain, duty: Duty) -> Result<(), NoMemory>
-    requires reached { IsReached (world_of plain.old) }
+    requires usable { IsUsableWorld (world_of plain.old) }
     requires unwatched { plain.old.watchers ≡ [] }
     ensures ok { OnOk result (world_of plain.new ≡ effect (world_of plain.old) duty) }
     ensures err { OnErr result (world_of plain.new ≡ world_of plain.old) }

@@ -1,15 +1,7 @@
 // What the settle test answers where no control loop has a duty.
 ghost use Rattle.std.specs.Prelude.{◌≡◌, find, flat_map, option_to_list};
 ghost use Rattle.std.specs.Option.{option_copied};
-ghost use Rattle.swarm_model.specs.Settle.{
-  first_wait,
-  held_by,
-  idle_answer,
-  is_holding,
-  is_paused,
-  is_paused_status,
-  paused_by,
-};
+ghost use Rattle.swarm_model.specs.Settle.{first_wait, held_by, idle_answer, is_holding, is_paused, is_paused_status, paused_by};
 ghost use Rattle.swarm_objects.specs.Bounds.{IsSmall};
 ghost use Rattle.swarm_objects.specs.Rows.{first_of};
 ghost use Rattle.swarm_objects.specs.Services.Runs.{has_open_run};
@@ -17,7 +9,7 @@ ghost use Rattle.swarm_plain.specs.Plain.{tables_of, world_of};
 
 use crate::update_waits::update_waits;
 use crate::waits::{Wait, executor_waits, remote_waits, session_waits, start_waits};
-use duty_updates::runs::{is_of_version, is_under_way};
+use role_words::{has_open_run, is_of_version};
 use swarm_objects::{RunStatus, Service, Settle, Task};
 use swarm_plain::Plain;
 
@@ -38,16 +30,6 @@ fn is_holding(service: &Service, task: &Task) -> bool
     ensures { result ≡ is_holding service.now task.now }
 {
     task.is_of(service.id) && task.is_live_clean(service) && task.is_below_running()
-}
-
-// The service has a run under way.
-fn has_open_run(service: &Service) -> bool
-    ensures { result ≡ has_open_run service.now }
-{
-    match &service.run {
-        Some(run) => is_under_way(run),
-        None => false,
-    }
 }
 
 // The first live clean task of the service below RUNNING.

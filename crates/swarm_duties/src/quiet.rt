@@ -1,7 +1,7 @@
 // Where no duty is, since an earlier look found none there and nothing that was done since touches it.
 ghost use Rattle.std.specs.Prelude.{◌≡◌, ◌==◌, ◌&&◌, ◌||◌, cond, true, false, None, Some};
 ghost use Rattle.std.specs.List.{list_any};
-ghost use Rattle.swarm_duties.specs.Quiet.{IsQuiet, IsQuietBefore, is_start};
+ghost use Rattle.swarm_duties.specs.Quiet.{IsKnownQuiet, IsQuietBefore, is_start};
 ghost use Rattle.swarm_model.specs.History.{effect};
 ghost use Rattle.swarm_model.specs.Settle.{settle_answer};
 ghost use Rattle.swarm_objects.specs.Kinds.{duty_named};
@@ -11,7 +11,7 @@ ghost use Rattle.swarm_objects.specs.Tasks.Words.{is_below_assigned};
 ghost use Rattle.swarm_plain.specs.Entries.{HasOrder};
 ghost use Rattle.swarm_plain.specs.Plain.{tables_of, world_of};
 
-use duty_agents::agents::agent_first;
+use plain_agents::agents::agent_first;
 use swarm_objects::{Duty, Id, NodeAgent};
 use swarm_plain::Plain;
 
@@ -84,7 +84,7 @@ fn is_unassigned(plain: &Plain, id: Id) -> bool
 // What stays quiet by a report. It raises the state of its task, and no agent is told of that.
 fn after_report(plain: &Plain, node: Id, task: Id) -> Quiet
     requires { duty_named (settle_answer (world_of plain.now)) ≡ Some (Duty.Report node task) }
-    ensures { IsQuiet result (effect (world_of plain.now) (Duty.Report node task)) }
+    ensures { IsKnownQuiet result (effect (world_of plain.now) (Duty.Report node task)) }
 {
     if is_unassigned(plain, task) {
         Quiet::nowhere()
@@ -97,7 +97,7 @@ fn after_report(plain: &Plain, node: Id, task: Id) -> Quiet
 /// a step of an executor, say, gives them none.
 pub fn quiet_after(plain: &Plain, named: Duty) -> Quiet
     requires { duty_named (settle_answer (world_of plain.now)) ≡ Some named }
-    ensures { IsQuiet result (effect (world_of plain.now) named) }
+    ensures { IsKnownQuiet result (effect (world_of plain.now) named) }
 {
     match named {
         Duty::Apply(node) => Quiet::before(node),

@@ -1,6 +1,7 @@
 // A world that is made entry by entry.
 ghost use Rattle.std.specs.Prelude.{◌≡◌};
 ghost use Rattle.swarm_duties.specs.Reached.{IsReached};
+ghost use Rattle.swarm_objects.specs.Usable.{IsUsableWorld};
 ghost use Rattle.swarm_duties.specs.Stepping.{DoesStep};
 ghost use Rattle.swarm_objects.specs.World.{empty_world};
 ghost use Rattle.swarm_plain.specs.Plain.{world_of};
@@ -43,6 +44,7 @@ impl Replay {
     pub fn plain(&self) -> &Plain
         ensures world { world_of result.now ≡ self.now }
         ensures reached { IsReached (world_of result.now) }
+        ensures usable { IsUsableWorld (world_of result.now) }
     {
         &self.plain
     }

@@ -1,8 +1,8 @@
 // The duties of each control loop, and the settle test.
 ghost use Rattle.std.specs.Prelude.{◌≡◌, IfOk, None, Ok, flat_map};
 ghost use Rattle.std.specs.Bool.{OnTrue};
-ghost use Rattle.swarm_duties.specs.Quiet.{IsQuiet, table_roles};
-ghost use Rattle.swarm_duties.specs.Reached.{IsReached};
+ghost use Rattle.swarm_duties.specs.Quiet.{IsKnownQuiet, table_roles};
+ghost use Rattle.swarm_objects.specs.Usable.{IsUsableWorld};
 ghost use Rattle.swarm_matching.specs.Matched.{IsMatched};
 ghost use Rattle.swarm_model.specs.Calls.{outcome};
 ghost use Rattle.swarm_model.specs.Outcome.{Gives};
@@ -14,17 +14,17 @@ ghost use Rattle.swarm_plain.specs.Plain.{world_of};
 
 use crate::idle::idle_answer;
 use crate::quiet::{Quiet, agents_first};
-use duty_agents::agents::agents_duties;
-use duty_orchestrators::dispatcher::{dispatcher_duties, dispatcher_first};
-use duty_orchestrators::enforcer::{enforcer_duties, enforcer_first};
-use duty_orchestrators::global::{global_duties, global_first};
-use duty_orchestrators::jobs::{job_duties, job_first};
-use duty_orchestrators::reaper::{reaper_duties, reaper_first};
-use duty_orchestrators::replicated::{replicated_duties, replicated_first};
-use duty_orchestrators::restart::{restart_duties, restart_first};
-use duty_placement::allocator::{allocator_duties, allocator_first};
-use duty_placement::scheduler::{scheduler_duties, scheduler_first};
-use duty_updates::updates::{update_duties, update_first};
+use plain_agents::agents::agents_duties;
+use plain_orchestrators::dispatcher::{dispatcher_duties, dispatcher_first};
+use plain_orchestrators::enforcer::{enforcer_duties, enforcer_first};
+use plain_orchestrators::global::{global_duties, global_first};
+use plain_orchestrators::jobs::{job_duties, job_first};
+use plain_orchestrators::reaper::{reaper_duties, reaper_first};
+use plain_orchestrators::replicated::{replicated_duties, replicated_first};
+use plain_orchestrators::restart::{restart_duties, restart_first};
+use plain_placement::allocator::{allocator_duties, allocator_first};
+use plain_placement::scheduler::{scheduler_duties, scheduler_first};
+use plain_updates::updates::{update_duties, update_first};
 use swarm_objects::{Call, Duty, List, NoMemory, Reply, Role, Settle};
 use swarm_plain::Plain;
 
@@ -44,7 +44,7 @@ const TABLE_LOOPS: [Role; 10] = [
 
 /// What the control loop has to do, in order.
 pub fn duties(plain: &Plain, role: Role) -> Result<List<Duty>, NoMemory>
-    requires { IsReached (world_of plain.now) }
+    requires { IsUsableWorld (world_of plain.now) }
     ensures { IfOk result (λ list. list ≡ duties role (world_of plain.now)) }
 {
     match role {
@@ -64,7 +64,7 @@ pub fn duties(plain: &Plain, role: Role) -> Result<List<Duty>, NoMemory>
 
 /// The first duty of the control loop, if it has one. What comes behind it isn't worked out.
 pub fn next_duty(plain: &Plain, role: Role) -> Option<Duty>
-    requires { IsReached (world_of plain.now) }
+    requires { IsUsableWorld (world_of plain.now) }
     ensures { result ≡ first_of (duties role (world_of plain.now)) }
 {
     match role {
@@ -84,7 +84,7 @@ pub fn next_duty(plain: &Plain, role: Role) -> Option<Duty>
 
 // The first duty of the first of these control loops that has one.
 fn first_among(plain: &Plain, loops: &[Role]) -> Option<Duty>
-    requires { IsReached (world_of plain.now) }
+    requires { IsUsableWorld (world_of plain.now) }
     ensures { let w = world_of plain.now in result ≡ first_of (flat_map (λ role. duties role w) loops.now) }
 {
     for role in loops {
@@ -98,7 +98,7 @@ fn first_among(plain: &Plain, loops: &[Role]) -> Option<Duty>
 
 // The first duty of the first of the control loops over the tables that has one. Where none has, none is asked.
 fn first_by_tables(plain: &Plain, quiet: bool) -> Option<Duty>
-    requires reached { IsReached (world_of plain.now) }
+    requires usable { IsUsableWorld (world_of plain.now) }
     requires quiet { let w = world_of plain.now in
         OnTrue quiet (first_of (flat_map (λ role. duties role w) table_roles) ≡ None) }
     ensures { let w = world_of plain.now in result ≡ first_of (flat_map (λ role. duties role w) table_roles) }
@@ -112,8 +112,8 @@ fn first_by_tables(plain: &Plain, quiet: bool) -> Option<Duty>
 
 // The first duty of the first control loop that has one.
 fn first_duty(plain: &Plain, quiet: Quiet) -> Option<Duty>
-    requires reached { IsReached (world_of plain.now) }
-    requires quiet { IsQuiet quiet (world_of plain.now) }
+    requires usable { IsUsableWorld (world_of plain.now) }
+    requires quiet { IsKnownQuiet quiet (world_of plain.now) }
     ensures { let w = world_of plain.now in result ≡ first_of (flat_map (λ role. duties role w) roles) }
 {
     match first_by_tables(plain, quiet.tables) {
@@ -124,8 +124,8 @@ fn first_duty(plain: &Plain, quiet: Quiet) -> Option<Duty>
 
 /// The settle test, which doesn't look where it is known to be quiet.
 pub fn settle_knowing(plain: &Plain, quiet: Quiet) -> Settle
-    requires reached { IsReached (world_of plain.now) }
-    requires quiet { IsQuiet quiet (world_of plain.now) }
+    requires usable { IsUsableWorld (world_of plain.now) }
+    requires quiet { IsKnownQuiet quiet (world_of plain.now) }
     ensures { result ≡ settle_answer (world_of plain.now) }
 {
     match first_duty(plain, quiet) {
@@ -136,7 +136,7 @@ pub fn settle_knowing(plain: &Plain, quiet: Quiet) -> Settle
 
 // The settle test, which looks everywhere.
 fn settled(plain: &Plain) -> Settle
-    requires { IsReached (world_of plain.now) }
+    requires { IsUsableWorld (world_of plain.now) }
     ensures answers { result ≡ settle_answer (world_of plain.now) }
     ensures matched { result ≡ Settle.Settled → IsMatched (world_of plain.now) }
 {
@@ -146,7 +146,7 @@ fn settled(plain: &Plain) -> Settle
 /// The settle test: the first duty of the first control loop that has one; else what is waited for, held or paused, or
 /// that all is settled. Then what runs matches the specifications. It takes no memory, so it always answers.
 pub fn settle(plain: &Plain) -> Result<Settle, NoMemory>
-    requires { IsReached (world_of plain.now) }
+    requires { IsUsableWorld (world_of plain.now) }
     ensures answers { result ≡ Ok (settle_answer (world_of plain.now)) }
     ensures matched { IfOk result (λ answer. answer ≡ Settle.Settled → IsMatched (world_of plain.now)) }
 {
@@ -156,7 +156,7 @@ pub fn settle(plain: &Plain) -> Result<Settle, NoMemory>
 /// Answers the call by which a line with this budget asks whether the world has settled, as an entry. It takes no
 /// memory.
 pub fn settle_call(plain: &mut Plain, budget: u64) -> Reply
-    requires { IsReached (world_of plain.old) }
+    requires { IsUsableWorld (world_of plain.old) }
     ensures gives { Gives (outcome (world_of plain.old) (Call.Settle budget)) result (world_of plain.new) }
     ensures matched { result ≡ Reply.Settle budget Settle.Settled → IsMatched (world_of plain.old) }
 {

@@ -1,6 +1,7 @@
 // One entry of a history, judged and done.
 ghost use Rattle.std.specs.Prelude.{◌≡◌, IfOk};
 ghost use Rattle.swarm_duties.specs.Reached.{IsReached};
+ghost use Rattle.swarm_objects.specs.Usable.{IsUsableWorld};
 ghost use Rattle.swarm_duties.specs.Stepping.{DoesStep};
 ghost use Rattle.swarm_model.specs.Calls.{is_admitted, outcome};
 ghost use Rattle.swarm_model.specs.History.{may_follow};
@@ -10,20 +11,20 @@ ghost use Rattle.swarm_plain.specs.Plain.{world_of};
 
 use crate::effects::do_duty;
 use crate::settling::settle_call;
-use duty_agents::agents::{
+use plain_agents::agents::{
     is_apply_due, is_beat_due, is_exec_due, is_forget_due, is_pull_due, is_register_due,
     is_report_due,
 };
-use duty_orchestrators::dispatcher::{is_expire_due, is_orphan_due};
-use duty_orchestrators::enforcer::is_reject_due;
-use duty_orchestrators::global::{is_global_create_due, is_leave_due};
-use duty_orchestrators::jobs::{is_job_create_due, is_old_due};
-use duty_orchestrators::reaper::{is_delete_due, is_trim_due};
-use duty_orchestrators::replicated::{is_down_due, is_gone_due, is_replicated_create_due};
-use duty_orchestrators::restart::{is_raise_due, is_restart_due};
-use duty_placement::allocator::{is_address_due, is_note_due, is_port_due};
-use duty_placement::scheduler::{is_drop_due, is_explain_due, is_place_due};
-use duty_updates::updates::{
+use plain_orchestrators::dispatcher::{is_expire_due, is_orphan_due};
+use plain_orchestrators::enforcer::is_reject_due;
+use plain_orchestrators::global::{is_global_create_due, is_leave_due};
+use plain_orchestrators::jobs::{is_job_create_due, is_old_due};
+use plain_orchestrators::reaper::{is_delete_due, is_trim_due};
+use plain_orchestrators::replicated::{is_down_due, is_gone_due, is_replicated_create_due};
+use plain_orchestrators::restart::{is_raise_due, is_restart_due};
+use plain_placement::allocator::{is_address_due, is_note_due, is_port_due};
+use plain_placement::scheduler::{is_drop_due, is_explain_due, is_place_due};
+use plain_updates::updates::{
     is_fail_due, is_finish_due, is_replace_due, is_start_due, is_swap_due,
 };
 use swarm_objects::limits::MOST_ENTRIES;
@@ -43,7 +44,7 @@ pub enum StepFault {
 
 // The duty is among those of its control loop, whose list isn't made.
 fn is_due(plain: &Plain, duty: Duty) -> bool
-    requires { IsReached (world_of plain.now) }
+    requires { IsUsableWorld (world_of plain.now) }
     ensures { result ≡ is_due (world_of plain.now) duty }
 {
     match duty {
@@ -84,7 +85,7 @@ fn is_due(plain: &Plain, duty: Duty) -> bool
 
 // The duty may come next.
 fn may_be_done(plain: &Plain, duty: Duty) -> bool
-    requires { IsReached (world_of plain.now) }
+    requires { IsUsableWorld (world_of plain.now) }
     ensures { result ≡ may_follow (world_of plain.now) (What.Duty duty) }
 {
     if plain.halted || plain.entries >= MOST_ENTRIES {
@@ -109,7 +110,7 @@ fn step_duty(plain: &mut Plain, duty: Duty) -> Result<Reply, StepFault>
 /// Answers a call, that of the settle test too. A refused call is an entry, unless the refusal is `Halted`, `Full` or
 /// `NoMemory`.
 pub fn answer(plain: &mut Plain, call: &Call) -> Reply
-    requires { IsReached (world_of plain.old) }
+    requires { IsUsableWorld (world_of plain.old) }
     ensures { Meets (outcome (world_of plain.old) call.now) (world_of plain.old) result (world_of plain.new) }
 {
     match call {
@@ -119,7 +120,7 @@ pub fn answer(plain: &mut Plain, call: &Call) -> Reply
 }
 
 fn step_call(plain: &mut Plain, call: &Call) -> Result<Reply, StepFault>
-    requires { IsReached (world_of plain.old) }
+    requires { IsUsableWorld (world_of plain.old) }
     ensures { DoesStep (world_of plain.old) (What.Call call.now) result (world_of plain.new) }
 {
     if plain.refuses(call).is_some() {

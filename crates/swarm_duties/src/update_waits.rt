@@ -3,16 +3,7 @@ ghost use Rattle.std.specs.Prelude.{◌≡◌, ◌&&◌, flat_map, true};
 ghost use Rattle.std.specs.List.{list_all};
 ghost use Rattle.std.specs.Ordering.{nat_cmp};
 ghost use Rattle.swarm_duties.specs.Flights.{item_times};
-ghost use Rattle.swarm_model.specs.Settle.{
-  flight_times,
-  flight_wait,
-  least_time,
-  run_wait,
-  update_wait,
-  wait_cmp,
-  watch_times,
-  watch_wait,
-};
+ghost use Rattle.swarm_model.specs.Settle.{flight_times, flight_wait, least_time, run_wait, update_wait, wait_cmp, watch_times, watch_wait};
 ghost use Rattle.swarm_objects.specs.Bounds.{HasNearTimes, is_near_run, is_near_service, is_near_task};
 ghost use Rattle.swarm_objects.specs.Rows.{keep_least, least_by};
 ghost use Rattle.swarm_objects.specs.Services.Runs.{is_flying};
@@ -21,11 +12,12 @@ ghost use Rattle.swarm_objects.specs.Tasks.Words.{is_running};
 ghost use Rattle.swarm_plain.specs.Plain.{tables_of};
 
 use crate::waits::{Wait, wait_till};
-use duty_rows::places::has_dirty_place;
-use duty_updates::runs::{has_room, is_flying, is_under_way, is_watched};
-use duty_updates::updates::has_waiting_place;
+use plain_updates::runs::{has_room, is_flying, is_watched};
+use plain_updates::updates::has_waiting_place;
+use role_words::is_under_way;
 use swarm_objects::{Cause, Ms, Replaced, Service, Task, UpdateRun};
 use swarm_plain::Plain;
+use swarm_plain::held::has_dirty_place;
 
 // The time, where it comes before the least one so far.
 fn keep_time(least: Option<Ms>, time: Ms) -> Option<Ms>

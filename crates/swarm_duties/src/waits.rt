@@ -25,9 +25,9 @@ ghost use Rattle.swarm_objects.specs.Rows.{agent_node, is_row_and, keep_least, l
 ghost use Rattle.swarm_objects.specs.Tasks.Words.{is_live, is_to_wait};
 ghost use Rattle.swarm_plain.specs.Plain.{tables_of, world_of};
 
-use duty_agents::executors::phase_time;
 use std::cmp::Ordering;
 use std::marker::Model;
+use swarm_agent::phase_time;
 use swarm_objects::{
     AgentMode, Cause, Desired, Id, Ms, Node, NodeAgent, Rows, Task, TaskState, rank,
 };

@@ -11,3 +11,4 @@ pub mod Constraints
 pub mod KeyTexts
 pub mod Written
 pub mod Examples
+pub mod Filtering

@@ -4,3 +4,4 @@ pub mod Keys
 pub mod Spellings
 pub mod Inside
 pub mod Faults
+pub mod Tested

@@ -1,8 +1,8 @@
 // Constraints from their texts.
-ghost use Rattle.std.specs.Prelude.{◌≡◌, ◌≤◌, length, IfErr, IfOk, IsTrue};
+ghost use Rattle.std.specs.Prelude.{◌≡◌, length, IfErr, IfOk, IsTrue};
 ghost use Rattle.swarm_filters.specs.Grammar.{HoldsExactly, IsConstraint, IsFault, IsOnly};
 ghost use Rattle.swarm_filters.specs.Machine.{constraint_of, whole_of};
-ghost use Rattle.swarm_filters.specs.Inside.States.{FoundFits, OptionPartsFit, PartsFit, PartsRead, SpanFits, StateFits};
+ghost use Rattle.swarm_filters.specs.Inside.States.{FoundFits, OptionPartsFit, PartsRead, SpanFits, StateFits};
 ghost use Rattle.swarm_filters.specs.Inside.States.{key_at, option_whole, shown, span_of, whole_at};
 ghost use Rattle.swarm_filters.specs.Spellings.{key_has_text};
 ghost use Rattle.swarm_objects.specs.Names.{is_value};

@@ -2,9 +2,10 @@
 ghost use Rattle.std.specs.Prelude.{◌≡◌, decimal};
 ghost use Rattle.std.specs.Str.{str_eq_ignore_ascii_case};
 ghost use Rattle.swarm_objects.specs.Nodes.Constraints.{has_value, label_value, meets};
+ghost use Rattle.swarm_objects.specs.Nodes.Words.{meets_all};
 
 use itoa::Buffer;
-use swarm_objects::{Constraint, Key, Labels, Node, NodeRole};
+use swarm_objects::{Constraint, Key, Labels, Node};
 
 /// Whether a node meets a constraint.
 pub fn matches(constraint: &Constraint, node: &Node) -> bool
@@ -52,4 +53,13 @@ fn value_of<'a>(labels: &'a Labels, name: &str) -> &'a str
         }
     }
     ""
+}
+
+/// The node meets each of the constraints.
+pub fn meets_all(constraints: &[Constraint], node: &Node) -> bool
+    ensures { result ≡ meets_all constraints.now node.now }
+{
+    constraints
+        .iter()
+        .all(|constraint| matches(constraint, node))
 }

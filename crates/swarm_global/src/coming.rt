@@ -2,13 +2,15 @@
 ghost use Rattle.std.specs.Prelude.{◌≡◌, flat_map};
 ghost use Rattle.swarm_objects.specs.Loops.Global.{come_duties, is_missing, wants_here};
 ghost use Rattle.swarm_objects.specs.Rows.{first_of};
-ghost use Rattle.swarm_roles.specs.Usable.{IsUsable};
+ghost use Rattle.swarm_objects.specs.Usable.{IsUsable};
 
+use role_words::is_held_place;
+use swarm_filters::meets_all;
+use swarm_objects::walks::{nodes, services};
 use swarm_objects::{Duty, Mode, Node, Rows, Service};
-use swarm_roles::{is_held_place, meets_all, nodes, services};
 
-// The node is to have a task of the service.
-fn wants_here(service: &Service, node: &Node) -> bool
+/// The node is to have a task of the service.
+pub fn wants_here(service: &Service, node: &Node) -> bool
     ensures { result ≡ wants_here service.now node.now }
 {
     node.is_ready()

@@ -2,10 +2,12 @@
 ghost use Rattle.std.specs.Prelude.{◌≡◌, flat_map};
 ghost use Rattle.swarm_objects.specs.Loops.Global.{is_to_leave, leave_duties, may_stay};
 ghost use Rattle.swarm_objects.specs.Rows.{first_of, is_row_and, node_id};
-ghost use Rattle.swarm_roles.specs.Usable.{IsUsable};
+ghost use Rattle.swarm_objects.specs.Usable.{IsUsable};
 
+use role_words::{is_held_place, place_numbers};
+use swarm_filters::meets_all;
+use swarm_objects::walks::services;
 use swarm_objects::{Duty, Id, Mode, Node, Rows, Service};
-use swarm_roles::{is_held_place, meets_all, place_numbers, services};
 
 // A task of the service may stay on the node.
 fn may_stay(service: &Service, node: &Node) -> bool
@@ -14,8 +16,8 @@ fn may_stay(service: &Service, node: &Node) -> bool
     node.is_valid_node() && meets_all(service.spec.template.constraints.as_slice(), node)
 }
 
-// A task of the service may stay on the node with this id.
-fn may_stay_on<R: Rows>(rows: &R, service: &Service, node: Id) -> bool
+/// A task of the service may stay on the node with this id.
+pub fn may_stay_on<R: Rows>(rows: &R, service: &Service, node: Id) -> bool
     ensures { result ≡ is_row_and node_id (may_stay service.now) (R.tables rows.now).nodes node }
 {
     match rows.node(node) {

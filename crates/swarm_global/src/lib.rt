@@ -8,11 +8,13 @@ mod leaving;
 ghost use Rattle.std.specs.Prelude.{◌≡◌};
 ghost use Rattle.swarm_objects.specs.Loops.Global.{global};
 ghost use Rattle.swarm_objects.specs.Rows.{first_of};
-ghost use Rattle.swarm_roles.specs.Usable.{IsUsable};
+ghost use Rattle.swarm_objects.specs.Usable.{IsUsable};
 
 use crate::coming::first_come;
 use crate::leaving::first_leave;
 pub use changing::changes;
+pub use coming::wants_here;
+pub use leaving::may_stay_on;
 use swarm_objects::{Duty, Rows};
 
 /// The first duty on global services.

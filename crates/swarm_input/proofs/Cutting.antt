@@ -2,7 +2,7 @@
 use Rattle.std.proofs.Common.{◌≡◌, ℕ, ◌+◌, List, [], ◌∷◌, ◌++◌, length, Bool, true, false, not, ◌||◌, refl, Option, Some, None, append_assoc, ◌∙◌, ap, sym, subst}
 use Rattle.std.specs.Io.KnownBytes.{Consumes, IsAtEnd, prepend_known}
 use Rattle.swarm_input.specs.Lines.{bytes_of}
-use Rattle.swarm_input.specs.LineBuffer.{LineBuffer, has_newline_in, TakesOn, ReadsLine, IsNothingLeft, HasFound, Gives, Cuts}
+use Rattle.swarm_input.specs.LineBuffer.{LineBuffer, has_newline_in, TakesOn, ReadsLine, IsNothingLeft, HasFound, HandsOut, Cuts}
 use Rattle.swarm_input.specs.declared.input.ScriptLine.{ScriptLine}
 
 nothing : (xs ys : List ℕ) → xs ++ ys ≡ [] → (xs ≡ []) × (ys ≡ [])
@@ -35,7 +35,7 @@ or_not a true c e h = cc
 or_not a false c e h = e
 
 pub gives : (old mid new : LineBuffer) (left left_after : Option (List ℕ)) (place : Option ℕ) (line : Option ScriptLine) → old.finished ≡ false → TakesOn old mid left left_after → HasFound mid left_after place →
-    Cuts mid new place line → Gives old new left left_after line
+    Cuts mid new place line → HandsOut old new left left_after line
 gives old mid new left left_after place None unfinished takes found cuts = (
   subst (λ (h : LineBuffer). TakesOn old h left left_after) (sym cuts.0) takes,
   λ e. nothing_left old.bytes takes.taken left left_after takes.source (sym takes.bytes ∙ cuts.1) (at_end mid left_after place found cuts.2),

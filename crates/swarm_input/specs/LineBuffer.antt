@@ -80,12 +80,12 @@ pub record IsOpen (held : LineBuffer) : Type 0 where
   pub within : held.read + length held.bytes ≤ most_bytes
 
 -- what was seen of the next line
-abbrev pub Sees : LineBuffer → Result (Option ℕ) ReadFault → Type 0
-Sees held (Ok (Some at)) = IsLineAt held at
-Sees held (Ok None) = IsOpen held
-Sees held (Err (Bad fault)) = (left : Option (List ℕ)) → BeginsBad held.read (to_read held left) fault
-Sees held (Err Failed) = ⊥
-Sees held (Err NoMemory) = ⊥
+abbrev pub SeesNext : LineBuffer → Result (Option ℕ) ReadFault → Type 0
+SeesNext held (Ok (Some at)) = IsLineAt held at
+SeesNext held (Ok None) = IsOpen held
+SeesNext held (Err (Bad fault)) = (left : Option (List ℕ)) → BeginsBad held.read (to_read held left) fault
+SeesNext held (Err Failed) = ⊥
+SeesNext held (Err NoMemory) = ⊥
 
 -- a fault of the source or of memory
 abbrev pub IsNotBad : ReadFault → Type 0
@@ -109,9 +109,9 @@ pub record GivesLine (old new : LineBuffer) (left left_after : Option (List ℕ)
   pub within : new.read ≤ most_bytes
 
 -- the next line was given, or there is none
-abbrev pub Gives : LineBuffer → LineBuffer → Option (List ℕ) → Option (List ℕ) → Option ScriptLine → Type 0
-Gives old new left left_after (Some line) = GivesLine old new left left_after line
-Gives old new left left_after None =
+abbrev pub HandsOut : LineBuffer → LineBuffer → Option (List ℕ) → Option (List ℕ) → Option ScriptLine → Type 0
+HandsOut old new left left_after (Some line) = GivesLine old new left left_after line
+HandsOut old new left left_after None =
     TakesOn old new left left_after × (old.finished ≡ false → IsNothingLeft (to_read old left))
 
 -- the line is the first of the held bytes

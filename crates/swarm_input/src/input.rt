@@ -6,7 +6,7 @@ ghost use Rattle.swarm_objects.specs.Limits.{longest_line};
 ghost use Rattle.swarm_objects.specs.Outside.{Rose};
 ghost use Rattle.swarm_input.specs.Lines.{is_newline};
 ghost use Rattle.swarm_input.specs.Script.{most_bytes};
-ghost use Rattle.swarm_input.specs.LineBuffer.{to_read, TakesOn, MeansFault, has_newline_in, Sees, IsOpen, IsNotBad, IsLineAt, HasFound, CutsLine, Cuts, Gives};
+ghost use Rattle.swarm_input.specs.LineBuffer.{to_read, TakesOn, MeansFault, has_newline_in, SeesNext, IsOpen, IsNotBad, IsLineAt, HasFound, CutsLine, Cuts, HandsOut};
 
 use crate::faults::Fault;
 use script_grammar::LineFault;
@@ -99,7 +99,7 @@ fn look_open(read: u64, bytes: &[u8]) -> Result<Option<usize>, ReadFault>
     requires read { read ≤ most_bytes }
     requires size { length bytes.now ≤ most_bytes + 1 }
     requires none { has_newline_in (take (longest_line + 1) bytes.now) ≡ false }
-    ensures { Sees (record { bytes = bytes.now; read = read; finished = false }) result }
+    ensures { SeesNext (record { bytes = bytes.now; read = read; finished = false }) result }
 {
     if bytes.len() > LINE {
         if read + LINE as u64 <= SCRIPT {
@@ -118,7 +118,7 @@ fn look_open(read: u64, bytes: &[u8]) -> Result<Option<usize>, ReadFault>
 fn look_at(read: u64, bytes: &[u8]) -> Result<Option<usize>, ReadFault>
     requires read { read ≤ most_bytes }
     requires size { length bytes.now ≤ most_bytes + 1 }
-    ensures { Sees (record { bytes = bytes.now; read = read; finished = false }) result }
+    ensures { SeesNext (record { bytes = bytes.now; read = read; finished = false }) result }
 {
     match newline_in(front(bytes, LINE + 1)) {
         Some(place) => {
@@ -166,7 +166,7 @@ impl Input {
 
     // What is seen of the next line: where its newline stands, if it is at hand.
     fn look(&self) -> Result<Option<usize>, ReadFault>
-        ensures sees { Sees self.now result }
+        ensures sees { SeesNext self.now result }
         ensures few { self.now.read + length self.now.bytes ≤ most_bytes + 1 }
     {
         look_at(self.read, &self.buffer[self.start..])
@@ -292,7 +292,7 @@ impl Input {
     /// Reads the next line; there is none at the end of the source. The source is that of all earlier calls. It is
     /// asked for bytes only where no whole line is at hand.
     pub fn next_line<S: Source>(&mut self, script: &mut S) -> Result<Option<ScriptLine>, ReadFault>
-        ensures line { IfOk result (λ line. Gives self.old self.new (S.left script.old) (S.left script.new) line) }
+        ensures line { IfOk result (λ line. HandsOut self.old self.new (S.left script.old) (S.left script.new) line) }
         ensures fault { IfErr result (λ fault. MeansFault fault self.old.read
             (to_read self.old (S.left script.old)) self.new) }
         ensures takes { OnErr result (TakesOn self.old self.new (S.left script.old) (S.left script.new)) }

@@ -2,13 +2,14 @@
 ghost use Rattle.std.specs.Prelude.{◌≡◌, IfOk};
 ghost use Rattle.swarm_objects.specs.Kinds.{role_of};
 ghost use Rattle.swarm_objects.specs.declared.loops.Role.TheVariants as role;
-ghost use Rattle.swarm_roles.specs.Changes.{Makes};
-ghost use Rattle.swarm_roles.specs.Effects.{after_duty};
-ghost use Rattle.swarm_roles.specs.Usable.{IsUsable};
+ghost use Rattle.swarm_objects.specs.ChangeLists.{Makes};
+ghost use Rattle.swarm_objects.specs.Effects.{after_duty};
+ghost use Rattle.swarm_objects.specs.Usable.{IsUsable};
 
+use role_words::create_task;
 use std::alloc::Global;
+use swarm_objects::effects::want;
 use swarm_objects::{Change, Desired, Duty, List, NoMemory, Rows, Version};
-use swarm_roles::{create_task, want};
 
 /// The changes that a duty on jobs makes as the entry with this number. Whether it is due isn't asked: what isn't
 /// there is left out.

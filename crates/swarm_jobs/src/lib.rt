@@ -8,15 +8,16 @@ ghost use Rattle.std.specs.Prelude.{◌≡◌, flat_map};
 ghost use Rattle.swarm_objects.specs.Loops.Jobs.{is_old, jobs, next_duty};
 ghost use Rattle.swarm_objects.specs.Loops.Words.{duty_where};
 ghost use Rattle.swarm_objects.specs.Rows.{first_of};
-ghost use Rattle.swarm_roles.specs.Usable.{IsUsable};
+ghost use Rattle.swarm_objects.specs.Usable.{IsUsable};
 
-use crate::slots::{is_old_of, next_duty};
+use crate::slots::next_duty;
 pub use changing::changes;
+pub use slots::is_old_of;
+use swarm_objects::walks::{services, tasks};
 use swarm_objects::{Duty, Rows, Task};
-use swarm_roles::{services, tasks};
 
-// The task is of an earlier iteration of its job, and isn't to be removed.
-fn is_old<R: Rows>(rows: &R, task: &Task) -> bool
+/// The task is of an earlier iteration of its job, and isn't to be removed.
+pub fn is_old<R: Rows>(rows: &R, task: &Task) -> bool
     ensures { result ≡ is_old (R.tables rows.now) task.now }
 {
     match rows.service(task.service) {

@@ -5,10 +5,11 @@ ghost use Rattle.swarm_objects.specs.Loops.Jobs.{has_old, is_old_of, next_duty};
 ghost use Rattle.swarm_objects.specs.Rows.{first_of};
 ghost use Rattle.swarm_objects.specs.Tasks.Words.{is_of};
 ghost use Rattle.std.specs.Prelude.{filter};
-ghost use Rattle.swarm_roles.specs.Usable.{IsUsable};
+ghost use Rattle.swarm_objects.specs.Usable.{IsUsable};
 
+use role_words::{first_gap, held_count, live_count};
+use swarm_objects::walks::tasks_of;
 use swarm_objects::{Duty, Mode, Rows, Service, Task};
-use swarm_roles::{first_gap, held_count, live_count, tasks_of};
 
 /// The task is of an earlier iteration of the job, and isn't to be removed.
 pub fn is_old_of(task: &Task, service: &Service) -> bool

@@ -9,10 +9,12 @@ use Rattle.swarm_model.proofs.Laws.GivesOut.{GivesOut}
 use Rattle.swarm_model.proofs.Moves.Worlds.{IsOrderly, Moves}
 use Rattle.swarm_model.specs.Calls.Faults.{on_agent}
 use Rattle.swarm_model.specs.Calls.Networks.{remove_network}
-use Rattle.swarm_model.specs.Calls.Nodes.{remove_node, respecified_node, update_node}
+use Rattle.swarm_model.specs.Calls.Nodes.{remove_node, update_node}
+use Rattle.swarm_objects.specs.NewRows.{respecified_node}
 use Rattle.swarm_model.specs.Calls.Operations.{apply_op, apply_ops}
 use Rattle.swarm_model.specs.Calls.Refusals.{conflict, found as found_row, network_by, node_by, service_by}
-use Rattle.swarm_model.specs.Calls.Remote.{begin_with, given_or, not_admitted, on_remote, on_session, pulled, report}
+use Rattle.swarm_model.specs.Calls.Remote.{begin_with, given_or, on_remote, on_session, pulled, report}
+use Rattle.swarm_objects.specs.Nodes.Admission.{not_admitted}
 use Rattle.swarm_model.specs.Calls.Services.{go_back, remove_service, rollback_service, update_service}
 use Rattle.swarm_model.specs.Calls.Views.{View, shows}
 use Rattle.swarm_model.specs.Calls.Watches.{polled, told_at, waiting_events, watch_finish, watch_poll, without_watcher}
@@ -65,8 +67,9 @@ use Rattle.swarm_model.proofs.Laws.Prefixes.{each-prefix}
 use Rattle.swarm_model.proofs.Laws.Timely.{each-changed, each-pushed, each-with_row}
 use Rattle.swarm_model.proofs.Moves.Rows.{becomes-cases, between-has}
 use Rattle.swarm_model.proofs.Moves.Worlds.{TaskMoves}
-use Rattle.swarm_model.specs.Calls.Faults.{failed_agent, lost}
-use Rattle.swarm_model.specs.Calls.Nodes.{new_agent, with_agent_if}
+use Rattle.swarm_objects.specs.Agents.NodeAgents.{failed_agent, lost}
+use Rattle.swarm_objects.specs.Agents.NodeAgents.{new_agent}
+use Rattle.swarm_model.specs.Calls.Nodes.{with_agent_if}
 use Rattle.swarm_objects.proofs.RowLemmas.{Has-map_cases}
 use Rattle.swarm_objects.proofs.Tests.{never-both}
 use Rattle.swarm_objects.specs.Agents.Executors.{at_time, ending, executor_step, exited, is_late, is_to_go, moved, prepared, wants_to_stop}

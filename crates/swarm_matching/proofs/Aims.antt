@@ -1,11 +1,12 @@
 -- What is wanted of an executor and whether it is gone: what a message makes of that, task by task.
+use Rattle.swarm_objects.proofs.Aims.{Aim, aim}
 use Rattle.std.proofs.Common.{Bool, List, None, Option, Some, [], ap, arith, cond, eqb, false, inl, inr, not, refl, subst, sym, true, ℕ, ◌∙◌, ◌∷◌, ◌≡◌}
 use Rattle.std.proofs.lemmas.Bool.Decides.{nat_tests}
 use Rattle.std.specs.List.{list_any}
 use Rattle.std.specs.Option.{option_map}
 use Rattle.std.specs.Prelude.{fold, is_some, ◌&&◌}
-use Rattle.swarm_matching.proofs.Hearing.{applied-at, heard}
-use Rattle.swarm_matching.specs.Messages.{aimed_or_new}
+use Rattle.swarm_objects.proofs.Hearing.{applied-at, heard}
+use Rattle.swarm_objects.specs.Agents.Hearing.{aimed_or_new}
 use Rattle.swarm_objects.proofs.RowLemmas.{Has-from_row_at}
 use Rattle.swarm_objects.specs.Agents.Messages.{applied, gone_executor, left_out, names}
 use Rattle.swarm_objects.specs.Rows.{Has, executor_task, row_at}
@@ -14,13 +15,6 @@ use Rattle.swarm_objects.specs.declared.messages.AssignChange.TheVariants as ass
 use Rattle.swarm_objects.specs.declared.messages.AssignChange.{AssignChange}
 use Rattle.swarm_objects.specs.declared.messages.Assigned.{Assigned}
 use Rattle.swarm_objects.specs.declared.messages.Message.{Message}
-use Rattle.swarm_objects.specs.declared.tasks.Desired.{Desired}
-
-abbrev pub Aim : Type 0
-Aim = Desired × Bool
-
-abbrev pub aim : Executor → Aim
-aim e = (e.desired, e.gone)
 
 -- the aim of the task's executor
 abbrev pub aim_at : List Executor → ℕ → Option Aim

@@ -6,7 +6,8 @@ use Rattle.swarm_matching.proofs.AimSteps.{row_at-drop_other, row_at-drop_same}
 use Rattle.swarm_matching.proofs.Closings.{by-last}
 use Rattle.swarm_matching.proofs.Known.{Known, known-replay}
 use Rattle.swarm_matching.proofs.TogetherCalls.{together-replay}
-use Rattle.swarm_matching.specs.Fresh.{AreFresh, FreshLaw, IsFresh, is_stale}
+use Rattle.swarm_matching.specs.Fresh.{AreFresh, FreshLaw, IsFresh}
+use Rattle.swarm_objects.specs.Agents.Messages.{is_stale}
 use Rattle.swarm_matching.specs.Sent.{HasOwners, inside_numbers, is_inside}
 use Rattle.swarm_model.proofs.Base.Answers.{OnGiven, given-found, given-if, given-if_not, given-unless, given-unless_some, ops-keep}
 use Rattle.swarm_model.proofs.Base.FromLists.{IsDuty-due}
@@ -18,12 +19,16 @@ use Rattle.swarm_model.proofs.Moves.Calls.{find-has}
 use Rattle.swarm_model.proofs.Moves.Operations.{op-moves}
 use Rattle.swarm_model.proofs.Moves.Rows.{between-has, between-one}
 use Rattle.swarm_model.proofs.Moves.Worlds.{IsOrderly, Moves, orderly-moves}
-use Rattle.swarm_model.specs.Calls.Faults.{failed_agent, in_mode, mode_after_start, mode_after_stop, on_agent, started_agent}
+use Rattle.swarm_objects.specs.Agents.NodeAgents.{failed_agent, in_mode, mode_after_start, mode_after_stop, started_agent}
+use Rattle.swarm_model.specs.Calls.Faults.{on_agent}
 use Rattle.swarm_model.specs.Calls.Networks.{remove_network}
-use Rattle.swarm_model.specs.Calls.Nodes.{new_agent, new_node, remove_node, respecified_node, update_node, with_agent_if, with_node, without_node}
+use Rattle.swarm_objects.specs.Agents.NodeAgents.{new_agent}
+use Rattle.swarm_objects.specs.NewRows.{new_node, respecified_node}
+use Rattle.swarm_model.specs.Calls.Nodes.{remove_node, update_node, with_agent_if, with_node, without_node}
 use Rattle.swarm_model.specs.Calls.Operations.{apply_op, apply_ops}
 use Rattle.swarm_model.specs.Calls.Refusals.{Done, conflict, found as found_row, has_name, network_by, node_by, node_name, service_by}
-use Rattle.swarm_model.specs.Calls.Remote.{begin_with, given_or, not_admitted, on_remote, on_session, pulled, report}
+use Rattle.swarm_model.specs.Calls.Remote.{begin_with, given_or, on_remote, on_session, pulled, report}
+use Rattle.swarm_objects.specs.Nodes.Admission.{not_admitted}
 use Rattle.swarm_model.specs.Calls.Services.{go_back, remove_service, rollback_service, update_service}
 use Rattle.swarm_model.specs.Calls.Views.{View, shows}
 use Rattle.swarm_model.specs.Calls.Watches.{polled, told_at, waiting_events, watch_finish, watch_poll, without_watcher}

@@ -11,7 +11,8 @@ use Rattle.swarm_model.proofs.Moves.Placing.{best-is}
 use Rattle.swarm_model.proofs.Moves.Rows.{between-one}
 use Rattle.swarm_model.proofs.Moves.Worlds.{IsGood}
 use Rattle.swarm_model.specs.Calls.Nodes.{is_left_behind, tables_without_node}
-use Rattle.swarm_model.specs.Calls.Remote.{begun_tables, with_resources}
+use Rattle.swarm_model.specs.Calls.Remote.{begun_tables}
+use Rattle.swarm_objects.specs.Nodes.Opening.{with_resources}
 use Rattle.swarm_model.specs.History.{IsLegal, replay}
 use Rattle.swarm_model.specs.Laws.Rises.{KeepsNode}
 use Rattle.swarm_objects.proofs.RowLemmas.{Has-append_left, Has-filter, Has-map, Has-map_cases}

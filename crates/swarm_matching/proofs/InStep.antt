@@ -1,18 +1,17 @@
 -- What an agent's executors will be, what was sent, and which tasks are there go together.
+use Rattle.swarm_objects.proofs.Aims.{same-aim, Aim, aim}
 use Rattle.std.proofs.Common.{Bool, List, None, Option, Some, [], ap, arith, cond, eqb, false, inl, inr, not, refl, subst, sym, true, ℕ, ◌<◌, ◌∙◌, ◌≡◌, ◌⊎◌}
 use Rattle.std.proofs.lemmas.Bool.Decides.{nat_tests}
 use Rattle.std.specs.Option.{option_map}
-use Rattle.std.specs.Prelude.{is_some, ◌&&◌, ◌==◌}
-use Rattle.swarm_objects.specs.Same.{same_workload}
-use Rattle.swarm_objects.specs.Values.Ranks.{desired_rank}
+use Rattle.std.specs.Prelude.{is_some}
 use Rattle.swarm_objects.specs.declared.tasks.Desired.TheVariants as desired
-use Rattle.swarm_matching.proofs.Aims.{Aim, aim, aim_at, applied-aims, is_gone, is_kept, stays-gone, will}
-use Rattle.swarm_matching.proofs.Hearing.{message-tells}
-use Rattle.swarm_matching.specs.Messages.{aimed_or_new, executor_after, is_sent_so, may_have}
+use Rattle.swarm_matching.proofs.Aims.{aim_at, applied-aims, is_gone, is_kept, stays-gone, will}
+use Rattle.swarm_objects.proofs.Hearing.{message-tells}
+use Rattle.swarm_objects.specs.Agents.Hearing.{aimed_or_new, executor_after, is_sent_so, may_have}
 use Rattle.swarm_model.proofs.Moves.Rows.{becomes-cases, between-has}
 use Rattle.swarm_model.proofs.Moves.Worlds.{TablesMove, TaskMoves}
 use Rattle.swarm_objects.proofs.RowLemmas.{Has-from_row_at}
-use Rattle.swarm_objects.proofs.Tests.{any-has, first_so, never-both, second_so}
+use Rattle.swarm_objects.proofs.Tests.{any-has, never-both}
 use Rattle.swarm_objects.specs.Agents.Messages.{gone_executor, assigned_task, next_message, same_assigned}
 use Rattle.swarm_objects.specs.Rows.{Has, IsRising, executor_task, has_row, row_at, task_id}
 use Rattle.swarm_objects.specs.World.{Tables}
@@ -169,38 +168,6 @@ in-step-left t sent inbox now then x dead away same is = record {
     lost y k false q = is.gone y (subst (λ (o : Option Aim). is_gone (will y inbox o) ≡ true) (same y q) k)
 
 -- Pulling: what is due was sent, and the message waits.
-
--- a desired state is told by its number
-abbrev desired_of : ℕ → Desired
-desired_of n =
-    cond (eqb n (desired_rank desired.Ready)) desired.Ready
-    (cond (eqb n (desired_rank desired.Running)) desired.Running
-    (cond (eqb n (desired_rank desired.Complete)) desired.Complete
-    (cond (eqb n (desired_rank desired.Shutdown)) desired.Shutdown desired.Remove)))
-
-desired-back : (d : Desired) → desired_of (desired_rank d) ≡ d
-desired-back desired.Ready = refl
-desired-back desired.Running = refl
-desired-back desired.Complete = refl
-desired-back desired.Shutdown = refl
-desired-back desired.Remove = refl
-
-pub same-desired : (d e : Desired) → desired_rank d ≡ desired_rank e → d ≡ e
-same-desired d e same = sym (desired-back d) ∙ ap desired_of same ∙ desired-back e
-
--- the same task and the same desired state
-pub same-aim : (a b : Assigned) → same_assigned a b ≡ true → (b.task ≡ a.task) × (b.desired ≡ a.desired)
-same-aim a b e =
-    let one : (a.task == b.task && desired_rank a.desired == desired_rank b.desired) ≡ true =
-    first_so (a.task == b.task && desired_rank a.desired == desired_rank b.desired)
-    (same_workload a.workload b.workload) e in
-    let first : (a.task == b.task) ≡ true =
-    first_so (a.task == b.task) (desired_rank a.desired == desired_rank b.desired) one in
-    let second : (desired_rank a.desired == desired_rank b.desired) ≡ true =
-    second_so (a.task == b.task) (desired_rank a.desired == desired_rank b.desired) one in
-    let number : a.task ≡ b.task = grind (arith, nat_tests, first) in
-    let wanted : desired_rank a.desired ≡ desired_rank b.desired = grind (arith, nat_tests, second) in
-    (sym number, same-desired b.desired a.desired (sym wanted))
 
 kept-not : (p : Aim) → p.1 ≡ true → ¬ (is_kept (Some p) ≡ true)
 kept-not p gone e = let wrong : not true ≡ true = subst (λ (b : Bool). not b ≡ true) gone e in cc

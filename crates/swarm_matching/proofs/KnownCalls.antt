@@ -10,10 +10,12 @@ use Rattle.swarm_model.proofs.Moves.Rows.{between-one}
 use Rattle.swarm_model.proofs.Moves.Worlds.{IsOrderly, Moves, orderly-moves}
 use Rattle.swarm_model.specs.Calls.Faults.{on_agent}
 use Rattle.swarm_model.specs.Calls.Networks.{remove_network}
-use Rattle.swarm_model.specs.Calls.Nodes.{new_node, remove_node, respecified_node, update_node}
+use Rattle.swarm_objects.specs.NewRows.{new_node, respecified_node}
+use Rattle.swarm_model.specs.Calls.Nodes.{remove_node, update_node}
 use Rattle.swarm_model.specs.Calls.Operations.{apply_op, apply_ops}
 use Rattle.swarm_model.specs.Calls.Refusals.{Done, conflict, found, has_name, network_by, node_by, node_name, service_by}
-use Rattle.swarm_model.specs.Calls.Remote.{begin_with, given_or, not_admitted, on_remote, on_session, pulled, report}
+use Rattle.swarm_model.specs.Calls.Remote.{begin_with, given_or, on_remote, on_session, pulled, report}
+use Rattle.swarm_objects.specs.Nodes.Admission.{not_admitted}
 use Rattle.swarm_model.specs.Calls.Services.{go_back, remove_service, rollback_service, update_service}
 use Rattle.swarm_model.specs.Calls.Views.{View, shows}
 use Rattle.swarm_model.specs.Calls.Watches.{polled, told_at, waiting_events, watch_finish, watch_poll, without_watcher}
@@ -55,7 +57,8 @@ use Rattle.swarm_objects.specs.declared.watches.Watcher.{Watcher}
 use Rattle.std.proofs.Common.{ap, ◌++◌, ◌∙◌, ◌∷◌}
 use Rattle.std.specs.Prelude.{fold, map}
 use Rattle.swarm_model.specs.Calls.Nodes.{is_left_behind}
-use Rattle.swarm_model.specs.Calls.Remote.{Kept, begun_tables, fits_in, keep_task, keep_other}
+use Rattle.swarm_model.specs.Calls.Remote.{begun_tables}
+use Rattle.swarm_objects.specs.Nodes.Opening.{TakenSoFar, fits_in, keep_task, keep_other}
 use Rattle.swarm_objects.specs.Changes.{in_state, raised_to}
 use Rattle.swarm_objects.specs.Nodes.Holdings.{is_placed_on}
 use Rattle.swarm_matching.proofs.Closings.{by-last}
@@ -66,7 +69,7 @@ use Rattle.swarm_matching.proofs.ShapeDuties.{map-push}
 use Rattle.swarm_matching.proofs.PlaceLists.{append-none}
 use Rattle.swarm_model.proofs.Base.Histories.{replay-snoc}
 use Rattle.swarm_model.proofs.Moves.Opening.{regroup}
-use Rattle.swarm_model.specs.Calls.Remote.{with_resources}
+use Rattle.swarm_objects.specs.Nodes.Opening.{with_resources}
 use Rattle.swarm_objects.proofs.RowLemmas.{Has-append_cases, Has-map_cases}
 use Rattle.std.proofs.Common.{inr}
 
@@ -164,7 +167,7 @@ still : (w : World) → NodeStep w.tables w.tables
 still w = same-step w.tables w.tables refl refl (omega arith)
 
 -- the tasks that still fit have the nodes that they had
-within-nodes : (version clock node : ℕ) (kept : Kept) (xs : List Task) →
+within-nodes : (version clock node : ℕ) (kept : TakenSoFar) (xs : List Task) →
     map (λ (x : Task). x.node) (fold (keep_other version clock node) kept xs).tasks
     ≡ map (λ (x : Task). x.node) kept.tasks ++ map (λ (x : Task). x.node) xs
 within-nodes version clock node kept [] = sym (append-none (map (λ (x : Task). x.node) kept.tasks))

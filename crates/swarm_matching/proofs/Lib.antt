@@ -13,7 +13,6 @@ pub mod Fresh
 pub mod GlobalPlaces
 pub mod Goals
 pub mod HasClosings
-pub mod Hearing
 pub mod Held
 pub mod HomeNodes
 pub mod InStep

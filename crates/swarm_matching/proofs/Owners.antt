@@ -3,7 +3,8 @@ use Rattle.std.proofs.Common.{Bool, List, [], ap, arith, cond, eqb, false, inl, 
 use Rattle.std.proofs.lemmas.Bool.Decides.{nat_tests}
 use Rattle.std.specs.Prelude.{filter, map}
 use Rattle.swarm_matching.specs.Sent.{inside_numbers, is_inside}
-use Rattle.swarm_model.specs.Calls.Nodes.{new_agent, with_agent_if}
+use Rattle.swarm_objects.specs.Agents.NodeAgents.{new_agent}
+use Rattle.swarm_model.specs.Calls.Nodes.{with_agent_if}
 use Rattle.swarm_objects.specs.Rows.{Has, agent_node, change_row, drop_row, itself, node_id}
 use Rattle.swarm_objects.specs.declared.agents.NodeAgent.{NodeAgent}
 use Rattle.swarm_objects.specs.declared.nodes.Node.{Node}

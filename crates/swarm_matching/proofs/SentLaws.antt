@@ -1,7 +1,8 @@
 -- What was sent, and what the executors of agents will be, said of rows.
 use Rattle.std.proofs.Common.{None, Option, Some, ap, false, is_some, refl, subst, sym, true, ℕ, ◌∙◌, ◌≡◌}
 use Rattle.std.specs.Option.{option_map}
-use Rattle.swarm_matching.proofs.Aims.{Aim, aim, aim_at, applied-aims, is_gone, is_kept, updated-some, will}
+use Rattle.swarm_objects.proofs.Aims.{Aim, aim}
+use Rattle.swarm_matching.proofs.Aims.{aim_at, applied-aims, is_gone, is_kept, updated-some, will}
 use Rattle.swarm_matching.proofs.InStep.{InStep}
 use Rattle.swarm_matching.proofs.TogetherCalls.{together-replay}
 use Rattle.swarm_matching.specs.Sent.{AreAsSent, HasOwners, IsAsSent, OwnersLaw, SentLaw, executor_next}

@@ -5,9 +5,11 @@ use Rattle.std.specs.Option.{option_map}
 use Rattle.std.specs.Prelude.{⊤}
 use Rattle.std.specs.Prelude.{filter, is_some, nat_le, ◌&&◌, ◌||◌}
 use Rattle.swarm_matching.proofs.Ahead.{ahead-replay}
-use Rattle.swarm_matching.proofs.Aims.{aim, aim_at, is_kept}
-use Rattle.swarm_matching.proofs.Hearing.{keys-has, rows-left, update-row}
-use Rattle.swarm_matching.proofs.InStep.{InStep, same-aim}
+use Rattle.swarm_objects.proofs.Aims.{aim}
+use Rattle.swarm_matching.proofs.Aims.{aim_at, is_kept}
+use Rattle.swarm_objects.proofs.Hearing.{keys-has, rows-left, update-row}
+use Rattle.swarm_matching.proofs.InStep.{InStep}
+use Rattle.swarm_objects.proofs.Aims.{same-aim}
 use Rattle.swarm_matching.proofs.Known.{Known, known-replay}
 use Rattle.swarm_matching.proofs.QuietAgents.{quiet-agents}
 use Rattle.swarm_matching.proofs.SentLaws.{with-aim}

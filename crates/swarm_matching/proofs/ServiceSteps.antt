@@ -5,7 +5,7 @@ use Rattle.std.specs.Prelude.{◌&&◌, ◌==◌, ◌||◌}
 use Rattle.swarm_matching.proofs.PlaceLists.{SamePlaces, counts-of}
 use Rattle.swarm_matching.proofs.Shapes.{Base, Respecifies, RunStep, SameButRun, begins, ends, goes_back}
 use Rattle.swarm_model.proofs.Laws.OneEach.{job-alike}
-use Rattle.swarm_model.specs.Calls.Services.{next_iteration}
+use Rattle.swarm_objects.specs.NewRows.{next_iteration}
 use Rattle.swarm_objects.proofs.Tests.{false_from_ne_true, never-both}
 use Rattle.swarm_objects.specs.Rows.{Has}
 use Rattle.swarm_objects.specs.Services.Words.{is_job}

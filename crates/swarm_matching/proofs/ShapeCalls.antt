@@ -10,10 +10,14 @@ use Rattle.swarm_model.proofs.Moves.Rows.{becomes-filter, between-one}
 use Rattle.swarm_model.proofs.Moves.Worlds.{IsOrderly, Moves, orderly-moves}
 use Rattle.swarm_model.specs.Calls.Faults.{on_agent}
 use Rattle.swarm_model.specs.Calls.Networks.{remove_network}
-use Rattle.swarm_model.specs.Calls.Nodes.{new_node, remove_node, respecified_node, update_node}
+use Rattle.swarm_objects.specs.NewRows.{new_node, respecified_node}
+use Rattle.swarm_model.specs.Calls.Nodes.{remove_node, update_node}
 use Rattle.swarm_model.specs.Calls.Operations.{apply_op}
-use Rattle.swarm_model.specs.Calls.Refusals.{Done, bad_spec, conflict, found, missing_network, name_taken, network_by, node_by, node_name, port_taken, refuse, same_mode, service_by, service_name}
-use Rattle.swarm_model.specs.Calls.Remote.{begin_with, given_or, not_admitted, on_remote, on_session, pulled, report}
+use Rattle.swarm_model.specs.Calls.Refusals.{Done, bad_spec, conflict, found, missing_network, name_taken, network_by, node_by, node_name, port_taken, service_by, service_name}
+use Rattle.swarm_objects.specs.NewRows.{same_mode}
+use Rattle.swarm_objects.specs.Refusals.{refuse}
+use Rattle.swarm_model.specs.Calls.Remote.{begin_with, given_or, on_remote, on_session, pulled, report}
+use Rattle.swarm_objects.specs.Nodes.Admission.{not_admitted}
 use Rattle.swarm_model.specs.Calls.Services.{broken_draft, create_service, go_back, is_attempt_of, remove_service, rollback_service, update_service, without_service}
 use Rattle.swarm_model.specs.Calls.Views.{View, shows}
 use Rattle.swarm_model.specs.Calls.Watches.{polled, told_at, waiting_events, watch_finish, watch_poll, without_watcher}
@@ -63,8 +67,10 @@ use Rattle.swarm_model.proofs.Laws.OneEach.{alike-by, previous-kind}
 use Rattle.swarm_model.proofs.Laws.KeptCalls.{named-has, respecified-room}
 use Rattle.swarm_model.proofs.Moves.Opening.{regroup}
 use Rattle.swarm_model.specs.Calls.Nodes.{is_left_behind, tables_without_node}
-use Rattle.swarm_model.specs.Calls.Remote.{Kept, begun_tables, fits_in, keep_task, keep_other}
-use Rattle.swarm_model.specs.Calls.Services.{filled, new_service, respecified, with_service}
+use Rattle.swarm_model.specs.Calls.Remote.{begun_tables}
+use Rattle.swarm_objects.specs.Nodes.Opening.{TakenSoFar, fits_in, keep_task, keep_other}
+use Rattle.swarm_model.specs.Calls.Services.{filled, new_service, with_service}
+use Rattle.swarm_objects.specs.NewRows.{respecified}
 use Rattle.swarm_objects.specs.Changes.{change_service, change_task, in_state, raised_to}
 use Rattle.swarm_objects.specs.Nodes.Holdings.{is_placed_on}
 
@@ -279,7 +285,7 @@ hidden-by w t tasks services =
     ∙ ap (λ (xs : List Task). record (shape w.tables) { tasks = xs }) tasks
 
 -- the tasks that still fit are the same ones, some of them rejected
-within-hidden : (version clock node : ℕ) (kept : Kept) (xs : List Task) →
+within-hidden : (version clock node : ℕ) (kept : TakenSoFar) (xs : List Task) →
     map blank (fold (keep_other version clock node) kept xs).tasks ≡ map blank kept.tasks ++ map blank xs
 within-hidden version clock node kept [] = sym (append-none (map blank kept.tasks))
 within-hidden version clock node kept (x ∷ xs) =

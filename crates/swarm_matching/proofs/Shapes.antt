@@ -4,7 +4,7 @@ use Rattle.std.specs.Option.{option_map}
 use Rattle.std.specs.Prelude.{length, map}
 use Rattle.swarm_model.proofs.Laws.OneEach.{IsAlike}
 use Rattle.swarm_model.proofs.Moves.Rows.{RisesBetween}
-use Rattle.swarm_model.specs.Calls.Services.{next_iteration, version_of_template}
+use Rattle.swarm_objects.specs.NewRows.{next_iteration, version_of_template}
 use Rattle.swarm_model.specs.Closing.{Closing}
 use Rattle.swarm_objects.specs.Changes.{change_service, change_task, change_where, wanted, without_place}
 use Rattle.swarm_objects.specs.Loops.Reaper.{without_task}

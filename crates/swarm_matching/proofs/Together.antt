@@ -3,8 +3,10 @@ use Rattle.std.proofs.Common.{Bool, List, None, Option, Some, [], ap, arith, con
 use Rattle.std.proofs.lemmas.Bool.Decides.{nat_tests}
 use Rattle.std.specs.Option.{option_map}
 use Rattle.std.specs.Prelude.{filter, map}
-use Rattle.swarm_matching.proofs.AimSteps.{aims-change, row_at-drop_other, row_at-drop_same, stepped-aim}
-use Rattle.swarm_matching.proofs.Aims.{aim, aim_at, applied-aims, is_gone}
+use Rattle.swarm_matching.proofs.AimSteps.{aims-change, row_at-drop_other, row_at-drop_same}
+use Rattle.swarm_objects.proofs.Aims.{stepped-aim}
+use Rattle.swarm_objects.proofs.Aims.{aim}
+use Rattle.swarm_matching.proofs.Aims.{aim_at, applied-aims, is_gone}
 use Rattle.swarm_matching.proofs.InStep.{InStep, IsPull, in-step-applied, in-step-as, in-step-begun, in-step-left, in-step-moves, in-step-pulled}
 use Rattle.swarm_matching.proofs.ShapeDuties.{found}
 use Rattle.swarm_model.proofs.Base.IsDuty.{IsDuty}

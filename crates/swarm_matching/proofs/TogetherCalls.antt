@@ -8,11 +8,14 @@ use Rattle.swarm_model.proofs.Base.Histories.{room_duty}
 use Rattle.swarm_model.proofs.Moves.Worlds.{IsOrderly, Moves}
 use Rattle.swarm_model.specs.Calls.Faults.{on_agent}
 use Rattle.swarm_model.specs.Calls.Networks.{remove_network}
-use Rattle.swarm_model.specs.Calls.Nodes.{remove_node, respecified_node, update_node}
+use Rattle.swarm_model.specs.Calls.Nodes.{remove_node, update_node}
+use Rattle.swarm_objects.specs.NewRows.{respecified_node}
 use Rattle.swarm_model.specs.Calls.Operations.{apply_op, apply_ops}
 use Rattle.swarm_model.specs.Calls.Refusals.{conflict, found as found_row, network_by, node_by, service_by}
-use Rattle.swarm_model.specs.Calls.Remote.{begin_with, given_or, not_admitted, on_remote, on_session, pulled, report}
-use Rattle.swarm_model.specs.Calls.Services.{go_back, put_service, respecified, remove_service, rollback_service, update_service}
+use Rattle.swarm_model.specs.Calls.Remote.{begin_with, given_or, on_remote, on_session, pulled, report}
+use Rattle.swarm_objects.specs.Nodes.Admission.{not_admitted}
+use Rattle.swarm_model.specs.Calls.Services.{go_back, put_service, remove_service, rollback_service, update_service}
+use Rattle.swarm_objects.specs.NewRows.{respecified}
 use Rattle.swarm_model.specs.Calls.Views.{View, shows}
 use Rattle.swarm_model.specs.Calls.Watches.{polled, told_at, waiting_events, watch_finish, watch_poll, without_watcher}
 use Rattle.swarm_model.specs.Calls.{answer, answered, txn_answer, viewed}
@@ -50,7 +53,8 @@ use Rattle.swarm_objects.specs.declared.watches.Watcher.{Watcher}
 use Rattle.swarm_matching.proofs.Closings.{by-last}
 use Rattle.swarm_matching.proofs.Known.{Known, known-replay}
 use Rattle.std.specs.Prelude.{filter, map}
-use Rattle.swarm_matching.proofs.AimSteps.{aims-map, lost-aim, row_at-drop_other}
+use Rattle.swarm_matching.proofs.AimSteps.{aims-map, row_at-drop_other}
+use Rattle.swarm_objects.proofs.Aims.{lost-aim}
 use Rattle.swarm_matching.proofs.Aims.{aim_at}
 use Rattle.swarm_matching.proofs.DutyOwners.{duty-agents, duty-numbers}
 use Rattle.swarm_matching.proofs.InStep.{InStep, in-step-new}
@@ -65,10 +69,12 @@ use Rattle.swarm_model.proofs.Moves.EachDuty.{duty-moves}
 use Rattle.swarm_model.proofs.Moves.Operations.{op-moves}
 use Rattle.swarm_model.proofs.Moves.Rows.{between-has, between-one}
 use Rattle.swarm_model.proofs.Moves.Worlds.{TablesMove, orderly-moves}
-use Rattle.swarm_model.specs.Calls.Faults.{failed_agent, lost}
-use Rattle.swarm_model.specs.Calls.Nodes.{new_agent, new_node, with_agent_if, with_node, without_node}
+use Rattle.swarm_objects.specs.Agents.NodeAgents.{failed_agent, lost}
+use Rattle.swarm_objects.specs.Agents.NodeAgents.{new_agent}
+use Rattle.swarm_objects.specs.NewRows.{new_node}
+use Rattle.swarm_model.specs.Calls.Nodes.{with_agent_if, with_node, without_node}
 use Rattle.swarm_model.specs.Calls.Refusals.{Done, has_name, node_name}
-use Rattle.swarm_model.specs.Calls.Remote.{with_resources}
+use Rattle.swarm_objects.specs.Nodes.Opening.{with_resources}
 use Rattle.swarm_objects.proofs.RowLemmas.{Has-from_row_at, Has-map, Has-map_cases}
 use Rattle.swarm_objects.proofs.Tests.{false_from_ne_true, never-both, not-true}
 use Rattle.swarm_objects.proofs.RowChanges.{row_at-with_row}

@@ -3,7 +3,6 @@ pub mod Aimed
 pub mod Fresh
 pub mod Laws
 pub mod Matched
-pub mod Messages
 pub mod Rest
 pub mod Sent
 pub mod Served

@@ -3,7 +3,7 @@ ghost use Rattle.swarm_matching.specs.Agents.{QuietAgentsLaw, ReportLaw};
 ghost use Rattle.swarm_matching.specs.Aimed.{AimsLaw};
 ghost use Rattle.swarm_matching.specs.Fresh.{FreshLaw};
 ghost use Rattle.swarm_matching.specs.Laws.{ClosedLaw, NothingElseLaw, OneLiveLaw, PlacesLaw, UnmetLaw, UpdatesLaw};
-ghost use Rattle.swarm_matching.specs.Messages.{MessageLaw};
+ghost use Rattle.swarm_objects.specs.Agents.Hearing.{MessageLaw};
 ghost use Rattle.swarm_model.specs.Laws.Reconciliation.{ReconciliationLaw};
 ghost use Rattle.swarm_matching.specs.Sent.{OwnersLaw, SentLaw};
 ghost use Rattle.swarm_matching.specs.Served.{ServedLaw};

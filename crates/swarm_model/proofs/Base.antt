@@ -5,3 +5,4 @@ pub mod Halting
 pub mod Histories
 pub mod IsDuty
 pub mod ToLists
+pub mod Updates

@@ -1,6 +1,7 @@
 pub mod Addresses
 pub mod Alone
 pub mod Any
+pub mod Beside
 pub mod DeadSessions
 pub mod Fitting
 pub mod GivesOut

@@ -3,14 +3,22 @@ use Rattle.std.specs.Prelude.{Bool, Err, List, None, Ok, Option, Result, Some, [
 use Rattle.std.specs.Option.{option_map}
 use Rattle.std.specs.Ordering.{nat_cmp}
 use Rattle.swarm_model.specs.Calls.{answer, answered, call_outcome, is_admitted, is_full, outcome, ticked, txn, txn_answer, unless_refused, viewed}
-use Rattle.swarm_model.specs.Calls.Faults.{failed_agent, in_mode, mode_after_start, mode_after_stop, on_agent, started_agent}
+use Rattle.swarm_objects.specs.Agents.NodeAgents.{failed_agent, in_mode, mode_after_start, mode_after_stop, started_agent}
+use Rattle.swarm_model.specs.Calls.Faults.{on_agent}
 use Rattle.swarm_model.specs.Calls.Networks.{create_network, new_network, remove_network, with_network}
-use Rattle.swarm_model.specs.Calls.Nodes.{broken_node, create_node, new_node, remove_node, respecified_node, update_node, with_node, without_node}
+use Rattle.swarm_model.specs.Calls.Nodes.{broken_node, create_node, remove_node, update_node, with_node, without_node}
+use Rattle.swarm_objects.specs.NewRows.{new_node, respecified_node}
 use Rattle.swarm_model.specs.Calls.Operations.{apply_op, apply_ops}
-use Rattle.swarm_model.specs.Calls.Refusals.{Done, bad_spec, conflict, first_refusal, found, in_use, is_missing_network, missing_network, name_taken, network_by, no_network, node_by, other_holder, port_taken, refuse, same_mode, service_by, too_many, unless, users}
-use Rattle.swarm_model.specs.Calls.Remote.{begin_with, begun_reply, begun_tables, given_or, is_no_report, not_admitted, on_remote, on_session, pulled, remote_begin, remote_status, report, status_reply}
-use Rattle.swarm_model.specs.Calls.Services.{broken_draft, create_service, filled, go_back, new_service, put_service, remove_service, respecified, rollback_service, update_service, with_service}
-use Rattle.swarm_model.specs.Calls.Views.{View, network_detail, node_detail, service_detail, shown, shows, task_detail, tasks_shown}
+use Rattle.swarm_model.specs.Calls.Refusals.{Done, bad_spec, conflict, found, in_use, is_missing_network, missing_network, name_taken, network_by, no_network, node_by, other_holder, port_taken, service_by, too_many, users}
+use Rattle.swarm_objects.specs.NewRows.{same_mode}
+use Rattle.swarm_objects.specs.Refusals.{first_refusal, refuse, unless}
+use Rattle.swarm_model.specs.Calls.Remote.{begin_with, begun_reply, begun_tables, given_or, on_remote, on_session, pulled, remote_begin, remote_status, report, status_reply}
+use Rattle.swarm_objects.specs.Nodes.Admission.{is_no_report, not_admitted}
+use Rattle.swarm_model.specs.Calls.Services.{broken_draft, create_service, filled, go_back, new_service, put_service, remove_service, rollback_service, update_service, with_service}
+use Rattle.swarm_objects.specs.NewRows.{respecified}
+use Rattle.swarm_model.specs.Calls.Views.{View, service_detail, shown, shows, tasks_shown}
+use Rattle.swarm_objects.specs.Shown.{task_detail}
+use Rattle.swarm_objects.specs.Shown.{network_detail, node_detail}
 use Rattle.swarm_model.specs.Calls.Watches.{told_at, waiting_events, watch_finish, watch_poll, with_watcher, without_watcher}
 use Rattle.swarm_model.specs.Outcome.{Answered}
 use Rattle.swarm_objects.specs.Agents.Messages.{is_assigned_on, message_for, names}

@@ -1,3 +1,4 @@
+pub mod Beside
 pub mod Cluster
 pub mod Faults
 pub mod Networks
@@ -10,9 +11,10 @@ pub mod Views
 pub mod Watches
 -- What a call is answered in a world, and the world after it.
 use Rattle.std.specs.Prelude.{◌+◌, Err, Ok, List, Result, ℕ, [], if◌then◌else◌, length, nat_lt, not, true, Bool, nat_le, ◌&&◌, None, Option, Some}
-use Rattle.swarm_model.specs.Calls.Faults.{failed_agent, in_mode, mode_after_start, mode_after_stop, on_agent, started_agent}
+use Rattle.swarm_objects.specs.Agents.NodeAgents.{failed_agent, in_mode, mode_after_start, mode_after_stop, started_agent}
+use Rattle.swarm_model.specs.Calls.Faults.{on_agent}
 use Rattle.swarm_model.specs.Calls.Operations.{apply_ops}
-use Rattle.swarm_model.specs.Calls.Refusals.{refuse, unless}
+use Rattle.swarm_objects.specs.Refusals.{refuse, unless}
 use Rattle.swarm_model.specs.Calls.Remote.{remote_beat, remote_begin, remote_pull, remote_status}
 use Rattle.swarm_model.specs.Calls.Views.{View, shows}
 use Rattle.swarm_model.specs.Calls.Watches.{kept_events, watch_begin, watch_finish, watch_poll}

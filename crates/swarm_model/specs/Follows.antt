@@ -75,7 +75,7 @@ pub record IsWaited (w : World) (ms : ℕ) (part rest : List Entry) : Type 0 whe
 
 -- a settle line's: at most so many duties of caller 0, and then its call, which finds the world busy only after just
 -- so many
-pub record IsSettled (w : World) (budget : ℕ) (part : List Entry) : Type 0 where
+pub record IsSettleLine (w : World) (budget : ℕ) (part : List Entry) : Type 0 where
   pub duties : List Entry
   pub entries : part ≡ duties ++ own_call (call.Settle budget) ∷ []
   pub are_duties : AreDuties duties
@@ -91,7 +91,7 @@ pub record IsCalled (c : Call) (part : List Entry) : Type 0 where
 abbrev pub IsLine : World → Asked → List Entry → List Entry → Type 0
 IsLine w Nothing part rest = part ≡ []
 IsLine w (Asks c) part rest = IsCalled c part
-IsLine w (Settles budget) part rest = IsSettled w budget part
+IsLine w (Settles budget) part rest = IsSettleLine w budget part
 IsLine w (Waits ms) part rest = IsWaited w ms part rest
 
 -- What was done of a line that isn't.

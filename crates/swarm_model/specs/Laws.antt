@@ -1,3 +1,4 @@
+pub mod Beside
 pub mod DeadSessions
 pub mod Facts
 pub mod Fits

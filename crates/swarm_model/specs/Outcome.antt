@@ -1,7 +1,7 @@
 -- A reply, and the world after it.
-use Rattle.std.specs.Prelude.{◌≡◌, ◌⊎◌, Result, Ok, Err, OnErr}
-use Rattle.swarm_objects.specs.World.{World}
+use Rattle.std.specs.Prelude.{◌≡◌, ◌⊎◌, Err, Ok, Result, OnErr}
 use Rattle.swarm_objects.specs.declared.replies.Refusal.{Refusal}
+use Rattle.swarm_objects.specs.World.{World}
 use Rattle.swarm_objects.specs.declared.replies.Refusal.TheVariants.{NoMemory}
 use Rattle.swarm_objects.specs.declared.replies.Reply.{Reply}
 use Rattle.swarm_objects.specs.declared.replies.Reply.TheVariants.{Refused}
@@ -36,3 +36,8 @@ Answered = Result (Reply × World) Refusal
 abbrev pub Answers : Answered → World → Result Reply Refusal → World → Type 0
 Answers expected before (Ok reply) after = expected ≡ Ok (reply, after)
 Answers expected before (Err refusal) after = ((refusal ≡ NoMemory) ⊎ (expected ≡ Err refusal)) × (after ≡ before)
+
+-- the expected one, or memory was wanting
+abbrev pub Gets : {X : Type 0} → Result X Refusal → Result X Refusal → Type 0
+Gets expected (Ok x) = expected ≡ Ok x
+Gets expected (Err r) = (r ≡ NoMemory) ⊎ (expected ≡ Err r)

@@ -2,6 +2,7 @@
 //! that does nothing.
 ghost use Rattle.swarm_model.specs.Events.{ChangesLaw, PollLaw, ToldOnceLaw, WaitingLaw};
 ghost use Rattle.swarm_model.specs.Kept.{KeptAloneLaw, KeptLaw};
+ghost use Rattle.swarm_model.specs.Laws.Beside.{BesideLaw};
 ghost use Rattle.swarm_model.specs.Laws.DeadSessions.{DeadSessionLaw};
 ghost use Rattle.swarm_model.specs.Laws.Fits.{FittingLaw};
 ghost use Rattle.swarm_model.specs.Laws.OneTemplate.{OneTemplateLaw};
@@ -23,6 +24,12 @@ pub fn reservations_fit()
 /// A call under a session that isn't live changes nothing, and no duty that needs a session is due without a live one.
 pub fn dead_sessions_change_nothing()
     ensures { DeadSessionLaw }
+{}
+
+/// What an accepted transaction makes of sessions, of what was sent and of agents, its operations and the ids of its reply
+/// tell; all else beside the tables stays.
+pub fn transactions_tell_what_stands_beside()
+    ensures { BesideLaw }
 {}
 
 /// No two live tasks of a place have one template.

@@ -51,7 +51,7 @@ is_near_node n = is_near n.down_since
 
 abbrev pub is_near_service : Service → Bool
 is_near_service s =
-    is_near_spec s.spec && on_row true is_near_spec s.previous && on_row true is_near_run s.run && is_near s.iteration
+    is_near_spec s.spec && on_row true is_near_spec s.previous && on_row true is_near_run s.run
 
 abbrev pub is_near_task : Task → Bool
 is_near_task x = is_near_template x.template && is_near x.since && is_near x.created && is_near x.raise_at
@@ -59,7 +59,7 @@ is_near_task x = is_near_template x.template && is_near x.since && is_near x.cre
 abbrev pub is_near_session : NodeSession → Bool
 is_near_session s = is_near s.session.deadline && is_near s.session.beat
 
--- each time in the rows, and the iterations of services
+-- each time in the rows
 pub record HasNearTimes (t : Tables) : Type 0 where
   pub nodes : list_all is_near_node t.nodes ≡ true
   pub services : list_all is_near_service t.services ≡ true
@@ -79,8 +79,12 @@ is_near_change (assign.Remove task) = true
 abbrev pub is_near_message : Message → Bool
 is_near_message m = is_near m.results_in && list_all is_near_change m.changes
 
+-- no sum of the times that its phases are reckoned with reaches the end of its type
+abbrev pub has_near_times : Executor → Bool
+has_near_times e = is_near_workload e.workload && is_near e.since
+
 abbrev pub is_near_executor : Executor → Bool
-is_near_executor e = is_near_workload e.workload && is_near e.since && on_row true is_near e.stopping
+is_near_executor e = has_near_times e && on_row true is_near e.stopping
 
 abbrev pub is_near_agent : NodeAgent → Bool
 is_near_agent a = is_near a.applied && list_all is_near_executor a.executors && on_row true is_near_message a.inbox

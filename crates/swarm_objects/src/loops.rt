@@ -1,6 +1,7 @@
 // The control loops.
 ghost use Rattle.std.specs.Prelude.{◌≡◌};
 ghost use Rattle.swarm_objects.specs.DutyTexts.{loop_word};
+ghost use Rattle.swarm_objects.specs.Kinds.{roles};
 
 use crate::{Duplicate, NoMemory};
 use std::alloc::Global;
@@ -56,6 +57,11 @@ impl Role {
         }
     }
 }
+
+/// A law: `Role::ALL` is the list of the definitions, so a loop over it may be spoken of by that.
+pub fn all_roles_are_in_order()
+    ensures { Role.ALL ≡ roles }
+{}
 
 impl Duplicate for Role {
     fn duplicate(&self, _alloc: Global) -> Result<Role, NoMemory> {

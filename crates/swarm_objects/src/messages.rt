@@ -1,5 +1,8 @@
 // What agents are told of their tasks.
-use crate::{Desired, Duplicate, Id, List, NoMemory, Workload};
+ghost use Rattle.std.specs.Prelude.{◌≡◌};
+ghost use Rattle.swarm_objects.specs.Agents.Messages.{assigned};
+
+use crate::{Desired, Duplicate, Id, List, NoMemory, Task, Workload};
 use std::alloc::Global;
 
 /// What an agent is told of one task.
@@ -69,5 +72,16 @@ impl Duplicate for NodeSent {
             count: self.count,
             tasks: self.tasks.duplicate(alloc)?,
         })
+    }
+}
+
+/// What its node is told of the task.
+pub fn assignment(task: &Task) -> Assigned
+    ensures { result ≡ assigned task.now }
+{
+    Assigned {
+        task: task.id,
+        desired: task.desired,
+        workload: task.template.workload,
     }
 }

@@ -1,7 +1,7 @@
 -- Entries: what is kept of the events, the order of rows, and what a refusal leaves.
-use Rattle.std.proofs.Common.{◌≡◌, ℕ, ◌+◌, Bool, true, false, cond, length, nat_lt, List, [], ◌++◌, append-nil, append_assoc, refl, ap, sym, ◌∙◌, subst, arith, Option, Some, None, Ok, Err, Result, ◌⊎◌, inl, inr}
+use Rattle.std.proofs.Common.{◌≡◌, ℕ, ◌+◌, Bool, true, false, cond, length, nat_lt, List, [], ◌++◌, append-nil, append_assoc, refl, ap, sym, ◌∙◌, subst, arith, Option, Some, None, Ok, Err, ◌⊎◌, inl, inr}
 use Rattle.std.proofs.lemmas.List.Elements.{filter-append}
-use Rattle.std.specs.Prelude.{OnOk, filter}
+use Rattle.std.specs.Prelude.{filter}
 use Rattle.swarm_model.proofs.Base.Answers.{OnGiven, given-is, given-unless}
 use Rattle.swarm_model.proofs.Watching.Changes.{changes-at, changes-none}
 use Rattle.swarm_model.proofs.Watching.Waiting.{kept-is, waited-some, waits-past}
@@ -115,10 +115,6 @@ all-put p a b c d e0 e1 e2 e3 e4 first second third fourth =
     ∙ ap (λ es. es ++ filter p d) (third ∙ ap (λ es. es ++ filter p c) (second ∙ ap (λ es. es ++ filter p b) first))
     ∙ four-appended e0 (filter p a) (filter p b) (filter p c) (filter p d)
     ∙ ap (λ es. e0 ++ es) (sym (four-filters p a b c d))
-
-pub on-ok : {X E : Type 0} {P Q : Type 0} (r : Result X E) → (P → Q) → OnOk r P → OnOk r Q
-on-ok (Ok x) f h = f h
-on-ok (Err e) f h = h
 
 -- what was kept before, and the events of the entry behind it
 pub kept-seen : (w v m : World) (start all : List Event) → m ≡ entered_unseen (w.entries + 1) v → v.events ≡ w.events → start ≡ m.events →

@@ -1,8 +1,15 @@
 pub mod AnswerEvents
+pub mod AnyOf
+pub mod DirtyPlaces
 pub mod DutyEntries
 pub mod EntryLemmas
+pub mod First
+pub mod Halves
 pub mod HeldPlaces
+pub mod LeastNumber
+pub mod Looks
 pub mod Merging
+pub mod Numbers
 pub mod OpSteps
 pub mod Openings
 pub mod Passes
@@ -10,4 +17,3 @@ pub mod Remotes
 pub mod Rooms
 pub mod RowOrder
 pub mod Sending
-pub mod Updates

@@ -1,7 +1,9 @@
 -- Calls under a session.
 use Rattle.std.proofs.Common.{◌≡◌, ℕ, Bool, true, false, cond, List, Option, Some, None, Ok, Err, ap}
-use Rattle.swarm_model.specs.Calls.Refusals.{found, node_by, unless}
-use Rattle.swarm_model.specs.Calls.Remote.{not_admitted, on_session, remote_pull, remote_status}
+use Rattle.swarm_model.specs.Calls.Refusals.{found, node_by}
+use Rattle.swarm_objects.specs.Refusals.{unless}
+use Rattle.swarm_objects.specs.Nodes.Admission.{not_admitted}
+use Rattle.swarm_model.specs.Calls.Remote.{on_session, remote_pull, remote_status}
 use Rattle.swarm_model.specs.Outcome.{Answered}
 use Rattle.swarm_objects.specs.Nodes.Sessions.{session_of}
 use Rattle.swarm_objects.specs.World.{Tables, World}

@@ -10,11 +10,15 @@ use Rattle.swarm_model.proofs.Laws.Sound.{below-between}
 use Rattle.swarm_model.specs.Calls.{answer, txn_answer, viewed}
 use Rattle.swarm_model.specs.Calls.Faults.{on_agent}
 use Rattle.swarm_model.specs.Calls.Networks.{new_network, remove_network}
-use Rattle.swarm_model.specs.Calls.Nodes.{is_left_behind, new_node, remove_node, respecified_node, tables_without_node, update_node}
+use Rattle.swarm_model.specs.Calls.Nodes.{is_left_behind, remove_node, tables_without_node, update_node}
+use Rattle.swarm_objects.specs.NewRows.{new_node, respecified_node}
 use Rattle.swarm_model.specs.Calls.Operations.{apply_op}
 use Rattle.swarm_model.specs.Calls.Refusals.{conflict, found, network_by, node_by, service_by}
-use Rattle.swarm_model.specs.Calls.Remote.{begin_with, begun_tables, given_or, not_admitted, on_remote, on_session, pulled, report, tasks_within, with_resources}
-use Rattle.swarm_model.specs.Calls.Services.{filled, go_back, new_service, remove_service, respecified, rollback_service, update_service}
+use Rattle.swarm_model.specs.Calls.Remote.{begin_with, begun_tables, given_or, on_remote, on_session, pulled, report}
+use Rattle.swarm_objects.specs.Nodes.Admission.{not_admitted}
+use Rattle.swarm_objects.specs.Nodes.Opening.{tasks_within, with_resources}
+use Rattle.swarm_model.specs.Calls.Services.{filled, go_back, new_service, remove_service, rollback_service, update_service}
+use Rattle.swarm_objects.specs.NewRows.{respecified}
 use Rattle.swarm_model.specs.Calls.Views.{View, shows}
 use Rattle.swarm_model.specs.Calls.Watches.{told_at, waiting_events, watch_finish, watch_poll, without_watcher}
 use Rattle.swarm_model.specs.Outcome.{Answered}

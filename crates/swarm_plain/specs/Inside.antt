@@ -1,3 +1,5 @@
 -- Words of private contracts.
+pub mod LeastNumber
 pub mod Lookups
 pub mod Merging
+pub mod OfPlace

@@ -1,7 +1,8 @@
 // The events of an entry: what changed between the rows before and after it.
 ghost use Rattle.std.specs.Prelude.{◌≡◌, ◌++◌, Bool, filter, OnOk};
 ghost use Rattle.std.specs.Option.{option_copied, option_map, option_to_list};
-ghost use Rattle.swarm_model.specs.Calls.Watches.{filter_admits, is_asked, is_waited_for, kind_number, waits_for};
+ghost use Rattle.swarm_objects.specs.Watches.{filter_admits};
+ghost use Rattle.swarm_model.specs.Calls.Watches.{is_waited_for, waits_for};
 ghost use Rattle.swarm_model.specs.Changed.{changes_between, event, events_of, verb_of};
 ghost use Rattle.swarm_objects.specs.Rows.{IsRising};
 ghost use Rattle.swarm_plain.specs.Entries.{HasOrder};
@@ -9,42 +10,14 @@ ghost use Rattle.swarm_plain.specs.Plain.{tables_of};
 ghost use Rattle.swarm_plain.specs.Inside.Merging.{DecidesRows, head_at, least_key, rest_at};
 
 use crate::Plain;
-use swarm_objects::{
-    Event, Filter, Id, Keyed, Kind, List, NoMemory, Same, Verb, Version, Watcher, add,
-};
+use swarm_objects::watches::filter_admits;
+use swarm_objects::{Event, Id, Keyed, Kind, List, NoMemory, Same, Verb, Version, Watcher, add};
 
 // Whether the watcher waits for the event.
 pub(crate) fn waits_for(watcher: &Watcher, event: &Event) -> bool
     ensures { result ≡ waits_for watcher.now event.now }
 {
     watcher.cursor < event.entry && filter_admits(&watcher.filter, event)
-}
-
-// Whether the filter lets the event pass.
-fn filter_admits(filter: &Filter, event: &Event) -> bool
-    ensures { result ≡ filter_admits filter.now event.now }
-{
-    is_kind(filter.kind, event.kind) && is_id(filter.id, event.id)
-}
-
-// Whether the kind is asked for.
-fn is_kind(asked: Option<Kind>, kind: Kind) -> bool
-    ensures { result ≡ is_asked (option_map kind_number asked) (kind_number kind) }
-{
-    match asked {
-        Some(asked) => asked == kind,
-        None => true,
-    }
-}
-
-// Whether the id is asked for.
-fn is_id(asked: Option<Id>, id: Id) -> bool
-    ensures { result ≡ is_asked asked id }
-{
-    match asked {
-        Some(asked) => asked == id,
-        None => true,
-    }
 }
 
 // Whether some watcher waits for the event.

@@ -1,27 +1,23 @@
 // The tick, and faults of nodes whose agents are inside.
 ghost use Rattle.std.specs.Prelude.{◌≡◌, map};
 ghost use Rattle.swarm_model.specs.Calls.{tick};
-ghost use Rattle.swarm_model.specs.Calls.Faults.{failed_agent, in_mode, lost, mode_after_start, mode_after_stop};
-ghost use Rattle.swarm_model.specs.Calls.Faults.{on_agent, started_agent};
+ghost use Rattle.swarm_objects.specs.Agents.NodeAgents.{failed_agent, in_mode, lost, mode_after_start, mode_after_stop};
+ghost use Rattle.swarm_model.specs.Calls.Faults.{on_agent};
+ghost use Rattle.swarm_objects.specs.Agents.NodeAgents.{started_agent};
 ghost use Rattle.swarm_objects.specs.Agents.Executors.{is_late};
 ghost use Rattle.swarm_objects.specs.Bounds.{IsSmall};
 ghost use Rattle.swarm_objects.specs.Rows.{agent_node, change_row};
 ghost use Rattle.swarm_plain.specs.Plain.{AnswersCall, tables_of, world_of};
-ghost use Rattle.swarm_plain.specs.Inside.Lookups.{Gets, inside};
+ghost use Rattle.swarm_model.specs.Outcome.{Gets};
+ghost use Rattle.swarm_plain.specs.Inside.Lookups.{inside};
 
 use crate::Plain;
 use crate::names::{node_named, not_found};
+use swarm_agent::is_late;
 use swarm_objects::limits::LONGEST_TICK;
 use swarm_objects::{
-    AgentMode, Executor, Id, Kind, Ms, Name, NodeAgent, Refusal, Reply, TaskState, rank,
+    AgentMode, Executor, Id, Kind, Ms, Name, NodeAgent, Refusal, Reply, TaskState,
 };
-
-// From STARTING to RUNNING.
-fn is_late(state: TaskState) -> bool
-    ensures { result ≡ is_late state }
-{
-    rank(TaskState::Starting) <= rank(state) && rank(state) <= rank(TaskState::Running)
-}
 
 // What starts or runs has failed now.
 fn lose(executors: &mut [Executor], clock: Ms)

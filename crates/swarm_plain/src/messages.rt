@@ -1,23 +1,7 @@
 // What a node is to have, and what it is sent.
 ghost use Rattle.std.specs.Prelude.{◌≡◌, ◌<◌, ◌^◌, IfOk, OnOk, OnErr, filter, not, option_to_list};
 ghost use Rattle.std.specs.Option.{option_copied};
-ghost use Rattle.swarm_objects.specs.Agents.Messages.{
-  assigned,
-  assigned_task,
-  change_of,
-  changes_of,
-  complete_message,
-  due_set,
-  is_assigned_on,
-  is_sent,
-  message_for,
-  message_with,
-  same_assigned,
-  sent_of,
-  tasks_of_either,
-  update_of,
-  with_sent,
-};
+ghost use Rattle.swarm_objects.specs.Agents.Messages.{assigned, assigned_task, change_of, changes_of, complete_message, due_set, is_assigned_on, is_sent, message_for, message_with, same_assigned, sent_of, tasks_of_either, update_of, with_sent};
 ghost use Rattle.swarm_objects.specs.Bounds.{IsSmall};
 ghost use Rattle.swarm_objects.specs.Rows.{row_at};
 ghost use Rattle.swarm_objects.specs.Same.{same_workload};
@@ -26,6 +10,7 @@ ghost use Rattle.swarm_plain.specs.Plain.{tables_of, world_of};
 use crate::Plain;
 use crate::reads::row_at;
 use std::alloc::Global;
+use swarm_objects::messages::assignment;
 use swarm_objects::{
     AssignChange, Assigned, Id, List, Message, NoMemory, NodeSent, Same, Task, TaskState, Workload,
     add, desired_rank, put_in_order, rank,
@@ -36,17 +21,6 @@ pub(crate) fn is_assigned_on(node: Id, task: &Task) -> bool
     ensures { result ≡ is_assigned_on node task.now }
 {
     rank(TaskState::Assigned) <= rank(task.state) && task.is_on(node)
-}
-
-// What its node is told of the task.
-fn assigned(task: &Task) -> Assigned
-    ensures { result ≡ assigned task.now }
-{
-    Assigned {
-        task: task.id,
-        desired: task.desired,
-        workload: task.template.workload,
-    }
 }
 
 fn same_workload(a: &Workload, b: &Workload) -> bool
@@ -180,7 +154,7 @@ impl Plain {
         let mut due = List::new(self.alloc);
         for task in self.tasks.as_slice() {
             if is_assigned_on(node, task) {
-                add(&mut due, assigned(task))?;
+                add(&mut due, assignment(task))?;
             }
         }
         Ok(due)

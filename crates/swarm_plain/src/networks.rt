@@ -1,55 +1,17 @@
 // The operations on networks, and the one on the settings of the cluster.
 ghost use Rattle.std.specs.Prelude.{◌≡◌, ℕ, ◌+◌, ◌^◌, ◌<◌, None};
-ghost use Rattle.std.specs.List.{list_any};
 ghost use Rattle.std.specs.Ordering.{nat_cmp};
-ghost use Rattle.swarm_model.specs.Calls.Refusals.{names_network, service_uses, task_uses, users};
+ghost use Rattle.swarm_objects.specs.NetworkUse.{service_uses, task_uses};
+ghost use Rattle.swarm_model.specs.Calls.Refusals.{users};
 ghost use Rattle.swarm_objects.specs.Rows.{keep_least, least_by};
-ghost use Rattle.swarm_objects.specs.Same.{same_number};
 ghost use Rattle.swarm_plain.specs.Operations.{AppliesOp};
 ghost use Rattle.swarm_plain.specs.Plain.{tables_of};
 
 use crate::Plain;
 use crate::names::{network_id, network_named, not_found};
-use swarm_check::{check_network, check_settings};
+use swarm_check::{check_network, check_settings, service_uses, task_uses};
 use swarm_objects::limits::MOST_NETWORKS;
-use swarm_objects::{
-    Duplicate, Id, Kind, Name, Network, Op, Refusal, Service, ServiceSpec, Settings, Task, Version,
-    drop_row,
-};
-
-// The network is one of these.
-fn is_among(network: Id, networks: &[Id]) -> bool
-    ensures { result ≡ list_any (same_number network) networks.now }
-{
-    networks.iter().any(|id| network == *id)
-}
-
-// The specification names the network.
-fn names_network(network: Id, spec: &ServiceSpec) -> bool
-    ensures { result ≡ names_network network spec.now }
-{
-    is_among(network, spec.template.networks.as_slice())
-}
-
-// The service is on the network, or was before its last change.
-fn service_uses(network: Id, service: &Service) -> bool
-    ensures { result ≡ service_uses network service.now }
-{
-    if names_network(network, &service.spec) {
-        return true;
-    }
-    match &service.previous {
-        Some(previous) => names_network(network, previous),
-        None => false,
-    }
-}
-
-// The task is on the network, and isn't over.
-fn task_uses(network: Id, task: &Task) -> bool
-    ensures { result ≡ task_uses network task.now }
-{
-    task.is_not_over() && is_among(network, task.template.networks.as_slice())
-}
+use swarm_objects::{Duplicate, Id, Kind, Name, Network, Op, Refusal, Settings, Version, drop_row};
 
 // The lesser of the least id so far and this one.
 fn keep_least(least: Option<Id>, id: Id) -> Option<Id>

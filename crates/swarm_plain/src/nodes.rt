@@ -1,6 +1,8 @@
 // The operations on nodes.
-ghost use Rattle.std.specs.Prelude.{◌≡◌, ℕ, ◌+◌, ◌^◌, ◌<◌, IfOk, map, if◌then◌else◌};
-ghost use Rattle.swarm_model.specs.Calls.Nodes.{is_left_behind, new_agent, new_node, respecified_node};
+ghost use Rattle.std.specs.Prelude.{◌≡◌, ◌+◌, ◌^◌, ◌<◌, map, if◌then◌else◌};
+ghost use Rattle.swarm_model.specs.Calls.Nodes.{is_left_behind};
+ghost use Rattle.swarm_objects.specs.NewRows.{new_node, respecified_node};
+ghost use Rattle.swarm_objects.specs.Agents.NodeAgents.{new_agent};
 ghost use Rattle.swarm_objects.specs.Changes.{in_state};
 ghost use Rattle.swarm_plain.specs.Operations.{AppliesOp};
 
@@ -8,43 +10,12 @@ use crate::Plain;
 use crate::names::{node_id, node_named, not_found};
 use crate::transactions::check_version;
 use std::alloc::Global;
-use swarm_check::check_node;
+use swarm_check::{check_node, new_node, respecified_node};
 use swarm_objects::limits::MOST_NODES;
 use swarm_objects::{
     AgentMode, Availability, Duplicate, Id, Kind, Labels, List, Ms, Name, NoMemory, Node,
-    NodeAgent, NodeDraft, NodeRole, NodeState, Op, Refusal, Task, TaskState, Version, drop_row,
-    put_row,
+    NodeAgent, NodeDraft, NodeRole, Op, Refusal, Task, TaskState, Version, drop_row, put_row,
 };
-
-// The row of a node that joins.
-fn new_node(
-    alloc: Global,
-    version: Version,
-    id: Id,
-    name: &Name,
-    draft: &NodeDraft,
-) -> Result<Node, NoMemory>
-    ensures { IfOk result (λ node. node ≡ new_node version id name.now draft.now) }
-{
-    let name = name.duplicate(alloc)?;
-    let draft = draft.duplicate(alloc)?;
-    Ok(Node {
-        id,
-        version,
-        name,
-        labels: draft.labels,
-        role: draft.role,
-        availability: draft.availability,
-        state: NodeState::Unknown,
-        down_since: 0,
-        cpu: draft.cpu,
-        mem: draft.mem,
-        os: draft.os,
-        arch: draft.arch,
-        engine: draft.engine,
-        remote: draft.remote,
-    })
-}
 
 // The agent of a node that joins.
 fn new_agent(alloc: Global, node: Id) -> NodeAgent
@@ -57,26 +28,6 @@ fn new_agent(alloc: Global, node: Id) -> NodeAgent
         applied: 0,
         executors: List::new(alloc),
     }
-}
-
-// The node as an update leaves it.
-fn respecified_node(
-    alloc: Global,
-    version: Version,
-    labels: &Labels,
-    role: NodeRole,
-    availability: Availability,
-    node: &Node,
-) -> Result<Node, NoMemory>
-    ensures { IfOk result (λ new. new ≡ respecified_node version labels.now role availability node.now) }
-{
-    let labels = labels.duplicate(alloc)?;
-    let mut new = node.duplicate(alloc)?;
-    new.version = version;
-    new.labels = labels;
-    new.role = role;
-    new.availability = availability;
-    Ok(new)
 }
 
 // Every task of the node up to RUNNING is ORPHANED now.

@@ -2,14 +2,7 @@
 ghost use Rattle.std.specs.Prelude.{◌≡◌, ◌&&◌, IfOk};
 ghost use Rattle.std.specs.List.{list_any};
 ghost use Rattle.std.specs.Option.{option_copied};
-ghost use Rattle.swarm_objects.specs.Tasks.Places.{
-  held_places,
-  is_held,
-  is_in_place,
-  newest,
-  numbers_of,
-  tasks_of_place,
-};
+ghost use Rattle.swarm_objects.specs.Tasks.Places.{held_places, is_held, is_in_place, newest, numbers_of, tasks_of_place};
 ghost use Rattle.swarm_objects.specs.Tasks.Words.{is_live};
 ghost use Rattle.swarm_plain.specs.Plain.{tables_of};
 

@@ -1,14 +1,16 @@
 // The calls of remote nodes.
 ghost use Rattle.std.specs.Prelude.{◌≡◌, ◌⊎◌, ◌+◌, ◌*◌, IfOk, IfErr, Ok, Err};
-ghost use Rattle.swarm_model.specs.Calls.Remote.{bad_report, begin_with, given_or, is_no_report, not_admitted};
+ghost use Rattle.swarm_objects.specs.Nodes.Admission.{bad_report, is_no_report, not_admitted};
+ghost use Rattle.swarm_model.specs.Calls.Remote.{begin_with, given_or};
 ghost use Rattle.swarm_model.specs.Calls.Remote.{remote_beat, remote_begin, remote_pull, remote_status};
-ghost use Rattle.swarm_model.specs.Calls.Remote.{tasks_within, with_resources};
+ghost use Rattle.swarm_objects.specs.Nodes.Opening.{tasks_within, with_resources};
 ghost use Rattle.swarm_objects.specs.Bounds.{IsSmall};
 ghost use Rattle.swarm_objects.specs.Changes.{raised_to, with_tables};
 ghost use Rattle.swarm_objects.specs.Loops.Agents.{after_beat};
 ghost use Rattle.swarm_objects.specs.Nodes.Sessions.{new_session, session_of};
 ghost use Rattle.swarm_objects.specs.Rows.{change_row, node_id, session_node, task_id};
-ghost use Rattle.swarm_plain.specs.Inside.Lookups.{Gets, beaten_at, pulled_by, remote_node, reported, session_node_of};
+ghost use Rattle.swarm_model.specs.Outcome.{Gets};
+ghost use Rattle.swarm_plain.specs.Inside.Lookups.{beaten_at, pulled_by, remote_node, reported, session_node_of};
 ghost use Rattle.swarm_plain.specs.Plain.{AnswersCall, tables_of, world_of};
 
 use crate::Plain;
@@ -20,6 +22,7 @@ use swarm_objects::{
     Id, Kind, Ms, Name, Node, NodeSession, NodeState, Refusal, Reply, Rows, Session, Task,
     TaskState, Version, Wanted, drop_row, put_in_order, raise, rank,
 };
+use swarm_sessions::is_no_report;
 
 // The session of the node has a beat now, and lasts to the deadline.
 fn beat(sessions: &mut [NodeSession], node: Id, clock: Ms, deadline: Ms)
@@ -31,13 +34,6 @@ fn beat(sessions: &mut [NodeSession], node: Id, clock: Ms, deadline: Ms)
             row.session.beat = clock;
         }
     }
-}
-
-// No node reports this state.
-fn is_no_report(state: TaskState) -> bool
-    ensures { result ≡ is_no_report state }
-{
-    rank(state) < rank(TaskState::Accepted) || rank(TaskState::Rejected) < rank(state)
 }
 
 // Why the node may not report this of the task.

@@ -1,5 +1,5 @@
 // Watchers: who waits for events, and what each is told.
-ghost use Rattle.std.specs.Prelude.{◌≡◌, ◌+◌, ◌^◌, ◌<◌, filter, length, IfOk};
+ghost use Rattle.std.specs.Prelude.{◌≡◌, ◌+◌, ◌<◌, filter, length, IfOk};
 ghost use Rattle.std.specs.Option.{option_copied};
 ghost use Rattle.swarm_model.specs.Calls.Watches.{told_all, waits_for, watch_begin, watch_finish, watch_poll};
 ghost use Rattle.swarm_objects.specs.Bounds.{IsSmall};

@@ -10,6 +10,7 @@ use swarm_objects::NoMemory;
 /// The numbers from a first to a last one, of which some are taken.
 #[derive(Drop)]
 pub struct Pool {
+    alloc: Global,
     first: u32,
     last: u32,
     places: Places,
@@ -35,11 +36,12 @@ fn count(first: u32, last: u32) -> u64
 
 impl Pool {
     /// All numbers from the first to the last, and none taken.
-    pub fn new(first: u32, last: u32) -> Pool
+    pub fn new(alloc: Global, first: u32, last: u32) -> Pool
         requires { first ≤ last }
         ensures { result ≡ record { first = first; last = last; taken = [] } }
     {
         Pool {
+            alloc,
             first,
             last,
             places: Places::Clear,
@@ -59,7 +61,7 @@ impl Pool {
     }
 
     /// Takes the number; one that is taken stays so.
-    pub fn take(&mut self, alloc: Global, number: u32) -> Result<(), NoMemory>
+    pub fn take(&mut self, number: u32) -> Result<(), NoMemory>
         requires first { self.old.first ≤ number }
         requires last { number ≤ self.old.last }
         ensures ok { OnOk result (self.new ≡ record self.old { taken = with_number number self.old.taken }) }
@@ -67,7 +69,7 @@ impl Pool {
     {
         let size = count(self.first, self.last);
         self.places
-            .take(alloc, size, u64::from(number - self.first))
+            .take(self.alloc, size, u64::from(number - self.first))
     }
 
     /// Gives the number back; one that is free stays so. It takes no memory.

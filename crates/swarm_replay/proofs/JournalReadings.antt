@@ -3,8 +3,8 @@ use Rattle.std.proofs.Common.{◌≡◌, ℕ, ◌+◌, ◌≤◌, ◌<◌, List,
 use Rattle.std.proofs.lemmas.Bool.Decides.{nat_tests}
 use Rattle.std.proofs.lemmas.List.{append-nil}
 use Rattle.swarm_objects.specs.declared.calls.Entry.{Entry}
-use Rattle.swarm_script.specs.Entries.{entry_meaning}
-use Rattle.swarm_script.specs.LineFault.TheVariants.{Long}
+use Rattle.script_grammar.specs.Entries.{entry_meaning}
+use Rattle.script_grammar.specs.declared.lines.LineFault.TheVariants.{Long}
 use Rattle.swarm_replay.specs.Journal.{JournalReading, entries_at, entries_on, entry_at, in_journal, is_head, journal_of, journal_reading, most_lines}
 use Rattle.swarm_input.specs.Lines.{bytes_of, lines_of, IsWhole}
 use Rattle.swarm_input.specs.LineBuffer.{has_newline_in}

@@ -7,8 +7,8 @@ use Rattle.swarm_model.specs.History.{IsLegal, may_follow, replay}
 use Rattle.swarm_objects.specs.Outside.{Rose}
 use Rattle.swarm_objects.specs.World.{World}
 use Rattle.swarm_objects.specs.declared.calls.Entry.{Entry}
-use Rattle.swarm_script.specs.Entries.{entry_meaning}
-use Rattle.swarm_script.specs.HasText.{has_text}
+use Rattle.script_grammar.specs.Entries.{entry_meaning}
+use Rattle.script_grammar.specs.HasText.{has_text}
 use Rattle.swarm_replay.specs.Journal.{entries_at, entry_at, in_journal, journal_of, journal_reading}
 use Rattle.swarm_input.specs.Lines.{bytes_of, is_newline, lines_of, onto_line}
 use Rattle.swarm_replay.specs.Replay.{IsVerdictOf, Judges}

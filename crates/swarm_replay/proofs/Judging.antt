@@ -10,10 +10,10 @@ use Rattle.swarm_model.proofs.Base.Histories.{IsLegalFrom-snoc, replay-snoc}
 use Rattle.swarm_model.specs.History.{may_follow, step_world}
 use Rattle.swarm_objects.specs.World.{World, empty_world}
 use Rattle.swarm_objects.specs.declared.calls.Entry.{Entry}
-use Rattle.swarm_script.specs.Entries.{entry_meaning}
-use Rattle.swarm_script.specs.HasText.{has_text}
-use Rattle.swarm_script.specs.LineFault.TheVariants.{Long}
-use Rattle.swarm_script.specs.Texts.{entry_text}
+use Rattle.script_grammar.specs.Entries.{entry_meaning}
+use Rattle.script_grammar.specs.HasText.{has_text}
+use Rattle.script_grammar.specs.declared.lines.LineFault.TheVariants.{Long}
+use Rattle.script_grammar.specs.Texts.{entry_text}
 use Rattle.swarm_replay.specs.Journal.{JournalReading, entry_at, in_journal, is_head, journal_of, journal_reading, journal_text}
 use Rattle.swarm_input.specs.Lines.{bytes_of, lines_of, whole_lines, IsWhole}
 use Rattle.swarm_replay.specs.Replay.{BeginsWith, IsVerdictOf}

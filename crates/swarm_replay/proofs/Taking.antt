@@ -3,11 +3,11 @@ use Rattle.std.proofs.Common.{◌≡◌, ◌⊎◌, inl, inr, ℕ, List, true, R
 use Rattle.std.specs.Prelude.{IfOk}
 use Rattle.swarm_objects.specs.World.{World}
 use Rattle.swarm_objects.specs.declared.calls.Entry.{Entry}
-use Rattle.swarm_script.specs.Entries.{entry_meaning}
-use Rattle.swarm_script.specs.HasText.{has_text}
-use Rattle.swarm_script.specs.LineFault.{LineFault}
-use Rattle.swarm_script.specs.LineFault.TheVariants as fault
-use Rattle.swarm_script.specs.Texts.{entry_text}
+use Rattle.script_grammar.specs.Entries.{entry_meaning}
+use Rattle.script_grammar.specs.HasText.{has_text}
+use Rattle.script_grammar.specs.declared.lines.LineFault.{LineFault}
+use Rattle.script_grammar.specs.declared.lines.LineFault.TheVariants as fault
+use Rattle.script_grammar.specs.Texts.{entry_text}
 use Rattle.swarm_replay.specs.Inside.ReplaySteps.{DoesRead, TakesEntry}
 use Rattle.swarm_replay.specs.declared.verdicts.EntryFault.TheVariants.{Head, Size, Text}
 use Rattle.swarm_replay.specs.declared.verdicts.Verdict.{Verdict}

@@ -4,9 +4,9 @@ use Rattle.std.specs.List.{flat_map}
 use Rattle.std.specs.Str.{bytes_eq}
 use Rattle.swarm_objects.specs.Limits.{most_entries}
 use Rattle.swarm_objects.specs.declared.calls.Entry.{Entry}
-use Rattle.swarm_script.specs.Entries.{entry_meaning}
-use Rattle.swarm_script.specs.LineFault.{LineFault}
-use Rattle.swarm_script.specs.Texts.{entry_text}
+use Rattle.script_grammar.specs.Entries.{entry_meaning}
+use Rattle.script_grammar.specs.declared.lines.LineFault.{LineFault}
+use Rattle.script_grammar.specs.Texts.{entry_text}
 use Rattle.swarm_input.specs.Lines.{bytes_of, lines_of}
 use Rattle.swarm_input.specs.declared.input.ScriptLine.{ScriptLine}
 use Rattle.swarm_replay.specs.declared.verdicts.EntryFault.{EntryFault}

@@ -6,7 +6,7 @@ use Rattle.swarm_model.specs.History.{IsLegal, may_follow, replay, step_world}
 use Rattle.swarm_objects.specs.Limits.{longest_entry}
 use Rattle.swarm_objects.specs.World.{World, empty_world}
 use Rattle.swarm_objects.specs.declared.calls.Entry.{Entry}
-use Rattle.swarm_script.specs.HasText.{has_text}
+use Rattle.script_grammar.specs.HasText.{has_text}
 use Rattle.swarm_replay.specs.Journal.{JournalReading, journal_of, journal_reading, most_lines, journal_text}
 use Rattle.swarm_input.specs.Lines.{whole_lines}
 use Rattle.swarm_input.specs.Script.{line_fault_text}

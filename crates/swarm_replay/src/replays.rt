@@ -9,12 +9,13 @@ ghost use Rattle.swarm_replay.specs.Inside.ReplaySteps.{EndsFull, DoesEntry, Doe
 
 use crate::entry_lines::{EntryLines, Stop};
 use crate::verdicts::{EntryFault, Verdict, verdict_text};
+use script_grammar::LineFault;
+use script_reader::read_entry;
 use std::alloc::Global;
 use swarm_duties::{Replay, StepFault};
 use swarm_input::WriteFault;
 use swarm_objects::limits::MOST_ENTRIES;
 use swarm_objects::{Entry, Reply, Sink, Source, What};
-use swarm_script::{LineFault, read_entry};
 
 /// As many entries as a whole history can have.
 const MOST: u64 = MOST_ENTRIES + 1;

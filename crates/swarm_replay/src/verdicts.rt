@@ -2,10 +2,10 @@
 ghost use Rattle.std.specs.Prelude.{◌≡◌, ◌++◌, IfOk, OnOk, string_bytes};
 ghost use Rattle.swarm_replay.specs.Replay.{entry_fault_text, verdict_status, verdict_text};
 
+use script_grammar::LineFault;
 use std::alloc::{AllocError, Global};
 use std::fmt::Write;
 use swarm_input::put_line_fault;
-use swarm_script::LineFault;
 
 /// Why a line of a journal is outside the grammar.
 #[derive(Clone, Copy, Debug, PartialEq, Eq)]

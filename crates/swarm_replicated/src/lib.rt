@@ -15,12 +15,12 @@ ghost use Rattle.swarm_objects.specs.Loops.Replicated.{
 };
 ghost use Rattle.swarm_objects.specs.Loops.Words.{duty_where};
 ghost use Rattle.swarm_objects.specs.Rows.{first_of};
-ghost use Rattle.swarm_roles.specs.Usable.{IsUsable};
+ghost use Rattle.swarm_objects.specs.Usable.{IsUsable};
 
 use crate::slots::{create_duty, down_duty};
 pub use changing::changes;
+use swarm_objects::walks::{services, tasks};
 use swarm_objects::{Duty, Rows, Task};
-use swarm_roles::{services, tasks};
 
 // The service of the task is gone, and the task isn't to be removed yet.
 fn is_gone<R: Rows>(rows: &R, task: &Task) -> bool

@@ -10,11 +10,12 @@ ghost use Rattle.swarm_objects.specs.Loops.Replicated.{
 };
 ghost use Rattle.swarm_objects.specs.Rows.{keep_least};
 ghost use Rattle.swarm_objects.specs.Tasks.Words.{is_live, is_of, is_on, is_running};
-ghost use Rattle.swarm_roles.specs.Usable.{IsUsable};
+ghost use Rattle.swarm_objects.specs.Usable.{IsUsable};
 
+use role_words::{held_places, place_tasks};
 use std::cmp::Ordering;
+use swarm_objects::walks::tasks_of;
 use swarm_objects::{Id, Rows, Service, Task};
-use swarm_roles::{held_places, place_tasks, tasks_of};
 
 // It is live, and runs.
 fn is_live_running(task: &Task) -> bool

@@ -2,11 +2,11 @@
 ghost use Rattle.std.specs.Prelude.{◌≡◌};
 ghost use Rattle.swarm_objects.specs.Loops.Replicated.{create_duty, down_duty};
 ghost use Rattle.swarm_objects.specs.Rows.{first_of};
-ghost use Rattle.swarm_roles.specs.Usable.{IsUsable};
+ghost use Rattle.swarm_objects.specs.Usable.{IsUsable};
 
 use crate::order::first_to_go;
+use role_words::{first_gap, held_count};
 use swarm_objects::{Duty, Mode, Rows, Service};
-use swarm_roles::{first_gap, held_count};
 
 /// The slot that the service gives up, where more are held than there are to be replicas.
 pub fn down_duty<R: Rows>(rows: &R, service: &Service) -> Option<Duty>

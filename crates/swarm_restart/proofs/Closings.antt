@@ -20,8 +20,8 @@ use Rattle.swarm_objects.specs.declared.tasks.Desired.TheVariants as desired
 use Rattle.swarm_objects.specs.declared.tasks.Place.{Place}
 use Rattle.swarm_objects.specs.declared.tasks.Task.{Task}
 use Rattle.swarm_restart.specs.Closing.{closing, closing_found}
-use Rattle.swarm_roles.proofs.Applied.{makes_append, makes_found, put_found, sound_changed}
-use Rattle.swarm_roles.specs.Changes.{Makes, apply_changes}
+use Rattle.swarm_objects.proofs.Applied.{makes_append, makes_found, put_found, sound_changed}
+use Rattle.swarm_objects.specs.ChangeLists.{Makes, apply_changes}
 
 -- the task as it stops, and another one as it is
 abbrev stopped : ℕ → ℕ → Task → Task

@@ -11,8 +11,8 @@ use Rattle.swarm_objects.specs.declared.rows.Change.TheVariants as change
 use Rattle.swarm_objects.specs.declared.services.Service.{Service}
 use Rattle.swarm_objects.specs.declared.tasks.Desired.TheVariants as desired
 use Rattle.swarm_objects.specs.declared.tasks.Task.{Task}
-use Rattle.swarm_roles.proofs.Applied.{makes_append, makes_found, makes_kept, makes_new, sound_changed, sound_kept}
-use Rattle.swarm_roles.specs.Changes.{Makes}
+use Rattle.swarm_objects.proofs.Applied.{makes_append, makes_found, makes_kept, makes_new, sound_changed, sound_kept}
+use Rattle.swarm_objects.specs.ChangeLists.{Makes}
 
 replaced_makes : (version : ℕ) (t : Tables) (s : Service) (x : Task) → IsSound t → Some x ≡ row_at task_id x.id t.tasks
     → Makes t

@@ -11,11 +11,11 @@ use Rattle.swarm_objects.specs.Rows.{on_row, row_at, service_id, task_id}
 use Rattle.swarm_objects.specs.World.{Tables}
 use Rattle.swarm_objects.specs.declared.rows.Change.{Change}
 use Rattle.swarm_objects.specs.declared.services.Service.{Service}
-use Rattle.swarm_roles.proofs.Applied.{found_makes, makes_none, there_by_id}
-use Rattle.swarm_roles.proofs.PlaceLemmas.{and_left}
-use Rattle.swarm_roles.proofs.WalkLemmas.{first_left, first_right}
-use Rattle.swarm_roles.specs.Changes.{Makes, put_found}
-use Rattle.swarm_roles.specs.Usable.{IsUsable}
+use Rattle.swarm_objects.proofs.Applied.{found_makes, makes_none, there_by_id}
+use Rattle.swarm_objects.proofs.PlaceLemmas.{and_left}
+use Rattle.swarm_objects.proofs.WalkLemmas.{first_left, first_right}
+use Rattle.swarm_objects.specs.ChangeLists.{Makes, put_found}
+use Rattle.swarm_objects.specs.Usable.{IsUsable}
 use Rattle.swarm_objects.specs.Sound.{IsSound}
 
 pub ruleset first_steps = (first_left, first_right)
@@ -38,9 +38,7 @@ near-delay s near =
     (and_left (is_near_template template) (is_near s.spec.update.delay)
     (and_left (is_near_template template && is_near s.spec.update.delay) (is_near s.spec.update.monitor)
     (and_left (is_near_spec s.spec) (on_row true is_near_spec s.previous)
-    (and_left (is_near_spec s.spec && on_row true is_near_spec s.previous) (on_row true is_near_run s.run)
-    (and_left (is_near_spec s.spec && on_row true is_near_spec s.previous && on_row true is_near_run s.run)
-    (is_near s.iteration) near))))))
+    (and_left (is_near_spec s.spec && on_row true is_near_spec s.previous) (on_row true is_near_run s.run) near)))))
 
 -- the time at which the next task starts fits
 pub delay_fits : (t : Tables) (id : ℕ) (s : Service) → IsUsable t → Some s ≡ row_at service_id id t.services

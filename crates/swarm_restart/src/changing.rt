@@ -15,18 +15,19 @@ ghost use Rattle.swarm_objects.specs.Tasks.Places.{has_other};
 ghost use Rattle.swarm_objects.specs.Tasks.Policy.{no_restart};
 ghost use Rattle.swarm_objects.specs.Tasks.Words.{is_live};
 ghost use Rattle.swarm_objects.specs.declared.loops.Role.TheVariants as role;
-ghost use Rattle.swarm_roles.specs.Changes.{Makes, put_found};
-ghost use Rattle.swarm_roles.specs.Effects.{after_duty};
-ghost use Rattle.swarm_roles.specs.Usable.{IsUsable};
+ghost use Rattle.swarm_objects.specs.ChangeLists.{Makes, put_found};
+ghost use Rattle.swarm_objects.specs.Effects.{after_duty};
+ghost use Rattle.swarm_objects.specs.Usable.{IsUsable};
 
 use crate::closing::close;
 use crate::replacing::replace;
+use role_words::tasks_of_place;
 use std::alloc::Global;
+use swarm_objects::effects::{want, wanted};
 use swarm_objects::{
     Change, Desired, Duty, Id, List, NoMemory, Rows, Service, Task, Version, list_of,
 };
 use swarm_policy::no_restart;
-use swarm_roles::{tasks_of_place, want, wanted};
 
 // It is a live task, and not this one.
 fn is_other_live(task: &Task, other: &Task) -> bool

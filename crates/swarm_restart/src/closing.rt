@@ -4,14 +4,15 @@ ghost use Rattle.swarm_objects.specs.Loops.Restart.{by_policy, closed_by, shut};
 ghost use Rattle.swarm_objects.specs.Rows.{row_at, task_id};
 ghost use Rattle.swarm_objects.specs.Tasks.Places.{newest, tasks_of_place};
 ghost use Rattle.swarm_restart.specs.Closing.{closing, closing_found};
-ghost use Rattle.swarm_roles.specs.Changes.{Makes};
-ghost use Rattle.swarm_roles.specs.Usable.{IsUsable};
+ghost use Rattle.swarm_objects.specs.ChangeLists.{Makes};
+ghost use Rattle.swarm_objects.specs.Usable.{IsUsable};
 
+use role_words::newest;
 use std::alloc::Global;
+use swarm_objects::effects::wanted;
 use swarm_objects::{
     Change, Closed, Desired, Duplicate, List, NoMemory, Rows, Service, Task, Version, add, list_of,
 };
-use swarm_roles::{newest, wanted};
 
 // The task closes its place, for this cause.
 fn closed_by(alloc: Global, task: &Task, version: Version, cause: Closed) -> Result<Task, NoMemory>

@@ -10,12 +10,13 @@ ghost use Rattle.std.specs.Prelude.{◌≡◌};
 ghost use Rattle.swarm_objects.specs.Loops.Restart.{restart, wants_raise, wants_restart};
 ghost use Rattle.swarm_objects.specs.Loops.Words.{duty_where};
 ghost use Rattle.swarm_objects.specs.Rows.{first_of};
-ghost use Rattle.swarm_roles.specs.Usable.{IsUsable};
+ghost use Rattle.swarm_objects.specs.Usable.{IsUsable};
 
-use crate::waiting::{wants_raise, wants_restart};
+use crate::waiting::wants_raise;
 pub use changing::changes;
+use swarm_objects::walks::tasks;
 use swarm_objects::{Duty, Rows};
-use swarm_roles::tasks;
+pub use waiting::{holds_up, is_current, wants_restart};
 
 // The first live task that is over.
 fn first_restart<R: Rows>(rows: &R) -> Option<Duty>

@@ -9,14 +9,14 @@ ghost use Rattle.swarm_objects.specs.Loops.Restart.{
 };
 ghost use Rattle.std.specs.Prelude.{None};
 ghost use Rattle.swarm_objects.specs.Rows.{row_at, task_id};
-ghost use Rattle.swarm_roles.specs.Changes.{Makes};
-ghost use Rattle.swarm_roles.specs.Usable.{IsUsable};
+ghost use Rattle.swarm_objects.specs.ChangeLists.{Makes};
+ghost use Rattle.swarm_objects.specs.Usable.{IsUsable};
 
 use std::alloc::Global;
+use swarm_objects::effects::wanted;
 use swarm_objects::{
     Attempt, Change, Desired, List, NoMemory, Place, Rows, Service, Task, Version, add, list_of,
 };
-use swarm_roles::wanted;
 
 // An attempt that is made now.
 fn new_attempt<R: Rows>(rows: &R, service: &Service, place: Place) -> Attempt

@@ -8,8 +8,8 @@ use Rattle.std.specs.List.{flat_map, list_all}
 use Rattle.std.proofs.lemmas.List.{append-nil}
 use Rattle.swarm_model.specs.History.{replay, replies_from}
 use Rattle.swarm_print.specs.Texts.{reply_text}
-use Rattle.swarm_script.specs.Lines.{meaning_of}
-use Rattle.swarm_script.specs.Line.{Line}
+use Rattle.script_grammar.specs.Lines.{meaning_of}
+use Rattle.script_grammar.specs.declared.lines.Line.{Line}
 use Rattle.swarm_run.specs.Serial.{entries, is_by_first, line_entries, output_text, has_refusal, line_out}
 use Rattle.swarm_input.specs.Streams.{stream_of}
 use Rattle.swarm_input.specs.LineBuffer.{LineBuffer, GivesLine}

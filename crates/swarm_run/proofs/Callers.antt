@@ -6,7 +6,7 @@ use Rattle.swarm_objects.specs.World.{World}
 use Rattle.swarm_model.proofs.Following.Alone.{line_alone}
 use Rattle.swarm_model.specs.History.{replay}
 use Rattle.swarm_objects.specs.declared.calls.Entry.{Entry}
-use Rattle.swarm_script.specs.Line.{Line}
+use Rattle.script_grammar.specs.declared.lines.Line.{Line}
 use Rattle.swarm_run.specs.Serial.{asked, is_by_first, line_entries}
 use Rattle.swarm_run.specs.Inside.LineSteps.{DoesLine}
 use Rattle.swarm_run.specs.declared.endings.Ending.{Ending}

@@ -9,7 +9,7 @@ use Rattle.swarm_objects.specs.declared.calls.Entry.{Entry}
 use Rattle.swarm_objects.specs.declared.replies.Reply.{Reply}
 use Rattle.swarm_model.specs.History.{replay, step_reply}
 use Rattle.swarm_print.specs.Texts.{reply_text}
-use Rattle.swarm_script.specs.Line.TheVariants.{Call as CallLine}
+use Rattle.script_grammar.specs.declared.lines.Line.TheVariants.{Call as CallLine}
 use Rattle.swarm_run.specs.Inside.LineSteps.{DoesLine, PutsAnswer, line_refused}
 use Rattle.swarm_run.specs.Serial.{is_refused, line_out}
 use Rattle.swarm_run.specs.Work.{AddsNothing, Calls, call_by}

@@ -17,13 +17,13 @@ use Rattle.swarm_objects.specs.declared.calls.Entry.{Entry}
 use Rattle.swarm_print.specs.Texts.{reply_text}
 use Rattle.swarm_run.proofs.Readings.{replies-append}
 use Rattle.swarm_run.proofs.Settling.{silent_all, unrefused}
-use Rattle.swarm_script.specs.Line.{Line}
-use Rattle.swarm_script.specs.Line.TheVariants.{Blank, Call as CallLine, Wait, Settle as SettleLine}
+use Rattle.script_grammar.specs.declared.lines.Line.{Line}
+use Rattle.script_grammar.specs.declared.lines.Line.TheVariants.{Blank, Call as CallLine, Wait, Settle as SettleLine}
 use Rattle.swarm_input.proofs.Prefixes.{appends_none}
 use Rattle.swarm_run.specs.Inside.LineSteps.{TakesLine, line_refused}
 use Rattle.swarm_run.specs.Serial.{is_refused, line_entries, line_out}
 
-pub record IsQuiet (w : World) (es : List Entry) : Type 0 where
+pub record AnswersNothing (w : World) (es : List Entry) : Type 0 where
   pub says : flat_map reply_text (replies_from w es) ≡ []
   pub goes : list_any is_refused (replies_from w es) ≡ false
 
@@ -34,7 +34,7 @@ neither false b e f = f
 joined : (xs ys : List ℕ) → xs ≡ [] → ys ≡ [] → xs ++ ys ≡ []
 joined xs ys e f = ap (λ (l : List ℕ). l ++ ys) e ∙ f
 
-quiet_append : (w : World) (es fs : List Entry) → IsQuiet w es → IsQuiet (replay_from w es) fs → IsQuiet w (es ++ fs)
+quiet_append : (w : World) (es fs : List Entry) → AnswersNothing w es → AnswersNothing (replay_from w es) fs → AnswersNothing w (es ++ fs)
 quiet_append w es fs first rest = record {
   says =
       ap (flat_map reply_text) (replies-append w es fs)
@@ -48,10 +48,10 @@ quiet_append w es fs first rest = record {
       first.goes rest.goes;
 }
 
-quiet_settle : (n : ℕ) (w : World) → IsQuiet w (settle_entries n w)
+quiet_settle : (n : ℕ) (w : World) → AnswersNothing w (settle_entries n w)
 quiet_settle n w = record { says = silent_all n w; goes = unrefused n w }
 
-quiet_tick : (w : World) (left : ℕ) → 0 < left → IsQuiet w (own_call (call.Tick (next_tick w left)) ∷ [])
+quiet_tick : (w : World) (left : ℕ) → 0 < left → AnswersNothing w (own_call (call.Tick (next_tick w left)) ∷ [])
 quiet_tick w left some =
     let is = tick_is w left some in
     let told = tick_says w (next_tick w left) (is_tick_by (next_tick w left) is.some is.most) in
@@ -60,7 +60,7 @@ quiet_tick w left some =
       goes = ap (list_any is_refused) told;
     }
 
-quiet_stride : (w : World) (left : ℕ) → 0 < left → IsQuiet w (next_stride w left)
+quiet_stride : (w : World) (left : ℕ) → 0 < left → AnswersNothing w (next_stride w left)
 quiet_stride w left some =
     let es = settle_entries full_stretch w in
     quiet_append w es (own_call (call.Tick (next_tick (replay_from w es) left)) ∷ []) (quiet_settle full_stretch w)
@@ -70,15 +70,15 @@ some_left : (clock time : ℕ) → nat_lt clock time ≡ true → 0 < time - clo
 some_left clock time e = grind (arith, nat_tests)
 
 quiet_next : (n : ℕ) (w : World) (time : ℕ) (b : Bool) → nat_lt w.tables.clock time ≡ b →
-    ((v : World) → IsQuiet v (wait_entries n v time)) → IsQuiet w (wait_entries (suc n) w time)
+    ((v : World) → AnswersNothing v (wait_entries n v time)) → AnswersNothing w (wait_entries (suc n) w time)
 quiet_next n w time true e rest =
     let left = time - w.tables.clock in
-    subst (IsQuiet w) (sym (wait_step n w time true e))
+    subst (AnswersNothing w) (sym (wait_step n w time true e))
     (quiet_append w (next_stride w left) (wait_entries n (replay_from w (next_stride w left)) time)
     (quiet_stride w left (some_left w.tables.clock time e)) (rest (replay_from w (next_stride w left))))
-quiet_next n w time false e rest = subst (IsQuiet w) (sym (wait_step n w time false e)) (quiet_settle full_stretch w)
+quiet_next n w time false e rest = subst (AnswersNothing w) (sym (wait_step n w time false e)) (quiet_settle full_stretch w)
 
-pub quiet_wait : (n : ℕ) (w : World) (time : ℕ) → IsQuiet w (wait_entries n w time)
+pub quiet_wait : (n : ℕ) (w : World) (time : ℕ) → AnswersNothing w (wait_entries n w time)
 quiet_wait zero w time = quiet_settle full_stretch w
 quiet_wait (suc n) w time = quiet_next n w time (nat_lt w.tables.clock time) refl (λ v. quiet_wait n v time)
 

@@ -2,7 +2,7 @@
 use Rattle.std.proofs.Common.{◌≡◌, ℕ, ◌+◌, ◌<◌, List, [], ◌∷◌, ◌++◌, length, take, Bool, true, false, cond, refl, Option, Some, None, Ok, Err, sym, ◌∙◌, ap, append_assoc, arith, filter}
 use Rattle.std.proofs.lemmas.List.{append-nil}
 use Rattle.swarm_objects.specs.declared.calls.Entry.{Entry}
-use Rattle.swarm_script.specs.Line.{Line}
+use Rattle.script_grammar.specs.declared.lines.Line.{Line}
 use Rattle.swarm_input.specs.Lines.{is_newline, onto_line, lines_of, bytes_of, IsWhole}
 use Rattle.swarm_input.specs.Script.{Reading, reading, reading_of, reading_at, read_on, meaning_at}
 use Rattle.swarm_input.specs.LineBuffer.{LineBuffer, has_newline_in}

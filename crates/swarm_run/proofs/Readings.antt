@@ -9,7 +9,7 @@ use Rattle.swarm_model.specs.History.{replay, replay_from, replies_from, step_wo
 use Rattle.swarm_objects.specs.declared.calls.Entry.{Entry}
 use Rattle.swarm_model.proofs.Base.Histories.{replay-append}
 use Rattle.swarm_print.specs.Texts.{reply_text}
-use Rattle.swarm_script.specs.Line.{Line}
+use Rattle.script_grammar.specs.declared.lines.Line.{Line}
 use Rattle.swarm_input.specs.Lines.{bytes_of}
 use Rattle.swarm_input.specs.Script.{Reading, reading_at, read_on, meaning_at}
 use Rattle.swarm_run.specs.Serial.{line_entries, entries_from, output_text, has_refusal, is_refused, line_out}

@@ -21,13 +21,13 @@ use Rattle.swarm_objects.specs.declared.calls.Entry.{Entry}
 use Rattle.swarm_objects.specs.declared.duties.Duty.{Duty}
 use Rattle.swarm_objects.specs.declared.replies.Refusal.TheVariants.{Halted, Full as IsFull}
 use Rattle.swarm_objects.specs.declared.replies.Reply.{Reply}
-use Rattle.duty_rows.proofs.First.{due_of_first, first_of_named}
-use Rattle.swarm_duties.specs.Quiet.{IsQuiet}
+use Rattle.swarm_plain.proofs.First.{due_of_first, first_of_named}
+use Rattle.swarm_duties.specs.Quiet.{IsKnownQuiet}
 use Rattle.swarm_duties.specs.Reached.{IsReached}
 use Rattle.swarm_duties.specs.declared.quiet.Quiet.{Quiet}
 use Rattle.swarm_model.proofs.Base.Halting.{entries-running, halted-call, halted-duty}
 use Rattle.swarm_model.proofs.Base.Histories.{IsLegalFrom-snoc, admitted, admitted-Halt, duty_admitted, entries-call, entries-replay, outcome-admitted, replay-snoc}
-use Rattle.swarm_script.specs.HasText.{is_number}
+use Rattle.script_grammar.specs.HasText.{is_number}
 use Rattle.swarm_run.specs.Work.{call_by, duty_by}
 
 pub reached : (w : World) (H : List Entry) → IsLegal H → w ≡ replay H → IsReached w
@@ -148,9 +148,9 @@ pub due_named : (w : World) (named : Duty) → duty_named (settle_answer w) ≡ 
 due_named w named busy = due_of_first (role_of named) w named (first_of_named w named busy)
 
 -- what is quiet after it is quiet in the new history
-pub quiet_next : (q : Quiet) (H G : List Entry) (named : Duty) → G ≡ H ++ own_duty named ∷ [] → IsQuiet q (effect (replay H) named) → IsQuiet q (replay G)
-quiet_next q H G named is quiet = subst (IsQuiet q) (sym (ap replay is ∙ replay-snoc empty_world H (own_duty named))) quiet
+pub quiet_next : (q : Quiet) (H G : List Entry) (named : Duty) → G ≡ H ++ own_duty named ∷ [] → IsKnownQuiet q (effect (replay H) named) → IsKnownQuiet q (replay G)
+quiet_next q H G named is quiet = subst (IsKnownQuiet q) (sym (ap replay is ∙ replay-snoc empty_world H (own_duty named))) quiet
 
 -- what is quiet in the history is quiet in the world
-pub quiet_at : (q : Quiet) (w : World) (H G : List Entry) → w ≡ replay H → H ≡ G → IsQuiet q (replay G) → IsQuiet q w
-quiet_at q w H G is same quiet = subst (IsQuiet q) (sym (is ∙ ap replay same)) quiet
+pub quiet_at : (q : Quiet) (w : World) (H G : List Entry) → w ≡ replay H → H ≡ G → IsKnownQuiet q (replay G) → IsKnownQuiet q w
+quiet_at q w H G is same quiet = subst (IsKnownQuiet q) (sym (is ∙ ap replay same)) quiet

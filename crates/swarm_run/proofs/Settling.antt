@@ -17,8 +17,8 @@ use Rattle.swarm_objects.specs.declared.duties.Duty.{Duty}
 use Rattle.swarm_model.proofs.Base.Histories.{replay-snoc, replay-append}
 use Rattle.swarm_model.proofs.Following.Named.{busy_step, idle_step}
 use Rattle.swarm_print.specs.Texts.{reply_text}
-use Rattle.swarm_script.specs.Line.{Line}
-use Rattle.swarm_script.specs.Line.TheVariants.{Call as CallLine, Settle as SettleLine}
+use Rattle.script_grammar.specs.declared.lines.Line.{Line}
+use Rattle.script_grammar.specs.declared.lines.Line.TheVariants.{Call as CallLine, Settle as SettleLine}
 use Rattle.swarm_model.specs.Script.{own_call, own_duty}
 use Rattle.swarm_model.specs.Serial.{settle_entries}
 use Rattle.swarm_run.specs.Serial.{line_entries, is_refused, line_out}

@@ -3,13 +3,13 @@ use Rattle.std.proofs.Common.{◌≡◌, ◌≤◌, ◌<◌, ◌^◌, ◌⊎◌,
 use Rattle.std.proofs.lemmas.Bool.Decides.{nat_tests}
 use Rattle.swarm_objects.specs.declared.calls.Call.TheVariants.{Halt, Settle, Tick}
 use Rattle.swarm_objects.specs.declared.duties.Duty.{Duty}
-use Rattle.swarm_script.specs.Line.{Line}
-use Rattle.swarm_script.specs.Line.TheVariants.{Blank, Call as CallLine, Wait, Settle as SettleLine}
-use Rattle.swarm_script.specs.LineFault.TheVariants.{NoMemory}
-use Rattle.swarm_script.specs.Lines.{meaning_of}
-use Rattle.swarm_script.specs.HasText.{duty_has_text, is_number}
-use Rattle.swarm_script.specs.Texts.{entry_text}
-use Rattle.swarm_script.proofs.Lengths.{FitsEntry, duty_length, halt_length, line_fits, tick_length}
+use Rattle.script_grammar.specs.declared.lines.Line.{Line}
+use Rattle.script_grammar.specs.declared.lines.Line.TheVariants.{Blank, Call as CallLine, Wait, Settle as SettleLine}
+use Rattle.script_grammar.specs.declared.lines.LineFault.TheVariants.{NoMemory}
+use Rattle.script_grammar.specs.Lines.{meaning_of}
+use Rattle.script_grammar.specs.HasText.{duty_has_text, is_number}
+use Rattle.script_grammar.specs.Texts.{entry_text}
+use Rattle.script_grammar.proofs.Lengths.{FitsEntry, duty_length, halt_length, line_fits, tick_length}
 use Rattle.swarm_model.specs.Script.{own_call}
 use Rattle.swarm_run.specs.Lengths.{is_short, call_is_short, line_is_short}
 use Rattle.swarm_run.specs.Work.{duty_by}

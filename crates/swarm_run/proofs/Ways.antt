@@ -6,12 +6,12 @@ use Rattle.swarm_model.specs.History.{replay}
 use Rattle.swarm_objects.specs.World.{empty_world}
 use Rattle.swarm_objects.specs.Limits.{most_entries}
 use Rattle.swarm_objects.specs.declared.calls.Entry.{Entry}
-use Rattle.swarm_script.specs.Lines.{meaning_of}
-use Rattle.swarm_script.specs.Line.{Line}
+use Rattle.script_grammar.specs.Lines.{meaning_of}
+use Rattle.script_grammar.specs.declared.lines.Line.{Line}
 use Rattle.swarm_input.specs.Lines.{lines_of, bytes_of, whole_lines, IsWhole}
 use Rattle.swarm_input.specs.Script.{Reading, reading, reading_of, meaning_at, in_text, most_bytes}
 use Rattle.swarm_run.specs.Serial.{entries, line_entries}
-use Rattle.swarm_input.specs.LineBuffer.{LineBuffer, to_read, TakesOn, Gives, GivesLine, MeansFault}
+use Rattle.swarm_input.specs.LineBuffer.{LineBuffer, to_read, TakesOn, HandsOut, GivesLine, MeansFault}
 use Rattle.swarm_run.specs.OfScript.{IsOfAllLines, IsOfGoodLines, IsOfScript}
 use Rattle.swarm_run.specs.ScriptSteps.{Reached, ReachedBy, with_halt}
 use Rattle.swarm_run.specs.Inside.LineSteps.{TakesPart, SaysLine}
@@ -65,7 +65,7 @@ of_all true input rest history h = h
 of_all false input rest history h = h
 
 -- there is no further line
-pub end : (input : Option (List ℕ)) (H : List Entry) (n : ℕ) (old new : LineBuffer) (now after : Option (List ℕ)) (refused : Bool) → ReachedBy input H n old now → Gives old new now after None →
+pub end : (input : Option (List ℕ)) (H : List Entry) (n : ℕ) (old new : LineBuffer) (now after : Option (List ℕ)) (refused : Bool) → ReachedBy input H n old now → HandsOut old new now after None →
     IsOfScript (cond refused Refused Done) input after (with_halt H)
 end None H n old new now after refused r gives = tt
 end (Some input) H n old new None after refused r gives = absurd r

@@ -5,9 +5,9 @@ use Rattle.swarm_objects.specs.Limits.{longest_entry}
 use Rattle.swarm_objects.specs.declared.calls.Call.{Call}
 use Rattle.swarm_objects.specs.declared.calls.Call.TheVariants.{Settle}
 use Rattle.swarm_objects.specs.declared.calls.Entry.{Entry}
-use Rattle.swarm_script.specs.Line.{Line}
-use Rattle.swarm_script.specs.Line.TheVariants.{Blank, Call as CallLine, Wait, Settle as SettleLine}
-use Rattle.swarm_script.specs.Texts.{entry_text}
+use Rattle.script_grammar.specs.declared.lines.Line.{Line}
+use Rattle.script_grammar.specs.declared.lines.Line.TheVariants.{Blank, Call as CallLine, Wait, Settle as SettleLine}
+use Rattle.script_grammar.specs.Texts.{entry_text}
 
 -- the entry's line, with its newline, isn't too long
 abbrev pub is_short : Entry → Bool

@@ -8,7 +8,7 @@ use Rattle.swarm_model.specs.Script.{own_call}
 use Rattle.swarm_objects.specs.World.{World}
 use Rattle.swarm_objects.specs.declared.calls.Call.TheVariants.{Halt}
 use Rattle.swarm_objects.specs.declared.calls.Entry.{Entry}
-use Rattle.swarm_script.specs.Line.{Line}
+use Rattle.script_grammar.specs.declared.lines.Line.{Line}
 use Rattle.swarm_input.specs.Lines.{whole_lines}
 use Rattle.swarm_input.specs.Script.{Reading, reading, reading_of, most_bytes}
 use Rattle.swarm_run.specs.Serial.{line_entries, entries, serial, output_text, line_out}

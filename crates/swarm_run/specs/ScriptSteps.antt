@@ -2,7 +2,7 @@
 use Rattle.std.specs.Prelude.{ℕ, ◌≡◌, ◌+◌, List, ◌++◌, ◌≤◌, [], length, true, false, None, Option, Some, ⊤, ◌∷◌}
 use Rattle.std.specs.List.{list_all}
 use Rattle.swarm_input.specs.Lines.{IsWhole}
-use Rattle.swarm_script.specs.Line.{Line}
+use Rattle.script_grammar.specs.declared.lines.Line.{Line}
 use Rattle.swarm_input.specs.Script.{reading, most_bytes}
 use Rattle.swarm_input.specs.LineBuffer.{LineBuffer}
 use Rattle.swarm_objects.specs.declared.calls.Entry.{Entry}

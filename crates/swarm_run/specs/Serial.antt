@@ -10,8 +10,8 @@ use Rattle.swarm_objects.specs.declared.calls.Entry.{Entry}
 use Rattle.swarm_objects.specs.declared.replies.Reply.{Reply}
 use Rattle.swarm_objects.specs.declared.replies.Reply.TheVariants.{Refused}
 use Rattle.swarm_print.specs.Texts.{reply_text}
-use Rattle.swarm_script.specs.Line.{Line}
-use Rattle.swarm_script.specs.Line.TheVariants.{Blank, Call as CallLine, Wait, Settle as SettleLine}
+use Rattle.script_grammar.specs.declared.lines.Line.{Line}
+use Rattle.script_grammar.specs.declared.lines.Line.TheVariants.{Blank, Call as CallLine, Wait, Settle as SettleLine}
 
 -- the entry is caller 0's
 abbrev pub is_by_first : Entry → Bool

@@ -3,22 +3,22 @@ ghost use Rattle.std.specs.Prelude.{◌≡◌, ◌<◌, [], ◌∷◌, ◌++◌,
 ghost use Rattle.std.specs.List.{list_all};
 ghost use Rattle.swarm_objects.specs.CallWords.{is_halt};
 ghost use Rattle.swarm_objects.specs.Limits.{most_entries};
-ghost use Rattle.swarm_duties.specs.Quiet.{IsQuiet};
+ghost use Rattle.swarm_duties.specs.Quiet.{IsKnownQuiet};
 ghost use Rattle.swarm_objects.specs.Duties.{is_due};
 ghost use Rattle.swarm_objects.specs.Kinds.{duty_named};
 ghost use Rattle.swarm_model.specs.History.{IsLegal, effect, replay};
 ghost use Rattle.swarm_model.specs.Script.{own_call};
 ghost use Rattle.swarm_model.specs.Settle.{settle_answer};
-ghost use Rattle.swarm_script.specs.HasText.{has_text};
+ghost use Rattle.script_grammar.specs.HasText.{has_text};
 ghost use Rattle.swarm_run.specs.Lengths.{is_short};
 ghost use Rattle.swarm_run.specs.Work.{AddsNothing, Calls, call_by, duty_by};
 
+use script_writer::fits;
 use std::alloc::{AllocError, Global};
 use std::marker::Model;
 use swarm_duties::{Quiet, answer, do_duty, quiet_after, settle_knowing};
 use swarm_objects::{Call, Duty, Entry, Ms, Reply, Settle, What};
 use swarm_plain::Plain;
-use swarm_script::fits;
 
 /// Why a call or a duty is no entry.
 #[derive(Clone, Copy, Debug, PartialEq, Eq)]
@@ -115,7 +115,7 @@ impl Run {
 
     /// The settle test. It doesn't look where it is known to be quiet.
     pub fn settled(&self, quiet: Quiet) -> Settle
-        requires { IsQuiet quiet (replay self.now) }
+        requires { IsKnownQuiet quiet (replay self.now) }
         ensures { result ≡ settle_answer (replay self.now) }
     {
         settle_knowing(&self.plain, quiet)
@@ -124,7 +124,7 @@ impl Run {
     /// Where it is quiet once the duty is done that the settle test names.
     pub fn quiet_after(&self, named: Duty) -> Quiet
         requires { duty_named (settle_answer (replay self.now)) ≡ Some named }
-        ensures { IsQuiet result (effect (replay self.now) named) }
+        ensures { IsKnownQuiet result (effect (replay self.now) named) }
     {
         quiet_after(&self.plain, named)
     }

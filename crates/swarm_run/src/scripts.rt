@@ -1,7 +1,7 @@
 // A script's lines, each called and answered.
 ghost use Rattle.std.specs.Prelude.{◌+◌, ◌≡◌, [], ◌∷◌, ◌++◌, ◌<◌, ◌≤◌, true, false, IfOk, OnOk, IfErr, Ok, Err, Some};
 ghost use Rattle.std.specs.Io.KnownBytes.{Appends};
-ghost use Rattle.swarm_duties.specs.Quiet.{IsQuiet};
+ghost use Rattle.swarm_duties.specs.Quiet.{IsKnownQuiet};
 ghost use Rattle.swarm_objects.specs.CallWords.{is_halt};
 ghost use Rattle.swarm_objects.specs.Kinds.{duty_named};
 ghost use Rattle.swarm_model.specs.History.{replay};
@@ -9,7 +9,7 @@ ghost use Rattle.swarm_model.specs.Script.{next_tick, own_call, own_duty, time_t
 ghost use Rattle.swarm_model.specs.Serial.{next_stride, settle_entries, wait_entries};
 ghost use Rattle.swarm_model.specs.Settle.{settle_answer};
 ghost use Rattle.swarm_objects.specs.Outside.{Rose, PutsPiece, HasCause};
-ghost use Rattle.swarm_script.specs.HasText.{call_has_text, line_has_text};
+ghost use Rattle.script_grammar.specs.HasText.{call_has_text, line_has_text};
 ghost use Rattle.swarm_run.specs.Lengths.{call_is_short, line_is_short};
 ghost use Rattle.swarm_input.specs.Script.{bad_line, in_text};
 ghost use Rattle.swarm_run.specs.Serial.{is_refused};
@@ -18,17 +18,18 @@ ghost use Rattle.swarm_run.specs.Work.{AddsNothing};
 ghost use Rattle.swarm_run.specs.Inside.LineSteps.{DoesLine, Passes, PutsAnswer, PutsReply, SaysLine, StopsIn};
 ghost use Rattle.swarm_run.specs.Endings.{ending_of, whole_ending, TellsEnding};
 ghost use Rattle.swarm_run.specs.ScriptSteps.{IsRead};
-ghost use Rattle.swarm_script.specs.Lines.{line_runs, meaning_of};
+ghost use Rattle.script_grammar.specs.Lines.{line_runs, meaning_of};
 
 use crate::endings::Ending;
 use crate::run::{Run, Unanswered};
+use script_grammar::{Line, LineFault};
+use script_reader::read_line;
 use std::alloc::Global;
 use swarm_duties::Quiet;
 use swarm_input::{Fault, Input, ReadFault, bad_line};
 use swarm_objects::limits::LONGEST_TICK;
 use swarm_objects::{Call, Duty, Failed, Ms, Reply, Settle, Sink, Source};
 use swarm_print::reply_text;
-use swarm_script::{Line, LineFault, read_line};
 
 // The most duties before a tick, and after the last one.
 const FULL_STRETCH: u64 = 100_000;
@@ -128,7 +129,7 @@ fn answer<O: Sink>(alloc: Global, run: &mut Run, out: &mut O, call: Call) -> Res
 
 // The duty that the settle test names, if it names one.
 fn next_duty(run: &Run, quiet: Quiet) -> Option<Duty>
-    requires { IsQuiet quiet (replay run.now) }
+    requires { IsKnownQuiet quiet (replay run.now) }
     ensures { result ≡ duty_named (settle_answer (replay run.now)) }
 {
     run.settled(quiet).duty()

@@ -7,9 +7,9 @@ use Rattle.swarm_objects.specs.Rows.{row_at, task_id}
 use Rattle.swarm_objects.specs.Sound.{IsSound}
 use Rattle.swarm_objects.specs.World.{Tables}
 use Rattle.swarm_objects.specs.declared.rows.Change.{Change}
-use Rattle.swarm_roles.proofs.Applied.{found_makes}
-use Rattle.swarm_roles.proofs.Few.{few_nodes}
-use Rattle.swarm_roles.specs.Changes.{Makes, put_found}
+use Rattle.swarm_objects.proofs.Applied.{found_makes}
+use Rattle.swarm_objects.proofs.Few.{few_nodes}
+use Rattle.swarm_objects.specs.ChangeLists.{Makes, put_found}
 
 pub ruleset load_steps = (sum_by-cons, few_nodes)
 

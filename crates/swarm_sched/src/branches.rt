@@ -4,13 +4,13 @@ ghost use Rattle.std.specs.Cmp.Lexicographic.{slice_cmp};
 ghost use Rattle.std.specs.Ordering.{nat_cmp, ordering_then};
 ghost use Rattle.swarm_objects.specs.Nodes.BestNode.{branch_load, spread_cmp};
 ghost use Rattle.swarm_objects.specs.Nodes.Constraints.{key_value};
-ghost use Rattle.swarm_roles.specs.Usable.{IsUsable};
+ghost use Rattle.swarm_objects.specs.Usable.{IsUsable};
 
 use crate::keys::{agrees, value_cmp};
 use std::cmp::Ordering;
-use swarm_admission::here;
+use swarm_objects::placed::here;
+use swarm_objects::walks::nodes;
 use swarm_objects::{Id, Key, Node, Rows};
-use swarm_roles::nodes;
 
 // The service's tasks on all nodes, admitting or not, that agree with this one on the keys.
 #[tactic(auto, using(crate::proofs::Scheduling::load_steps))]

@@ -5,16 +5,17 @@ ghost use Rattle.swarm_objects.specs.Kinds.{role_of};
 ghost use Rattle.swarm_objects.specs.Loops.Scheduler.{after_explain, after_place, explained};
 ghost use Rattle.swarm_objects.specs.Rows.{row_at, task_id};
 ghost use Rattle.swarm_objects.specs.declared.loops.Role.TheVariants as role;
-ghost use Rattle.swarm_roles.specs.Changes.{Makes, put_found};
-ghost use Rattle.swarm_roles.specs.Effects.{after_duty};
-ghost use Rattle.swarm_roles.specs.Usable.{IsUsable};
+ghost use Rattle.swarm_objects.specs.ChangeLists.{Makes, put_found};
+ghost use Rattle.swarm_objects.specs.Effects.{after_duty};
+ghost use Rattle.swarm_objects.specs.Usable.{IsUsable};
 
 use std::alloc::Global;
-use swarm_admission::counts;
+use swarm_filters::counts;
+use swarm_objects::effects::noted;
+use swarm_objects::states::set_state;
 use swarm_objects::{
     Change, Duplicate, Duty, Id, List, Ms, NoMemory, Note, Rows, Task, TaskState, Version, list_of,
 };
-use swarm_roles::{noted, set_state};
 
 // The task, ASSIGNED to the node at this time, with an empty note.
 fn placed(alloc: Global, task: &Task, version: Version, now: Ms, node: Id) -> Result<Task, NoMemory>

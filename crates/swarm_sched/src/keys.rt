@@ -8,8 +8,8 @@ ghost use Rattle.swarm_objects.specs.Nodes.Constraints.{key_value};
 
 use itoa::Buffer;
 use std::cmp::Ordering;
-use swarm_admission::key_value;
 use swarm_objects::{Key, Node};
+use swarm_spread::key_value;
 
 /// How the values of two nodes for the key compare.
 pub fn value_cmp(key: &Key, a: &Node, b: &Node) -> Ordering

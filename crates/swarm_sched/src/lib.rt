@@ -3,35 +3,32 @@
 
 mod branches;
 mod changing;
+mod filters;
 mod keys;
 mod placing;
 
 ghost use Rattle.std.specs.Prelude.{◌≡◌, None};
-ghost use Rattle.swarm_objects.specs.Loops.Scheduler.{
-  is_to_drop,
-  is_to_place,
-  placing,
-  schedule,
-  scheduler,
-};
+ghost use Rattle.swarm_objects.specs.Loops.Scheduler.{is_to_drop, is_to_place, placing, schedule, scheduler};
 ghost use Rattle.swarm_objects.specs.Rows.{first_of};
-ghost use Rattle.swarm_roles.specs.Usable.{IsUsable};
+ghost use Rattle.swarm_objects.specs.Usable.{IsUsable};
 
 pub use changing::changes;
-pub use placing::best_node;
-use swarm_admission::counts;
+pub use filters::Filters;
+pub use keys::{agrees, value_cmp};
+pub use placing::{best_node, best_node_by};
+use swarm_filters::counts;
+use swarm_objects::walks::tasks;
 use swarm_objects::{Duty, Note, Rows, Task};
-use swarm_roles::tasks;
 
-// The task isn't placed yet, and is to stop.
-fn is_to_drop(task: &Task) -> bool
+/// The task isn't placed yet, and is to stop.
+pub fn is_to_drop(task: &Task) -> bool
     ensures { result ≡ is_to_drop task.now }
 {
     task.is_below_assigned() && task.is_unwanted()
 }
 
-// The task waits for a node, and is to run.
-fn is_to_place(task: &Task) -> bool
+/// The task waits for a node, and is to run.
+pub fn is_to_place(task: &Task) -> bool
     ensures { result ≡ is_to_place task.now }
 {
     task.state.is_pending() && task.is_wanted()

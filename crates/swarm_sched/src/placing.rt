@@ -1,15 +1,20 @@
 // The best node for a task.
 ghost use Rattle.std.specs.Prelude.{◌≡◌};
-ghost use Rattle.std.specs.Option.{option_copied};
+ghost use Rattle.std.specs.Option.{option_copied, option_map};
 ghost use Rattle.swarm_objects.specs.Nodes.BestNode.{best_node, node_cmp};
-ghost use Rattle.swarm_objects.specs.Rows.{keep_least};
-ghost use Rattle.swarm_roles.specs.Usable.{IsUsable};
+ghost use Rattle.swarm_objects.specs.Rows.{keep_least, node_id};
+ghost use Rattle.swarm_objects.specs.Usable.{IsUsable};
+ghost use Rattle.swarm_spread.specs.Counts.{IsFor, Stands};
 
 use crate::branches::spread_cmp;
+use crate::filters::Filters;
 use std::cmp::Ordering;
-use swarm_admission::{here, is_open, load};
-use swarm_objects::{Node, Rows, Task};
-use swarm_roles::nodes;
+use swarm_filters::is_open;
+use swarm_objects::loads::Loads;
+use swarm_objects::placed::{here, load};
+use swarm_objects::walks::nodes;
+use swarm_objects::{Id, Node, Rows, Task};
+use swarm_spread::SpreadTree;
 
 // Which of two nodes comes first for the task.
 fn node_cmp<R: Rows>(rows: &R, task: &Task, a: &Node, b: &Node) -> Ordering
@@ -57,4 +62,20 @@ pub fn best_node<'a, R: Rows>(rows: &'a R, task: &Task) -> Option<&'a Node>
         }
     }
     best
+}
+
+/// Its id, by a tree that counts for the task, and where it is known what the tasks on each node come to.
+pub fn best_node_by<R: Rows, L: Loads>(
+    rows: &R,
+    loads: &L,
+    tree: &SpreadTree,
+    task: &Task,
+) -> Option<Id>
+    requires usable { IsUsable (R.tables rows.now) }
+    requires same { L.tables loads.now ≡ R.tables rows.now }
+    requires own { IsFor task.now tree.now }
+    requires stands { Stands (R.tables rows.now) tree.now }
+    ensures { result ≡ option_map node_id (best_node (R.tables rows.now) task.now) }
+{
+    tree.best_by(rows, loads, task, &Filters::new(rows, loads))
 }

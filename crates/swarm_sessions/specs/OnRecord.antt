@@ -1,8 +1,8 @@
 -- Sessions as contracts see them.
 use Rattle.std.specs.Prelude.{ℕ, ◌==◌, List, None, Option, Result, Some, if◌then◌else◌}
 use Rattle.std.specs.Option.{option_map}
-use Rattle.swarm_model.specs.Calls.Refusals.{unless}
-use Rattle.swarm_model.specs.Calls.Remote.{not_admitted}
+use Rattle.swarm_objects.specs.Refusals.{unless}
+use Rattle.swarm_objects.specs.Nodes.Admission.{not_admitted}
 use Rattle.swarm_objects.specs.Defaults.{usual_settings}
 use Rattle.swarm_objects.specs.Rows.{row_at, session_node}
 use Rattle.swarm_objects.specs.World.{Tables, empty_tables}

@@ -4,17 +4,16 @@ ghost use Rattle.swarm_objects.specs.Kinds.{role_of};
 ghost use Rattle.swarm_objects.specs.Loops.Dispatcher.{after_expire, fallen};
 ghost use Rattle.swarm_objects.specs.Rows.{node_id, row_at};
 ghost use Rattle.swarm_objects.specs.declared.loops.Role.TheVariants as role;
-ghost use Rattle.swarm_roles.specs.Changes.{Makes};
-ghost use Rattle.swarm_roles.specs.Effects.{after_duty};
-ghost use Rattle.swarm_roles.specs.Usable.{IsUsable};
-ghost use Rattle.swarm_sessions.specs.Nodes.{put_node_found};
+ghost use Rattle.swarm_objects.specs.ChangeLists.{Makes, put_node_found};
+ghost use Rattle.swarm_objects.specs.Effects.{after_duty};
+ghost use Rattle.swarm_objects.specs.Usable.{IsUsable};
 
 use std::alloc::Global;
+use swarm_objects::states::set_state;
 use swarm_objects::{
     Change, Duplicate, Duty, Id, List, Ms, NoMemory, Node, NodeState, Rows, TaskState, Version,
     list_of,
 };
-use swarm_roles::set_state;
 
 // The node, which is DOWN from this time on by the entry with this number.
 fn fallen(alloc: Global, node: &Node, version: Version, now: Ms) -> Result<Node, NoMemory>

@@ -4,20 +4,21 @@ ghost use Rattle.std.specs.List.{list_any};
 ghost use Rattle.swarm_objects.specs.Loops.Dispatcher.{dispatcher, is_expired, is_long_down, is_orphaned};
 ghost use Rattle.swarm_objects.specs.Loops.Words.{duty_where};
 ghost use Rattle.swarm_objects.specs.Rows.{first_of};
-ghost use Rattle.swarm_roles.specs.Usable.{IsUsable};
+ghost use Rattle.swarm_objects.specs.Usable.{IsUsable};
 
+use swarm_objects::homes::node_of;
+use swarm_objects::walks::{nodes, tasks};
 use swarm_objects::{Duty, Node, Rows, Task};
-use swarm_roles::{node_of, nodes, tasks};
 
-// It is READY without a live session.
-fn is_expired<R: Rows>(rows: &R, node: &Node) -> bool
+/// It is READY without a live session.
+pub fn is_expired<R: Rows>(rows: &R, node: &Node) -> bool
     ensures { result ≡ is_expired (R.tables rows.now) node.now }
 {
     node.is_ready() && !rows.session_live(node.id)
 }
 
-// It is down for the orphan time.
-fn is_long_down<R: Rows>(rows: &R, node: &Node) -> bool
+/// It is down for the orphan time.
+pub fn is_long_down<R: Rows>(rows: &R, node: &Node) -> bool
     ensures { result ≡ is_long_down (R.tables rows.now) node.now }
 {
     let orphan_time = rows.settings().orphan;
@@ -25,8 +26,8 @@ fn is_long_down<R: Rows>(rows: &R, node: &Node) -> bool
     node.is_down() && u128::from(node.down_since) + u128::from(orphan_time) <= u128::from(now)
 }
 
-// It is on a node that is down for the orphan time.
-fn is_orphaned<R: Rows>(rows: &R, task: &Task) -> bool
+/// It is on a node that is down for the orphan time.
+pub fn is_orphaned<R: Rows>(rows: &R, task: &Task) -> bool
     ensures { result ≡ is_orphaned (R.tables rows.now) task.now }
 {
     task.is_placed() && node_of(rows, task).is_some_and(|node| is_long_down(rows, node))

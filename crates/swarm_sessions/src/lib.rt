@@ -9,6 +9,6 @@ mod searching;
 mod sessions;
 
 pub use changing::changes;
-pub use dispatching::least_dispatcher;
-pub use reporting::status_check;
+pub use dispatching::{is_expired, is_long_down, is_orphaned, least_dispatcher};
+pub use reporting::{is_no_report, status_check};
 pub use sessions::Sessions;

@@ -1,7 +1,7 @@
 // What a node may report of a task.
 ghost use Rattle.std.specs.Prelude.{◌≡◌};
-ghost use Rattle.swarm_model.specs.Calls.Refusals.{unless};
-ghost use Rattle.swarm_model.specs.Calls.Remote.{bad_report, is_no_report};
+ghost use Rattle.swarm_objects.specs.Refusals.{unless};
+ghost use Rattle.swarm_objects.specs.Nodes.Admission.{bad_report, is_no_report};
 ghost use Rattle.swarm_objects.specs.Agents.Messages.{is_assigned_on};
 
 use swarm_objects::{Id, Refusal, Task, TaskState, rank};
@@ -13,8 +13,8 @@ fn is_assigned_on(node: Id, task: &Task) -> bool
     rank(TaskState::Assigned) <= rank(task.state) && task.is_on(node)
 }
 
-// No node reports this state.
-fn is_no_report(state: TaskState) -> bool
+/// No node reports this state.
+pub fn is_no_report(state: TaskState) -> bool
     ensures { result ≡ is_no_report state }
 {
     rank(state) < rank(TaskState::Accepted) || rank(TaskState::Rejected) < rank(state)

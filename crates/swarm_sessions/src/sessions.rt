@@ -2,8 +2,8 @@
 ghost use Rattle.std.specs.Prelude.{◌≡◌, ◌+◌, ◌*◌, ◌<◌, ◌≤◌, ◌++◌, ◌∷◌, [], drop, slice_set, take, vec_len, vec_capacity};
 ghost use Rattle.std.specs.Prelude.{IsOk, OnOk, OnErr};
 ghost use Rattle.std.specs.Option.{option_map};
-ghost use Rattle.swarm_model.specs.Calls.Refusals.{unless};
-ghost use Rattle.swarm_model.specs.Calls.Remote.{not_admitted};
+ghost use Rattle.swarm_objects.specs.Refusals.{unless};
+ghost use Rattle.swarm_objects.specs.Nodes.Admission.{not_admitted};
 ghost use Rattle.swarm_objects.specs.Bounds.{far_end};
 ghost use Rattle.swarm_objects.specs.Loops.Agents.{after_beat, beaten};
 ghost use Rattle.swarm_objects.specs.Nodes.Sessions.{new_session};

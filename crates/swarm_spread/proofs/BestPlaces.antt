@@ -16,7 +16,7 @@ use Rattle.swarm_objects.specs.World.{Tables}
 use Rattle.swarm_objects.specs.declared.nodes.Node.{Node}
 use Rattle.swarm_objects.specs.declared.tasks.Task.{Task}
 use Rattle.swarm_objects.specs.declared.templates.Key.{Key}
-use Rattle.swarm_spread.specs.Counts.{Counts, best_by, best_place, counts_of, here_on, is_before, path_of, place_order}
+use Rattle.swarm_spread.specs.Counts.{Counts, IsFor, Stands, best_by, best_place, counts_of, here_on, is_before, path_of, place_order}
 use Rattle.swarm_spread.specs.Sums.{branch_sum, order_from, same_branch, same_path, sum_where, value_at}
 
 -- the node stands at the place
@@ -196,6 +196,12 @@ best_is t x test c best scan is =
     ∙ (ap (option_map (id_at (map node_id t.nodes))) place
     ∙ chosen_id t.nodes (best_place (place_order t counts) test None 0 t.nodes) (best_by test t x)
     (chosen_all (place_order t counts) (node_cmp t x) test t.nodes [] t.nodes 0 refl refl (order_is t x) None None tt))
+
+-- the tree counts what a scan counts for the task
+pub scan_is : (t : Tables) (x : Task) (c : Counts) → Stands t c → IsFor x c →
+    c ≡ counts_of t x.service x.template.spread
+scan_is t x c stands own =
+    stands ∙ (ap (λ s. counts_of t s c.keys) own.service ∙ ap (counts_of t x.service) own.keys)
 
 pub best_read : (t : Tables) (x : Task) (test : Node → Bool) (c : Counts) (best : Option ℕ) (nodes : List ℕ) (place : ℕ) →
     c ≡ counts_of t x.service x.template.spread → best ≡ best_place (place_order t c) test None 0 t.nodes →

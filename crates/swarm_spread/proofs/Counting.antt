@@ -31,15 +31,18 @@ changed_map : (node : ℕ) (f : Node → ℕ) (ns : List Node) →
 changed_map node f [] = refl
 changed_map node f (n ∷ ns) = ap (λ (hs : List ℕ). cond (n.id == node) (f n + 1) (f n) ∷ hs) (changed_map node f ns)
 
--- the counts of these nodes
-abbrev of_nodes : List (List (List ℕ)) → List Node → (Node → ℕ) → Counts
-of_nodes paths ns f = record { nodes = map node_id ns; paths = paths; here = map f ns }
+-- so many tasks on each of these nodes
+abbrev with_here : ℕ → List Key → List (List (List ℕ)) → List Node → List ℕ → Counts
+with_here service keys paths ns hs =
+    record { service = service; keys = keys; nodes = map node_id ns; paths = paths; here = hs }
 
-same_counts : (paths : List (List (List ℕ))) (ns : List Node) (f g : Node → ℕ) → ((n : Node) → f n ≡ g n) →
-    of_nodes paths ns f ≡ of_nodes paths ns g
-same_counts paths ns f g each =
-    ap (λ (hs : List ℕ). let c : Counts = record { nodes = map node_id ns; paths = paths; here = hs } in c)
-    (same_map f g ns each)
+-- the counts of these nodes
+abbrev of_nodes : ℕ → List Key → List (List (List ℕ)) → List Node → (Node → ℕ) → Counts
+of_nodes service keys paths ns f = with_here service keys paths ns (map f ns)
+
+same_counts : (service : ℕ) (keys : List Key) (paths : List (List (List ℕ))) (ns : List Node) (f g : Node → ℕ) →
+    ((n : Node) → f n ≡ g n) → of_nodes service keys paths ns f ≡ of_nodes service keys paths ns g
+same_counts service keys paths ns f g each = ap (with_here service keys paths ns) (same_map f g ns each)
 
 one_more_where : (f k id : ℕ) → cond (id == k) (f + 1) f ≡ f + cond (k == id) 1 0
 one_more_where f k id = go (eqb id k) refl (eqb k id) refl
@@ -51,30 +54,30 @@ one_more_where f k id = go (eqb id k) refl (eqb k id) refl
     go false e false g = omega arith
 
 -- one task more
-counted_one : (paths : List (List (List ℕ))) (ns : List Node) (f : Node → ℕ) (x : Task) →
-    with_task (of_nodes paths ns f) x ≡ of_nodes paths ns (λ n. f n + cond (counts_on n.id x) 1 0)
-counted_one paths ns f x = go (is_counted x) x.node
+counted_one : (service : ℕ) (keys : List Key) (paths : List (List (List ℕ))) (ns : List Node) (f : Node → ℕ) (x : Task) →
+    with_task (of_nodes service keys paths ns f) x ≡ of_nodes service keys paths ns (λ n. f n + cond (counts_on n.id x) 1 0)
+counted_one service keys paths ns f x = go (is_counted x) x.node
   where
     go : (b : Bool) (o : Option ℕ) →
-        on_row (of_nodes paths ns f) (with_change one_more (of_nodes paths ns f)) (cond b o None)
-        ≡ of_nodes paths ns (λ n. f n + cond (b && option_eq same_number o (Some n.id)) 1 0)
-    go false o = same_counts paths ns f (λ n. f n + 0) (λ n. omega arith)
-    go true None = same_counts paths ns f (λ n. f n + 0) (λ n. omega arith)
+        on_row (of_nodes service keys paths ns f) (with_change one_more (of_nodes service keys paths ns f)) (cond b o None)
+        ≡ of_nodes service keys paths ns (λ n. f n + cond (b && option_eq same_number o (Some n.id)) 1 0)
+    go false o = same_counts service keys paths ns f (λ n. f n + 0) (λ n. omega arith)
+    go true None = same_counts service keys paths ns f (λ n. f n + 0) (λ n. omega arith)
     go true (Some k) =
-        ap (λ (hs : List ℕ). let c : Counts = record { nodes = map node_id ns; paths = paths; here = hs } in c)
+        ap (with_here service keys paths ns)
         (changed_map k f ns ∙ same_map (λ n. cond (n.id == k) (f n + 1) (f n)) (λ n. f n + cond (k == n.id) 1 0) ns
         (λ n. one_more_where (f n) k n.id))
 
 count_cons : (p : Task → Bool) (x : Task) (xs : List Task) → count_by p (x ∷ xs) ≡ cond (p x) 1 0 + count_by p xs
 count_cons p x xs = sum_by-cons (λ y. cond (p y) 1 0) x xs
 
-counted : (paths : List (List (List ℕ))) (ns : List Node) (f : Node → ℕ) (xs : List Task) →
-    with_tasks (of_nodes paths ns f) xs ≡ of_nodes paths ns (λ n. f n + count_by (counts_on n.id) xs)
-counted paths ns f [] = same_counts paths ns f (λ n. f n + 0) (λ n. omega arith)
-counted paths ns f (x ∷ xs) =
-    ap (λ (c : Counts). with_tasks c xs) (counted_one paths ns f x)
-    ∙ (counted paths ns (λ n. f n + cond (counts_on n.id x) 1 0) xs
-    ∙ same_counts paths ns (λ n. f n + cond (counts_on n.id x) 1 0 + count_by (counts_on n.id) xs)
+counted : (service : ℕ) (keys : List Key) (paths : List (List (List ℕ))) (ns : List Node) (f : Node → ℕ) (xs : List Task) →
+    with_tasks (of_nodes service keys paths ns f) xs ≡ of_nodes service keys paths ns (λ n. f n + count_by (counts_on n.id) xs)
+counted service keys paths ns f [] = same_counts service keys paths ns f (λ n. f n + 0) (λ n. omega arith)
+counted service keys paths ns f (x ∷ xs) =
+    ap (λ (c : Counts). with_tasks c xs) (counted_one service keys paths ns f x)
+    ∙ (counted service keys paths ns (λ n. f n + cond (counts_on n.id x) 1 0) xs
+    ∙ same_counts service keys paths ns (λ n. f n + cond (counts_on n.id x) 1 0 + count_by (counts_on n.id) xs)
     (λ n. f n + count_by (counts_on n.id) (x ∷ xs)) (λ n. omega (arith, count_cons (counts_on n.id) x xs)))
 
 count_filter : (p q r : Task → Bool) (xs : List Task) → ((x : Task) → (q x && p x) ≡ r x) →
@@ -105,17 +108,18 @@ zeros_map (n ∷ ns) = ap (λ (hs : List ℕ). 0 ∷ hs) (zeros_map ns)
 
 -- counting all tasks of the service counts what a scan counts
 pub counted_all : (t : Tables) (service : ℕ) (keys : List Key) (c : Counts) (xs : List Task) →
-    c ≡ empty_counts t keys → xs ≡ filter (is_of service) t.tasks → with_tasks c xs ≡ counts_of t service keys
+    c ≡ empty_counts t service keys → xs ≡ filter (is_of service) t.tasks → with_tasks c xs ≡ counts_of t service keys
 counted_all t service keys c xs empty all =
     let paths : List (List (List ℕ)) = map (path_of keys) t.nodes in
-    let begin : c ≡ of_nodes paths t.nodes (λ n. 0) =
-    empty ∙ ap (λ (hs : List ℕ). let d : Counts = record { nodes = map node_id t.nodes; paths = paths; here = hs } in d)
-    (zeros_map t.nodes) in
+    let begin : c ≡ of_nodes service keys paths t.nodes (λ n. 0) =
+    empty ∙ ap (with_here service keys paths t.nodes) (zeros_map t.nodes) in
     ap (λ (d : Counts). with_tasks d xs) begin
-    ∙ (ap (with_tasks (of_nodes paths t.nodes (λ n. 0))) all
-    ∙ (counted paths t.nodes (λ n. 0) (filter (is_of service) t.tasks)
-    ∙ same_counts paths t.nodes (λ n. 0 + count_by (counts_on n.id) (filter (is_of service) t.tasks)) (here_on t service)
+    ∙ (ap (with_tasks (of_nodes service keys paths t.nodes (λ n. 0))) all
+    ∙ (counted service keys paths t.nodes (λ n. 0) (filter (is_of service) t.tasks)
+    ∙ same_counts service keys paths t.nodes (λ n. 0 + count_by (counts_on n.id) (filter (is_of service) t.tasks))
+    (here_on t service)
     (λ n. omega (arith, here_is t service n))))
 
-pub none_counted : (t : Tables) (keys : List Key) (c : Counts) → c ≡ empty_counts t keys → sum_by itself c.here ≡ 0
-none_counted t keys c empty = ap (λ (d : Counts). sum_by itself d.here) empty ∙ sum_of_none (length t.nodes)
+pub none_counted : (t : Tables) (service : ℕ) (keys : List Key) (c : Counts) →
+    c ≡ empty_counts t service keys → sum_by itself c.here ≡ 0
+none_counted t service keys c empty = ap (λ (d : Counts). sum_by itself d.here) empty ∙ sum_of_none (length t.nodes)

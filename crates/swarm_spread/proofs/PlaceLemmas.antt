@@ -1,14 +1,13 @@
 -- Places of nodes among those in order, and their counts.
-use Rattle.std.proofs.Common.{◌≡◌, ◌≢◌, ◌∙◌, ◌+◌, ◌<◌, ◌≤◌, Bool, Err, List, None, Result, Some, [], ◌∷◌, ap, arith, cond, eqb, false, get_or, length, ltb, refl, set, subst, suc, sym, true, zero, ℕ}
+use Rattle.std.proofs.Common.{◌≡◌, ◌≢◌, ◌∙◌, ◌<◌, ◌≤◌, Bool, Err, List, None, Result, Some, [], ◌∷◌, ap, arith, cond, eqb, false, get_or, length, ltb, refl, set, subst, suc, sym, true, zero, ℕ}
 use Rattle.std.proofs.lemmas.Bool.Decides.{nat_tests}
 use Rattle.std.proofs.lemmas.List.Sorted.{searched}
 use Rattle.std.proofs.lemmas.List.{get_or_default, length-map, length-replicate}
-use Rattle.std.proofs.lemmas.List.Sums.{sum_by-cons, sum_by-set}
 use Rattle.std.proofs.lemmas.Bool.{eq-eqb}
 use Rattle.std.specs.List.Sorted.{IsBinarySearchResult}
 use Rattle.std.specs.Ordering.{nat_cmp, ordering_then}
 use Rattle.std.specs.declared.cmp.Ordering.{Ordering}
-use Rattle.std.specs.Prelude.{map, replicate, sum_by}
+use Rattle.std.specs.Prelude.{map, replicate}
 use Rattle.swarm_objects.specs.Nodes.BestNode.{load}
 use Rattle.swarm_objects.specs.Nodes.Constraints.{key_value}
 use Rattle.swarm_objects.specs.Rows.{RisesFrom, itself, node_id}
@@ -83,43 +82,31 @@ changed_there f node n (m ∷ nodes) (h ∷ hs) (suc place) rises long lt at =
     ap (λ (b : Bool). cond b (f h) h ∷ changed_at f node nodes hs) (not_same m node (λ same. omega arith))
     ∙ ap (λ (xs : List ℕ). h ∷ xs) rest
 
-pub one_of_all : (hs : List ℕ) (place : ℕ) → get_or hs place 0 ≤ sum_by itself hs
-one_of_all [] place = omega arith
-one_of_all (h ∷ hs) zero = omega (arith, sum_by-cons itself h hs)
-one_of_all (h ∷ hs) (suc place) = omega (arith, sum_by-cons itself h hs, one_of_all hs place)
-
 -- What a tree is seen as after a change.
 
-abbrev seen : List ℕ → List (List (List ℕ)) → List ℕ → Counts
-seen nodes paths here = record { nodes = nodes; paths = paths; here = here }
+abbrev seen : ℕ → List Key → List ℕ → List (List (List ℕ)) → List ℕ → Counts
+seen service keys nodes paths here =
+    record { service = service; keys = keys; nodes = nodes; paths = paths; here = here }
 
-pub change_there : (f : ℕ → ℕ) (node place v w : ℕ) (nodes : List ℕ) (paths : List (List (List ℕ))) (here : List ℕ)
-    (levels : Levels) (c : Counts) → seen nodes paths here ≡ c → IsKept nodes paths here levels →
+pub change_there : {service : ℕ} {keys : List Key} (f : ℕ → ℕ) (node place v w : ℕ)
+    (nodes : List ℕ) (paths : List (List (List ℕ))) (here : List ℕ)
+    (levels : Levels) (c : Counts) → seen service keys nodes paths here ≡ c → IsKept nodes paths here levels →
     IsPlaceOf nodes node (Some place) → v ≡ get_or here place v → w ≡ f v →
-    seen nodes paths (set here place w) ≡ with_change f c node
-change_there f node place v w nodes paths here levels c is kept at read put =
+    seen service keys nodes paths (set here place w) ≡ with_change f c node
+change_there {service} {keys} f node place v w nodes paths here levels c is kept at read put =
     let value : v ≡ get_or here place 0 =
     read ∙ get_or_default here place v 0 (let long = kept.each_count in let within = at.0 in omega arith) in
     let there = changed_there f node 0 nodes here place kept.rising kept.each_count at.0 at.1 in
-    subst (λ (d : Counts). seen nodes paths (set here place w) ≡ with_change f d node) is
-    (ap (seen nodes paths) (ap (set here place) (put ∙ ap f value) ∙ sym there))
+    subst (λ (d : Counts). seen service keys nodes paths (set here place w) ≡ with_change f d node) is
+    (ap (seen service keys nodes paths) (ap (set here place) (put ∙ ap f value) ∙ sym there))
 
-pub change_nowhere : (f : ℕ → ℕ) (node : ℕ) (nodes : List ℕ) (paths : List (List (List ℕ))) (here : List ℕ)
-    (levels : Levels) (c : Counts) → seen nodes paths here ≡ c → IsKept nodes paths here levels →
+pub change_nowhere : {service : ℕ} {keys : List Key} (f : ℕ → ℕ) (node : ℕ)
+    (nodes : List ℕ) (paths : List (List (List ℕ))) (here : List ℕ)
+    (levels : Levels) (c : Counts) → seen service keys nodes paths here ≡ c → IsKept nodes paths here levels →
     IsPlaceOf nodes node None → c ≡ with_change f c node
-change_nowhere f node nodes paths here levels c is kept none =
+change_nowhere {service} {keys} f node nodes paths here levels c is kept none =
     subst (λ (d : Counts). d ≡ with_change f d node) is
-    (ap (seen nodes paths) (sym (changed_nowhere f node nodes here kept.each_count none)))
-
--- one task more makes the sum greater by one at most
-pub few_more : (place v : ℕ) (nodes : List ℕ) (paths : List (List (List ℕ))) (here : List ℕ) (levels : Levels) (c : Counts) →
-    seen nodes paths here ≡ c → IsKept nodes paths here levels → place < length nodes → v ≡ get_or here place v →
-    sum_by itself (set here place (v + 1)) ≤ sum_by itself c.here + 1
-few_more place v nodes paths here levels c is kept lt read =
-    let within : place < length here = let long = kept.each_count in omega arith in
-    let value : v ≡ get_or here place 0 = read ∙ get_or_default here place v 0 within in
-    subst (λ (d : Counts). sum_by itself (set here place (v + 1)) ≤ sum_by itself d.here + 1) is
-    (omega (arith, value, sum_by-set itself here place (v + 1) 0 within))
+    (ap (seen service keys nodes paths) (sym (changed_nowhere f node nodes here kept.each_count none)))
 
 -- where it begins
 
@@ -152,8 +139,9 @@ empty_kept keys ns nodes paths here levels ids each none rises sums same count =
     }
 
 -- the order of two places, by parts
-pub order_of_places : (t : Tables) (nodes : List ℕ) (paths : List (List (List ℕ))) (here : List ℕ) (levels : Levels)
-    (c : Counts) (one other a b : ℕ) (first second third : Ordering) → seen nodes paths here ≡ c →
+pub order_of_places : {service : ℕ} {keys : List Key} (t : Tables)
+    (nodes : List ℕ) (paths : List (List (List ℕ))) (here : List ℕ) (levels : Levels)
+    (c : Counts) (one other a b : ℕ) (first second third : Ordering) → seen service keys nodes paths here ≡ c →
     IsKept nodes paths here levels → one < length nodes → other < length nodes →
     first ≡ order_from paths here 0 (length (branches_of levels)) one other →
     a ≡ get_or here one a → b ≡ get_or here other b → second ≡ nat_cmp a b →

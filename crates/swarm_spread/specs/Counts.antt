@@ -14,8 +14,11 @@ use Rattle.swarm_objects.specs.declared.templates.Key.{Key}
 use Rattle.swarm_spread.specs.Sums.{AreBranching, HasDepth, HasSums, branches_of, order_from}
 use Rattle.swarm_spread.specs.declared.levels.Levels.{Levels}
 
--- of each node its id, its values for the keys of the preferences, and how many tasks of the service it has
+-- a service, the keys of its preferences, and of each node its id, its values for the keys, and how many tasks of the
+-- service it has
 pub record Counts : Type 0 where
+  pub service : ℕ
+  pub keys : List Key
   pub nodes : List ℕ
   pub paths : List (List (List ℕ))
   pub here : List ℕ
@@ -27,14 +30,33 @@ abbrev pub here_on : Tables → ℕ → Node → ℕ
 here_on t service n = here t n.id service
 
 -- no task of the nodes is counted
-abbrev pub empty_counts : Tables → List Key → Counts
-empty_counts t keys =
-    record { nodes = map node_id t.nodes; paths = map (path_of keys) t.nodes; here = replicate (length t.nodes) 0 }
+abbrev pub empty_counts : Tables → ℕ → List Key → Counts
+empty_counts t service keys = record {
+  service = service;
+  keys = keys;
+  nodes = map node_id t.nodes;
+  paths = map (path_of keys) t.nodes;
+  here = replicate (length t.nodes) 0;
+}
 
 -- what a scan of the rows counts
 abbrev pub counts_of : Tables → ℕ → List Key → Counts
-counts_of t service keys =
-    record { nodes = map node_id t.nodes; paths = map (path_of keys) t.nodes; here = map (here_on t service) t.nodes }
+counts_of t service keys = record {
+  service = service;
+  keys = keys;
+  nodes = map node_id t.nodes;
+  paths = map (path_of keys) t.nodes;
+  here = map (here_on t service) t.nodes;
+}
+
+-- they are those of a scan
+abbrev pub Stands : Tables → Counts → Type 0
+Stands t c = c ≡ counts_of t c.service c.keys
+
+-- they are those of the task's service, by its own preferences
+pub record IsFor (x : Task) (c : Counts) : Type 0 where
+  pub service : c.service ≡ x.service
+  pub keys : c.keys ≡ x.template.spread
 
 -- the counts, where that of the node is changed
 abbrev pub changed_at : (ℕ → ℕ) → ℕ → List ℕ → List ℕ → List ℕ

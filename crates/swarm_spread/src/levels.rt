@@ -1,34 +1,8 @@
 // For each placement preference, which branch each node belongs to, and how many tasks each branch has. A node is
 // spoken of by its place among the nodes.
-ghost use Rattle.std.specs.Prelude.{
-  ◌≡◌,
-  ◌<◌,
-  ◌≤◌,
-  ◌+◌,
-  ◌-◌,
-  ◌^◌,
-  [],
-  IfOk,
-  get_or,
-  length,
-  replicate,
-  slice_set,
-  sum_by,
-};
+ghost use Rattle.std.specs.Prelude.{◌≡◌, ◌<◌, ◌≤◌, ◌+◌, ◌-◌, ◌^◌, [], IfOk, get_or, length, replicate, slice_set, sum_by};
 ghost use Rattle.swarm_objects.specs.Rows.{itself};
-ghost use Rattle.swarm_spread.specs.Sums.{
-  AreBranching,
-  AreFirst,
-  HasDepth,
-  HasSums,
-  IsBranching,
-  IsDeep,
-  IsFirst,
-  branches_of,
-  is_alike,
-  order_from,
-  value_at,
-};
+ghost use Rattle.swarm_spread.specs.Sums.{AreBranching, AreFirst, HasDepth, HasSums, IsBranching, IsDeep, IsFirst, branches_of, is_alike, order_from, value_at};
 
 use std::alloc::Global;
 use std::cmp::Ordering;

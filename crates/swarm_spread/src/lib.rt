@@ -2,9 +2,11 @@
 #![tactic(auto)]
 
 mod admits;
+mod key_values;
 mod levels;
 mod tree;
 mod values;
 
 pub use admits::Admits;
+pub use key_values::key_value;
 pub use tree::SpreadTree;

@@ -2,20 +2,31 @@
 ghost use Rattle.std.specs.Prelude.{◌≡◌, IfOk, map};
 ghost use Rattle.swarm_objects.specs.Nodes.Constraints.{key_value};
 ghost use Rattle.swarm_objects.specs.Rows.{node_id};
-ghost use Rattle.swarm_roles.specs.Usable.{IsUsable};
+ghost use Rattle.swarm_objects.specs.Usable.{IsUsable};
 ghost use Rattle.swarm_spread.specs.Counts.{path_of};
 
+use crate::key_values::key_value;
 use itoa::Buffer;
 use std::alloc::Global;
-use swarm_admission::key_value;
-use swarm_objects::{Id, Key, List, Name, NoMemory, Node, Rows, add};
-use swarm_roles::nodes;
+use swarm_objects::walks::nodes;
+use swarm_objects::{Duplicate, Id, Key, List, Name, NoMemory, Node, Rows, add};
 
 fn value_of(alloc: Global, node: &Node, key: &Key) -> Result<Name, NoMemory>
     ensures { IfOk result (λ value. value ≡ key_value node.now key.now) }
 {
     let mut digits = Buffer::new();
     Name::new(alloc, key_value(node, key, &mut digits))
+}
+
+// The same keys, made anew.
+pub fn keys_again(alloc: Global, keys: &[Key]) -> Result<List<Key>, NoMemory>
+    ensures { IfOk result (λ again. again ≡ keys.now) }
+{
+    let mut again = List::new(alloc);
+    for key in keys {
+        add(&mut again, key.duplicate(alloc)?)?;
+    }
+    Ok(again)
 }
 
 // The node's values for the keys.

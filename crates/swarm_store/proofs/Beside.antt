@@ -1,9 +1,11 @@
 -- An operation answers by what a store holds of a world, and makes the same of it in every such world.
 use Rattle.std.proofs.Common.{◌≡◌, ℕ, List, [], ◌∷◌, ◌++◌, Option, Some, None, Ok, Err, refl, sym, ap, ◌∙◌}
 use Rattle.swarm_model.specs.Calls.Networks.{remove_network}
-use Rattle.swarm_model.specs.Calls.Nodes.{remove_node, respecified_node, update_node}
+use Rattle.swarm_model.specs.Calls.Nodes.{remove_node, update_node}
+use Rattle.swarm_objects.specs.NewRows.{respecified_node}
 use Rattle.swarm_model.specs.Calls.Operations.{apply_op, apply_ops}
-use Rattle.swarm_model.specs.Calls.Refusals.{Done, conflict, found, network_by, node_by, service_by, unless}
+use Rattle.swarm_model.specs.Calls.Refusals.{Done, conflict, found, network_by, node_by, service_by}
+use Rattle.swarm_objects.specs.Refusals.{unless}
 use Rattle.swarm_model.specs.Calls.Services.{go_back, remove_service, rollback_service, update_service}
 use Rattle.swarm_objects.specs.World.{Tables, World}
 use Rattle.swarm_objects.specs.declared.calls.Op.{Op}
@@ -19,7 +21,7 @@ use Rattle.swarm_objects.specs.declared.services.Service.{Service}
 use Rattle.swarm_objects.specs.declared.services.ServiceSpec.{ServiceSpec}
 use Rattle.swarm_store.specs.Inside.Done.{made, made_all}
 use Rattle.swarm_store.specs.Stored.{without_sessions}
-use Rattle.swarm_roles.specs.Effects.{world_with}
+use Rattle.swarm_objects.specs.Effects.{world_with}
 
 -- a world with what a store holds of this one
 abbrev pub bare : World → World

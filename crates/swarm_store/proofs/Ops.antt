@@ -3,10 +3,13 @@ use Rattle.std.proofs.Common.{◌≡◌, ℕ, ◌+◌, ◌<◌, Bool, true, fals
 use Rattle.std.specs.Prelude.{◌&&◌, filter, find, is_some, not}
 use Rattle.std.specs.Option.{option_map}
 use Rattle.swarm_model.specs.Calls.Networks.{new_network, remove_network, with_network}
-use Rattle.swarm_model.specs.Calls.Nodes.{broken_node, is_left_behind, new_node, remove_node, respecified_node, update_node, with_node, without_node}
+use Rattle.swarm_model.specs.Calls.Nodes.{broken_node, is_left_behind, remove_node, update_node, with_node, without_node}
+use Rattle.swarm_objects.specs.NewRows.{new_node, respecified_node}
 use Rattle.swarm_model.specs.Calls.Operations.{apply_op}
-use Rattle.swarm_model.specs.Calls.Refusals.{bad_spec, conflict, first_refusal, found, has_name, in_use, missing_network, name_taken, network_by, node_by, node_name, port_taken, refuse, service_by, service_name, too_many, unless}
-use Rattle.swarm_model.specs.Calls.Services.{broken_draft, filled, is_attempt_of, new_service, remove_service, respecified, with_service}
+use Rattle.swarm_model.specs.Calls.Refusals.{bad_spec, conflict, found, has_name, in_use, missing_network, name_taken, network_by, node_by, node_name, port_taken, service_by, service_name, too_many}
+use Rattle.swarm_objects.specs.Refusals.{first_refusal, refuse, unless}
+use Rattle.swarm_model.specs.Calls.Services.{broken_draft, filled, is_attempt_of, new_service, remove_service, with_service}
+use Rattle.swarm_objects.specs.NewRows.{respecified}
 use Rattle.swarm_objects.proofs.RowLemmas.{number_above, row_at-Some}
 use Rattle.swarm_objects.specs.Changes.{change_node, change_where, in_state, with_tables}
 use Rattle.swarm_objects.specs.Limits.{most_networks, most_nodes, most_services}
@@ -28,10 +31,10 @@ use Rattle.swarm_objects.specs.declared.services.Service.{Service}
 use Rattle.swarm_objects.specs.declared.services.ServiceSpec.{ServiceSpec}
 use Rattle.swarm_objects.specs.declared.tasks.Attempt.{Attempt}
 use Rattle.swarm_objects.specs.declared.tasks.TaskState.TheVariants as state
-use Rattle.swarm_plain.proofs.Rooms.{has-found}
-use Rattle.swarm_plain.proofs.Updates.{rolled-back, updated}
-use Rattle.swarm_plain.specs.Operations.{update_refusal}
-use Rattle.swarm_roles.specs.Effects.{world_with}
+use Rattle.swarm_objects.proofs.RowLemmas.{has-found}
+use Rattle.swarm_model.proofs.Base.Updates.{rolled-back, updated}
+use Rattle.swarm_model.specs.Calls.Services.{update_refusal}
+use Rattle.swarm_objects.specs.Effects.{world_with}
 use Rattle.swarm_store.proofs.ByKey.{with-last, with-put}
 use Rattle.swarm_store.specs.Inside.Done.{made}
 use Rattle.swarm_store.specs.Inside.State.{Stands}

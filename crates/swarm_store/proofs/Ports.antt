@@ -7,9 +7,9 @@ use Rattle.std.proofs.lemmas.Bool.Decides.{nat_tests}
 use Rattle.std.proofs.lemmas.List.Sums.{sum_by-cons}
 use Rattle.swarm_objects.specs.Rows.{RisesFrom, drop_row, first_of, row_at, service_id, with_row}
 use Rattle.swarm_objects.specs.declared.services.Service.{Service}
-use Rattle.swarm_ports.proofs.Counting.{moved_both, moved_none}
-use Rattle.swarm_ports.proofs.Rows.{counted_again, entered, none_left}
-use Rattle.swarm_ports.specs.Counts.{AreTimes, Counts, MovesAll, count_of, known, moved, times, times_in, times_of}
+use Rattle.store_ports.proofs.Counting.{moved_both, moved_none}
+use Rattle.store_ports.proofs.Rows.{counted_again, entered, none_left}
+use Rattle.store_ports.specs.Counts.{AreTimes, Counts, MovesAll, count_of, known, moved, times, times_in, times_of}
 
 pub gone_with : {X : Type 0} (key : X → ℕ) (new : X) (rows : List X) →
     drop_row key (key new) (with_row key new rows) ≡ drop_row key (key new) rows

@@ -2,17 +2,18 @@
 use Rattle.std.proofs.Common.{◌≤◌, length, subst, ◌≡◌, inl, inr, List, Some, None, Result, Ok, Err, refl, sym, ap, ◌∙◌}
 use Rattle.std.proofs.lemmas.List.Sums.{count_by-le-length, length-filter}
 use Rattle.std.specs.Prelude.{Bool, count_by, filter}
-use Rattle.swarm_model.specs.Calls.Views.{View, is_shown_running, shows}
+use Rattle.swarm_model.specs.Calls.Views.{View, shows}
+use Rattle.swarm_objects.specs.Shown.{is_shown_running}
 use Rattle.swarm_objects.specs.Tasks.Words.{is_of}
 use Rattle.swarm_objects.specs.declared.services.Service.{Service}
 use Rattle.swarm_objects.specs.declared.tasks.Task.{Task}
-use Rattle.swarm_roles.proofs.PlaceLemmas.{and_left, count_again}
+use Rattle.swarm_objects.proofs.PlaceLemmas.{and_left, count_again}
 use Rattle.swarm_objects.specs.World.{Tables, World}
 use Rattle.swarm_objects.specs.declared.calls.Query.{Query}
 use Rattle.swarm_objects.specs.declared.calls.Query.TheVariants as query
 use Rattle.swarm_objects.specs.declared.replies.Refusal.{Refusal}
 use Rattle.swarm_objects.specs.declared.replies.ViewReply.{ViewReply}
-use Rattle.swarm_plain.specs.Inside.Lookups.{Gets}
+use Rattle.swarm_model.specs.Outcome.{Gets}
 use Rattle.swarm_store.specs.Stored.{Shows, StandsFor, Stored, without_sessions}
 
 shows-beside : (t : Tables) (asked : Query) → shows (without_sessions t) asked ≡ shows t asked

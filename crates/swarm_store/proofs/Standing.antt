@@ -15,7 +15,7 @@ use Rattle.swarm_objects.specs.declared.tasks.Task.{Task}
 use Rattle.std.proofs.Common.{OnOk, OnErr, Result, Ok, Err}
 use Rattle.swarm_model.specs.Changed.{changes_between}
 use Rattle.swarm_objects.specs.declared.watches.Event.{Event}
-use Rattle.swarm_roles.specs.Changes.{CanApply, CanApplyAll, apply_change, apply_changes, put_task}
+use Rattle.swarm_objects.specs.ChangeLists.{CanApply, CanApplyAll, apply_change, apply_changes, put_task}
 use Rattle.swarm_store.specs.Stored.{AppliesChanges, StandsFor, Stored, without_sessions}
 use Rattle.swarm_store.proofs.ByKey.{with-last, with-put}
 use Rattle.swarm_store.specs.Inside.State.{Stands}

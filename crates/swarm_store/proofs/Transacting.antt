@@ -5,10 +5,12 @@ use Rattle.std.proofs.lemmas.Bool.Decides.{nat_tests}
 use Rattle.swarm_model.proofs.Base.Answers.{OnDone, given-found, given-is, given-unless, given-unless_some}
 use Rattle.swarm_model.specs.Calls.{txn, txn_answer}
 use Rattle.swarm_model.specs.Calls.Networks.{new_network, remove_network}
-use Rattle.swarm_model.specs.Calls.Nodes.{new_node, remove_node, respecified_node, tables_without_node, update_node}
+use Rattle.swarm_objects.specs.NewRows.{new_node, respecified_node}
+use Rattle.swarm_model.specs.Calls.Nodes.{remove_node, tables_without_node, update_node}
 use Rattle.swarm_model.specs.Calls.Operations.{apply_op, apply_ops}
 use Rattle.swarm_model.specs.Calls.Refusals.{Done, conflict, network_by, node_by, service_by}
-use Rattle.swarm_model.specs.Calls.Services.{filled, go_back, new_service, remove_service, respecified, rollback_service, update_service}
+use Rattle.swarm_model.specs.Calls.Services.{filled, go_back, new_service, remove_service, rollback_service, update_service}
+use Rattle.swarm_objects.specs.NewRows.{respecified}
 use Rattle.swarm_model.specs.Changed.{changes_between}
 use Rattle.swarm_objects.proofs.RowLemmas.{IsBelow-map, IsBelow-more, RisesFrom-filter, RisesFrom-map, RisesFrom-push, drop_next}
 use Rattle.swarm_objects.specs.Limits.{most_ops}
@@ -25,8 +27,8 @@ use Rattle.swarm_objects.specs.declared.replies.Wanted.TheVariants as wanted_by
 use Rattle.swarm_objects.specs.declared.services.Service.{Service}
 use Rattle.swarm_objects.specs.declared.services.ServiceSpec.{ServiceSpec}
 use Rattle.swarm_objects.specs.declared.watches.Event.{Event}
-use Rattle.swarm_plain.proofs.OpSteps.{next-done}
-use Rattle.swarm_roles.specs.Effects.{world_with}
+use Rattle.swarm_model.proofs.Base.Updates.{next-done}
+use Rattle.swarm_objects.specs.Effects.{world_with}
 use Rattle.swarm_store.proofs.Beside.{same-ops}
 use Rattle.swarm_store.proofs.Orphans.{orphaned, orphaned-id}
 use Rattle.swarm_store.proofs.Standing.{below-filter, below-push, below-put, rises-put}

@@ -20,7 +20,7 @@ use Rattle.swarm_objects.specs.declared.calls.Query.TheVariants as query
 use Rattle.swarm_objects.specs.declared.calls.What.TheVariants as what
 use Rattle.swarm_objects.specs.declared.replies.Refusal.{Refusal}
 use Rattle.swarm_objects.specs.declared.replies.Reply.TheVariants as reply
-use Rattle.swarm_roles.specs.Usable.{IsUsable}
+use Rattle.swarm_objects.specs.Usable.{IsUsable}
 use Rattle.swarm_store.specs.Followed.{Follows, UsableStoreLaw}
 use Rattle.swarm_store.specs.Stored.{HasNearTasks, StandsFor, Stored, Transacts, without_sessions}
 

@@ -2,7 +2,7 @@
 use Rattle.std.specs.Prelude.{◌≡◌, ℕ, List, length, false}
 use Rattle.swarm_model.specs.History.{IsLegal, replay}
 use Rattle.swarm_objects.specs.declared.calls.Entry.{Entry}
-use Rattle.swarm_roles.specs.Usable.{IsUsable}
+use Rattle.swarm_objects.specs.Usable.{IsUsable}
 use Rattle.swarm_store.specs.Stored.{StandsFor, Stored}
 
 -- what a store asks for that stands for the world of a legal history, it has

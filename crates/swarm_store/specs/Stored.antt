@@ -15,7 +15,7 @@ use Rattle.swarm_objects.specs.declared.replies.Reply.TheVariants as reply
 use Rattle.swarm_objects.specs.declared.replies.ViewReply.{ViewReply}
 use Rattle.swarm_objects.specs.declared.rows.Change.{Change}
 use Rattle.swarm_objects.specs.declared.watches.Event.{Event}
-use Rattle.swarm_roles.specs.Changes.{apply_changes}
+use Rattle.swarm_objects.specs.ChangeLists.{apply_changes}
 
 pub record Stored : Type 0 where
   -- without sessions

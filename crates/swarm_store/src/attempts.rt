@@ -1,6 +1,5 @@
 // The attempts to restart tasks, under change.
-ghost use Rattle.std.specs.Prelude.{◌≡◌, ◌≤◌, ◌+◌, ◌++◌, ◌∷◌, IfOk, OnErr, OnOk, [], count_by, filter, length, not};
-ghost use Rattle.std.specs.Prelude.{take};
+ghost use Rattle.std.specs.Prelude.{◌≡◌, ◌≤◌, ◌+◌, ◌++◌, ◌∷◌, IfOk, OnErr, OnOk, [], count_by, filter, not};
 ghost use Rattle.swarm_model.specs.Calls.Services.{is_attempt_of};
 ghost use Rattle.swarm_objects.specs.Tasks.Attempts.{is_kept_attempt};
 ghost use Rattle.swarm_store.specs.Inside.Attempts.{HasPlaces};

@@ -4,7 +4,7 @@ ghost use Rattle.std.specs.Vec.{vec_capacity};
 ghost use Rattle.swarm_model.specs.Changed.{changes_between};
 ghost use Rattle.swarm_objects.specs.Rows.{has_row, node_id, service_id, task_id};
 ghost use Rattle.swarm_objects.specs.Tasks.New.{with_task};
-ghost use Rattle.swarm_roles.specs.Changes.{CanApply, CanApplyAll, apply_change, apply_changes, put_task};
+ghost use Rattle.swarm_objects.specs.ChangeLists.{CanApply, CanApplyAll, apply_change, apply_changes, put_task};
 ghost use Rattle.swarm_store.specs.Inside.State.{Draws, DrawsAll, HasRooms, IsSettled, Stands, changed_rows};
 ghost use Rattle.swarm_store.specs.Inside.State.{origin, tables_now, tables_start};
 

@@ -85,5 +85,5 @@ pub(crate) fn held_count(state: &State, service: &Service) -> u64
     ensures { result ≡ length (held_places (tables_now state.now) service.now) }
 {
     let tasks = TasksAlone { state };
-    swarm_roles::held_count(&tasks, service)
+    role_words::held_count(&tasks, service)
 }

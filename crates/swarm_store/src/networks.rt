@@ -1,60 +1,23 @@
 // The operations on networks, and the one on the settings of the cluster.
-ghost use Rattle.std.specs.Prelude.{if◌then◌else◌, ◌≡◌, ◌+◌, ◌∷◌, [], None, find, length};
-ghost use Rattle.std.specs.List.{list_any};
+ghost use Rattle.std.specs.Prelude.{if◌then◌else◌, ◌≡◌, ◌∷◌, [], None, find, length};
 ghost use Rattle.std.specs.Ordering.{nat_cmp};
 ghost use Rattle.std.specs.Option.{option_map};
 ghost use Rattle.std.specs.Result.{result_err};
-ghost use Rattle.swarm_model.specs.Calls.Refusals.{bad_spec, first_refusal, name_taken, names_network, network_by};
-ghost use Rattle.swarm_model.specs.Calls.Refusals.{service_uses, task_uses, too_many, users};
+ghost use Rattle.swarm_model.specs.Calls.Refusals.{bad_spec, name_taken, network_by};
+ghost use Rattle.swarm_objects.specs.Refusals.{first_refusal};
+ghost use Rattle.swarm_objects.specs.NetworkUse.{service_uses, task_uses};
+ghost use Rattle.swarm_model.specs.Calls.Refusals.{too_many, users};
 ghost use Rattle.swarm_objects.specs.Limits.{most_networks};
 ghost use Rattle.swarm_objects.specs.Rows.{keep_least, least_by, network_id};
 ghost use Rattle.swarm_objects.specs.Rules.Networks.{subnet_breaks, subnet_rules};
-ghost use Rattle.swarm_objects.specs.Same.{same_number};
 ghost use Rattle.swarm_store.specs.Inside.Ops.{Does};
 ghost use Rattle.swarm_store.specs.Inside.State.{Stands, origin, tables_now};
 
 use crate::names::not_found;
 use crate::state::State;
-use swarm_check::{check_network, check_settings};
+use swarm_check::{check_network, check_settings, service_uses, task_uses};
 use swarm_objects::limits::MOST_NETWORKS;
-use swarm_objects::{
-    Duplicate, Id, Kind, Name, Network, Op, Refusal, Rows, Service, ServiceSpec, Settings, Task,
-    Version,
-};
-
-// The network is one of these.
-fn is_among(network: Id, networks: &[Id]) -> bool
-    ensures { result ≡ list_any (same_number network) networks.now }
-{
-    networks.iter().any(|id| network == *id)
-}
-
-// The specification names the network.
-fn names_network(network: Id, spec: &ServiceSpec) -> bool
-    ensures { result ≡ names_network network spec.now }
-{
-    is_among(network, spec.template.networks.as_slice())
-}
-
-// The service is on the network, or was before its last change.
-fn service_uses(network: Id, service: &Service) -> bool
-    ensures { result ≡ service_uses network service.now }
-{
-    if names_network(network, &service.spec) {
-        return true;
-    }
-    match &service.previous {
-        Some(previous) => names_network(network, previous),
-        None => false,
-    }
-}
-
-// The task is on the network, and isn't over.
-fn task_uses(network: Id, task: &Task) -> bool
-    ensures { result ≡ task_uses network task.now }
-{
-    task.is_not_over() && is_among(network, task.template.networks.as_slice())
-}
+use swarm_objects::{Duplicate, Id, Kind, Name, Network, Op, Refusal, Rows, Settings, Version};
 
 // The least id so far with that of a further user, if it is one.
 fn keep_user(least: Option<Id>, uses: bool, id: Id) -> Option<Id>

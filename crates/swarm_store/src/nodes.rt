@@ -1,10 +1,12 @@
 // The operations on nodes.
-ghost use Rattle.std.specs.Prelude.{None, Some, if◌then◌else◌, not, ◌&&◌, ◌<◌, ◌≡◌, ◌+◌, ◌∷◌, ◌≤◌, Bool, IfOk};
-ghost use Rattle.std.specs.Prelude.{List, OnOk, [], find, length};
+ghost use Rattle.std.specs.Prelude.{None, Some, if◌then◌else◌, not, ◌&&◌, ◌<◌, ◌≡◌, ◌∷◌, IfOk};
+ghost use Rattle.std.specs.Prelude.{OnOk, [], length};
 ghost use Rattle.std.specs.Option.{option_map};
 ghost use Rattle.std.specs.Result.{result_err};
-ghost use Rattle.swarm_model.specs.Calls.Nodes.{broken_node, is_left_behind, new_node, respecified_node};
-ghost use Rattle.swarm_model.specs.Calls.Refusals.{conflict, first_refusal, name_taken, node_by, refuse, too_many};
+ghost use Rattle.swarm_model.specs.Calls.Nodes.{broken_node, is_left_behind};
+ghost use Rattle.swarm_objects.specs.NewRows.{new_node, respecified_node};
+ghost use Rattle.swarm_model.specs.Calls.Refusals.{conflict, name_taken, node_by, too_many};
+ghost use Rattle.swarm_objects.specs.Refusals.{first_refusal, refuse};
 ghost use Rattle.swarm_objects.specs.Nodes.Words.{is_down};
 ghost use Rattle.swarm_objects.specs.Tasks.Words.{is_not_over};
 ghost use Rattle.swarm_objects.specs.declared.tasks.Task.{Task as Row};
@@ -18,63 +20,13 @@ use crate::names::not_found;
 use crate::state::State;
 use crate::transactions::check_version;
 use std::alloc::Global;
-use swarm_check::check_node;
+use swarm_check::{check_node, new_node, respecified_node};
+use swarm_objects::effects::in_state;
 use swarm_objects::limits::MOST_NODES;
 use swarm_objects::{
-    Availability, Duplicate, Id, Kind, Labels, Ms, Name, NoMemory, Node, NodeDraft, NodeRole,
-    NodeState, Op, Refusal, Rows, Task, TaskState, Version,
+    Availability, Duplicate, Id, Kind, Labels, Ms, Name, NoMemory, Node, NodeDraft, NodeRole, Op,
+    Refusal, Rows, Task, TaskState, Version,
 };
-use swarm_roles::in_state;
-
-// The row of a node that joins.
-fn new_node(
-    alloc: Global,
-    version: Version,
-    id: Id,
-    name: &Name,
-    draft: &NodeDraft,
-) -> Result<Node, NoMemory>
-    ensures { IfOk result (λ node. node ≡ new_node version id name.now draft.now) }
-{
-    let name = name.duplicate(alloc)?;
-    let draft = draft.duplicate(alloc)?;
-    Ok(Node {
-        id,
-        version,
-        name,
-        labels: draft.labels,
-        role: draft.role,
-        availability: draft.availability,
-        state: NodeState::Unknown,
-        down_since: 0,
-        cpu: draft.cpu,
-        mem: draft.mem,
-        os: draft.os,
-        arch: draft.arch,
-        engine: draft.engine,
-        remote: draft.remote,
-    })
-}
-
-// The node as an update leaves it.
-fn respecified_node(
-    alloc: Global,
-    version: Version,
-    labels: &Labels,
-    role: NodeRole,
-    availability: Availability,
-    node: &Node,
-) -> Result<Node, NoMemory>
-    ensures { IfOk result (λ new. new ≡ respecified_node version labels.now role availability node.now) }
-{
-    let labels = labels.duplicate(alloc)?;
-    let mut new = node.duplicate(alloc)?;
-    new.version = version;
-    new.labels = labels;
-    new.role = role;
-    new.availability = availability;
-    Ok(new)
-}
 
 // The task as its node leaves it behind, where it isn't over.
 fn orphan_of(

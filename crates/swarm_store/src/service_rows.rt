@@ -2,14 +2,14 @@
 ghost use Rattle.std.specs.Prelude.{◌≡◌, ◌⊎◌, ◌<◌, ◌≤◌, ◌+◌, ◌^◌, IfOk, OnErr, OnOk, [], false, length, true};
 ghost use Rattle.std.specs.List.{list_any};
 ghost use Rattle.swarm_objects.specs.Rows.{drop_row, row_at, service_id, with_row};
-ghost use Rattle.swarm_ports.specs.Counts.{AreTimes, MovesAll, is_other, own_times, times_of};
+ghost use Rattle.store_ports.specs.Counts.{AreTimes, MovesAll, is_other, own_times, times_of};
 
 use crate::tracked::Tracked;
 use crate::walks::all;
 use std::alloc::Global;
 use std::marker::Model;
+use store_ports::{PortCounts, times};
 use swarm_objects::{Id, NoMemory, Service};
-use swarm_ports::{PortCounts, times};
 
 #[derive(Drop)]
 pub(crate) struct Services {
@@ -19,7 +19,7 @@ pub(crate) struct Services {
 
 impl Model for Services {
     ghost use Rattle.swarm_objects.specs.declared.services.Service.{Service as Row};
-    ghost use Rattle.swarm_ports.specs.Counts.{AreTimes};
+    ghost use Rattle.store_ports.specs.Counts.{AreTimes};
     ghost use Rattle.swarm_store.specs.Inside.Span.{Track};
 
     ghost Value = { Track Row };
@@ -72,7 +72,7 @@ fn own_times(rows: &Tracked<Service>, own: Option<Id>, udp: bool, number: u16) -
 }
 
 impl Services {
-    #[tactic(auto, using(swarm_ports::proofs::Rows::none_named))]
+    #[tactic(auto, using(store_ports::proofs::Rows::none_named))]
     pub(crate) fn new(alloc: Global) -> Result<Services, NoMemory>
         ensures { IfOk result (λ s. (s.start ≡ []) × (s.rows ≡ []) × (s.changed ≡ 0) × (s.room ≡ 0)) }
     {

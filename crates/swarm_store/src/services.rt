@@ -1,220 +1,28 @@
 // The operations on services.
-ghost use Rattle.std.specs.Prelude.{◌≡◌, ◌⊎◌, ◌∷◌, [], IfOk, IfSome, None, Some, length, not, ◌&&◌};
-ghost use Rattle.std.specs.List.{list_any};
-ghost use Rattle.std.specs.Option.{option_eq, option_map};
+ghost use Rattle.std.specs.Prelude.{◌≡◌, ◌⊎◌, ◌∷◌, [], IfOk, None, Some, length};
+ghost use Rattle.std.specs.Option.{option_map};
 ghost use Rattle.std.specs.Result.{result_err};
-ghost use Rattle.swarm_model.specs.Calls.Refusals.{
-  first_refusal,
-  is_missing_network,
-  missing_network,
-  name_taken,
-  network_by,
-  other_holder,
-  port_taken,
-  same_mode,
-  service_by,
-  too_many,
-};
-ghost use Rattle.swarm_model.specs.Calls.Services.{
-  broken_draft,
-  filled,
-  network_ids,
-  new_service,
-  next_iteration,
-  respecified,
-  version_of_template,
-};
+ghost use Rattle.swarm_objects.specs.Refusals.{first_refusal};
+ghost use Rattle.swarm_model.specs.Calls.Refusals.{is_missing_network, missing_network, name_taken, network_by, other_holder, port_taken, service_by, too_many};
+ghost use Rattle.swarm_objects.specs.NewRows.{same_mode};
+ghost use Rattle.swarm_model.specs.Calls.Services.{broken_draft, filled, network_ids, new_service};
+ghost use Rattle.swarm_objects.specs.NewRows.{respecified};
 ghost use Rattle.swarm_objects.specs.Limits.{most_services};
 ghost use Rattle.swarm_objects.specs.Rows.{first_of, network_id, service_id};
-ghost use Rattle.swarm_objects.specs.Same.{same_number, same_template};
-ghost use Rattle.swarm_objects.specs.Services.Ports.{gives_number, has_port_number, holds_port, is_numbered};
-ghost use Rattle.swarm_objects.specs.Services.Ports.{is_open_in, kept_numbers, ports_of};
-ghost use Rattle.swarm_plain.specs.Operations.{update_refusal};
+ghost use Rattle.swarm_model.specs.Calls.Services.{update_refusal};
 ghost use Rattle.swarm_store.specs.Inside.Ops.{Does};
 ghost use Rattle.swarm_store.specs.Inside.State.{Stands, origin, tables_now};
 
 use crate::names::not_found;
 use crate::state::State;
 use crate::transactions::check_version;
-use std::alloc::Global;
-use std::mem::replace;
-use swarm_check::check_service;
+use swarm_check::{check_service, first_service, respecified, same_mode};
 use swarm_objects::limits::MOST_SERVICES;
+use swarm_objects::ports::is_other_holder;
 use swarm_objects::{
-    Draft, Duplicate, Id, Kind, List, Mode, Name, NoMemory, Op, Port, PortNumber, Refusal, Rows,
-    Same, Service, ServiceSpec, Template, Version, add,
+    Draft, Duplicate, Id, Kind, List, Name, NoMemory, Op, Port, Refusal, Rows, Same, Service,
+    ServiceSpec, Version, add,
 };
-
-// The two modes are of one kind.
-fn same_mode(one: Mode, two: Mode) -> bool
-    ensures { result ≡ same_mode one two }
-{
-    match (one, two) {
-        (Mode::Replicated(_), Mode::Replicated(_)) => true,
-        (Mode::Global, Mode::Global) => true,
-        (Mode::Job { .. }, Mode::Job { .. }) => true,
-        _ => false,
-    }
-}
-
-// The port has this protocol and number.
-fn has_port_number(udp: bool, number: u16, port: Port) -> bool
-    ensures { result ≡ has_port_number udp number port }
-{
-    port.udp == udp && port.number == Some(number)
-}
-
-fn is_numbered(udp: bool, number: u16, given: PortNumber) -> bool
-    ensures { result ≡ is_numbered udp number given }
-{
-    given.udp == udp && given.number == number
-}
-
-fn has_number(udp: bool, number: u16, ports: &[Port]) -> bool
-    ensures { result ≡ list_any (has_port_number udp number) ports.now }
-{
-    ports.iter().any(|port| has_port_number(udp, number, *port))
-}
-
-// The specification that was there before the last change names it.
-fn had_number(udp: bool, number: u16, previous: &Option<ServiceSpec>) -> bool
-    ensures { result ≡ list_any (has_port_number udp number) (ports_of previous.now) }
-{
-    match previous {
-        Some(spec) => has_number(udp, number, spec.ports.as_slice()),
-        None => false,
-    }
-}
-
-fn was_given(udp: bool, number: u16, numbers: &[PortNumber]) -> bool
-    ensures { result ≡ list_any (is_numbered udp number) numbers.now }
-{
-    numbers.iter().any(|given| is_numbered(udp, number, *given))
-}
-
-// The service holds the number of this protocol.
-fn holds_port(udp: bool, number: u16, service: &Service) -> bool
-    ensures { result ≡ holds_port udp number service.now }
-{
-    has_number(udp, number, service.spec.ports.as_slice())
-        || had_number(udp, number, &service.previous)
-        || was_given(udp, number, service.numbers.as_slice())
-}
-
-// The service is another one, and holds the number of this protocol.
-fn is_other_holder(own: Option<Id>, udp: bool, number: u16, service: &Service) -> bool
-    ensures { result ≡
-        (not (option_eq same_number own (Some service.now.id)) && holds_port udp number service.now) }
-{
-    own != Some(service.id) && holds_port(udp, number, service)
-}
-
-// The number was given to the port.
-fn gives_number(port: Port, given: PortNumber) -> bool
-    ensures { result ≡ gives_number port given }
-{
-    given.target == port.target && given.udp == port.udp
-}
-
-// One of the ports is open, and this is its number.
-fn is_open_in(ports: &[Port], given: PortNumber) -> bool
-    ensures { result ≡ is_open_in ports.now given }
-{
-    ports
-        .iter()
-        .any(|port| port.number.is_none() && gives_number(*port, given))
-}
-
-// The numbers that the service keeps with this specification and the one that it had.
-fn kept_numbers(
-    alloc: Global,
-    service: &Service,
-    spec: &ServiceSpec,
-) -> Result<List<PortNumber>, NoMemory>
-    ensures { IfOk result (λ kept. kept ≡ kept_numbers service.now.numbers spec.now (Some service.now.spec)) }
-{
-    let mut kept = List::new(alloc);
-    for given in service.numbers.as_slice() {
-        if is_open_in(spec.ports.as_slice(), *given)
-            || is_open_in(service.spec.ports.as_slice(), *given)
-        {
-            add(&mut kept, *given)?;
-        }
-    }
-    Ok(kept)
-}
-
-// The two templates are equal.
-fn is_same_template(one: &Template, two: &Template) -> bool
-    ensures { result ≡ same_template one.now two.now }
-{
-    one.same(two)
-}
-
-// The version of the template, which changes with its content.
-fn version_of_template(version: Version, spec: &ServiceSpec, service: &Service) -> Version
-    ensures { result ≡ version_of_template version spec.now service.now }
-{
-    if is_same_template(&spec.template, &service.spec.template) {
-        service.template_version
-    } else {
-        version
-    }
-}
-
-// A job is a new one after each change; none where its numbers are at an end.
-fn next_iteration(mode: Mode, iteration: u64) -> Option<u64>
-    ensures { IfSome result (λ next. next ≡ next_iteration mode iteration) }
-{
-    match mode {
-        Mode::Replicated(_) | Mode::Global => Some(iteration),
-        Mode::Job { .. } => iteration.checked_add(1),
-    }
-}
-
-// What the service keeps as it is respecified: all but the two specifications. The one that it has is copied last, so
-// that no way out drops it.
-fn kept_service(
-    alloc: Global,
-    version: Version,
-    back: bool,
-    spec: &ServiceSpec,
-    service: &Service,
-) -> Result<Service, NoMemory>
-    ensures { let there = service.now in let new = respecified version back spec.now there in
-        IfOk result (λ kept. kept ≡ record new { spec = there.spec; previous = None }) }
-{
-    let Some(iteration) = next_iteration(service.spec.mode, service.iteration) else {
-        return Err(NoMemory);
-    };
-    Ok(Service {
-        id: service.id,
-        version,
-        name: service.name.duplicate(alloc)?,
-        previous: None,
-        template_version: version_of_template(version, spec, service),
-        rolling_back: back,
-        iteration,
-        numbers: kept_numbers(alloc, service, spec)?,
-        run: service.run.duplicate(alloc)?,
-        spec: service.spec.duplicate(alloc)?,
-    })
-}
-
-// The service with the specification, after a rollback or another change.
-fn respecified(
-    alloc: Global,
-    version: Version,
-    back: bool,
-    spec: ServiceSpec,
-    service: &Service,
-) -> Result<Service, NoMemory>
-    ensures { IfOk result (λ new. new ≡ respecified version back spec service.now) }
-{
-    let mut new = kept_service(alloc, version, back, &spec, service)?;
-    new.previous = Some(replace(&mut new.spec, spec));
-    Ok(new)
-}
 
 impl State {
     // No network has this name.
@@ -320,18 +128,8 @@ impl State {
         requires { Stands (tables_now self.now) }
         ensures { IfOk result (λ s. s ≡ new_service version (tables_now self.now) name.now draft.now) }
     {
-        Ok(Service {
-            id: self.next_id,
-            version,
-            name: name.duplicate(self.alloc)?,
-            spec: self.filled(draft)?,
-            previous: None,
-            template_version: version,
-            rolling_back: false,
-            iteration: 0,
-            numbers: List::new(self.alloc),
-            run: None,
-        })
+        let spec = self.filled(draft)?;
+        first_service(self.alloc, version, self.next_id, name, spec)
     }
 
     // Why another specification is refused.

@@ -1,9 +1,7 @@
 // What a store holds, now and when the changes under way began.
-ghost use Rattle.std.specs.Prelude.{◌≡◌, ◌<◌, ◌≤◌, ◌+◌, ◌^◌, ℕ, IfNone, IfOk, IfSome, OnErr, OnOk, [], filter};
+ghost use Rattle.std.specs.Prelude.{◌≡◌, ◌<◌, ◌≤◌, ◌+◌, ◌^◌, ℕ, IfNone, IfOk, IfSome, OnErr, OnOk, []};
 ghost use Rattle.std.specs.Vec.{vec_capacity};
-ghost use Rattle.std.specs.Option.{option_copied};
 ghost use Rattle.swarm_model.specs.Changed.{changes_between};
-ghost use Rattle.swarm_objects.specs.Rows.{row_above};
 ghost use Rattle.swarm_objects.specs.World.{empty_tables};
 ghost use Rattle.swarm_store.specs.Inside.State.{HasRooms, IsSettled, changed_rows, origin, tables_now, tables_start};
 

@@ -8,7 +8,7 @@ ghost use Rattle.swarm_objects.specs.Rows.{network_id, node_id, row_above, row_a
 ghost use Rattle.swarm_objects.specs.Tasks.Attempts.{is_kept_attempt};
 ghost use Rattle.swarm_objects.specs.Tasks.Words.{is_of, is_on};
 ghost use Rattle.swarm_objects.specs.World.{World, empty_tables};
-ghost use Rattle.swarm_roles.specs.Changes.{CanApplyAll};
+ghost use Rattle.swarm_objects.specs.ChangeLists.{CanApplyAll};
 ghost use Rattle.swarm_store.specs.Stored.{AppliesChanges, HasNearTasks, Shows, StandsFor, Transacts};
 
 use crate::state::{State, widen};

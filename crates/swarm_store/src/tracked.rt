@@ -3,23 +3,13 @@ ghost use Rattle.std.specs.Prelude.{ℕ, false, true, IfNone, IfOk, IfSome, ◌�
 ghost use Rattle.std.specs.Prelude.{◌+◌, ◌<◌, ◌≤◌, ◌++◌, ◌∷◌, Bool, drop, flat_map, take, None, Some, [], OnErr};
 ghost use Rattle.std.specs.Prelude.{OnOk, filter, length, map, slice_get, ◌==◌};
 ghost use Rattle.std.specs.Bool.{Decides};
-ghost use Rattle.std.specs.Option.{option_copied, option_map, option_to_list};
+ghost use Rattle.std.specs.Option.{option_copied, option_to_list};
 ghost use Rattle.std.specs.Vec.{vec_capacity, vec_len};
 ghost use Rattle.swarm_index.specs.Keys.{has_key, value_of};
 ghost use Rattle.swarm_model.specs.Changed.{event, events_of, verb_of};
 ghost use Rattle.swarm_objects.specs.Rows.{RisesFrom, drop_row, has_row, is_some_and, put_row, row_above, row_at};
 ghost use Rattle.swarm_objects.specs.Rows.{rows_before, with_row};
-ghost use Rattle.swarm_store.specs.Inside.Tracking.{
-  AreImages,
-  DecidesRows,
-  IsImage,
-  IsTracked,
-  before_id,
-  image_events,
-  put_back,
-  remembered,
-  restored,
-};
+ghost use Rattle.swarm_store.specs.Inside.Tracking.{DecidesRows, IsImage, IsTracked, before_id, image_events, put_back, remembered, restored};
 ghost use Rattle.swarm_store.specs.Inside.Tracking.{Kept};
 
 use std::alloc::Global;

@@ -1,38 +1,23 @@
 // What queries show: lists of objects, and how an object is named.
 ghost use Rattle.std.specs.Prelude.{◌≡◌, filter, map, IfOk, Ok};
 ghost use Rattle.swarm_model.specs.Calls.Refusals.{on_service_by};
-ghost use Rattle.swarm_model.specs.Calls.Views.{
-  is_shown_running,
-  network_row,
-  network_shown,
-  node_shown,
-  note_of,
-  place_of,
-  running_of,
-  service_row,
-  service_shown,
-  shown,
-  shows,
-  status_of,
-  task_shown,
-  tasks_shown,
-  wanted_of,
-};
+ghost use Rattle.swarm_objects.specs.Shown.{is_shown_running};
+ghost use Rattle.swarm_model.specs.Calls.Views.{network_row, running_of, service_row, shown, shows, tasks_shown, wanted_of};
+ghost use Rattle.swarm_objects.specs.Shown.{task_shown};
 ghost use Rattle.swarm_objects.specs.Tasks.Words.{is_of};
 ghost use Rattle.swarm_store.specs.Inside.State.{Stands, tables_now};
 ghost use Rattle.swarm_store.specs.Stored.{HasNearTasks};
-ghost use Rattle.swarm_plain.specs.Inside.Lookups.{Gets};
+ghost use Rattle.swarm_model.specs.Outcome.{Gets};
 
 use crate::held::held_count;
 use crate::names::not_found;
 use crate::state::State;
 use crate::walks::{all, service_tasks};
-use swarm_objects::views::{
-    NetworkShown, NodeShown, NoteShown, PlaceShown, ServiceShown, Shown, TaskShown,
-};
+use swarm_objects::details::{is_shown_running, service_counted};
+use swarm_objects::shown::task_shown;
+use swarm_objects::views::{NetworkShown, NodeShown, ServiceShown, TaskShown};
 use swarm_objects::{
-    Duplicate, Id, Kind, List, Mode, Name, NoMemory, Note, Place, Query, Refusal, Rows, RunStatus,
-    Service, Task, ViewReply, add,
+    Duplicate, Id, Kind, List, Mode, Name, NoMemory, Query, Refusal, Rows, Service, ViewReply, add,
 };
 
 impl State {
@@ -93,14 +78,8 @@ impl State {
         requires near { HasNearTasks (tables_now self.now) }
         ensures { IfOk result (λ row. row ≡ service_row (tables_now self.now) service.now) }
     {
-        Ok(ServiceShown {
-            id: service.id,
-            name: service.name.duplicate(self.alloc)?,
-            mode: service.spec.mode,
-            running: self.running_of(service),
-            wanted: self.wanted_of(service)?,
-            update: status_of(service),
-        })
+        let wanted = self.wanted_of(service)?;
+        service_counted(self.alloc, service, self.running_of(service), wanted)
     }
 
     // How many of its live tasks were seen running.
@@ -154,7 +133,7 @@ impl State {
     {
         let mut rows = List::new(self.alloc);
         for task in all(&self.tasks) {
-            add(&mut rows, self.task_shown(task)?)?;
+            add(&mut rows, task_shown(self.alloc, self, task)?)?;
         }
         Ok(rows)
     }
@@ -178,94 +157,8 @@ impl State {
     {
         let mut rows = List::new(self.alloc);
         for task in service_tasks(self, service) {
-            add(&mut rows, self.task_shown(task)?)?;
+            add(&mut rows, task_shown(self.alloc, self, task)?)?;
         }
         Ok(rows)
-    }
-
-    fn task_shown(&self, task: &Task) -> Result<TaskShown, NoMemory>
-        ensures { IfOk result (λ row. row ≡ task_shown (tables_now self.now) task.now) }
-    {
-        let node = match task.node {
-            Some(id) => Some(self.node_shown(id)?),
-            None => None,
-        };
-        Ok(TaskShown {
-            id: task.id,
-            service: self.service_shown(task.service)?,
-            place: self.place_of(task.place)?,
-            node,
-            state: task.state,
-            desired: task.desired,
-            note: self.note_of(task)?,
-        })
-    }
-
-    fn node_shown(&self, id: Id) -> Result<Shown, NoMemory>
-        ensures { IfOk result (λ node. node ≡ node_shown (tables_now self.now) id) }
-    {
-        match self.node(id) {
-            Some(node) => Ok(Shown::Name(node.name.duplicate(self.alloc)?)),
-            None => Ok(Shown::Id(id)),
-        }
-    }
-
-    fn service_shown(&self, id: Id) -> Result<Shown, NoMemory>
-        ensures { IfOk result (λ service. service ≡ service_shown (tables_now self.now) id) }
-    {
-        match self.service(id) {
-            Some(service) => Ok(Shown::Name(service.name.duplicate(self.alloc)?)),
-            None => Ok(Shown::Id(id)),
-        }
-    }
-
-    fn network_shown(&self, id: Id) -> Result<Shown, NoMemory>
-        ensures { IfOk result (λ network. network ≡ network_shown (tables_now self.now) id) }
-    {
-        match self.network(id) {
-            Some(network) => Ok(Shown::Name(network.name.duplicate(self.alloc)?)),
-            None => Ok(Shown::Id(id)),
-        }
-    }
-
-    pub(crate) fn place_of(&self, place: Place) -> Result<PlaceShown, NoMemory>
-        ensures { IfOk result (λ shown. shown ≡ place_of (tables_now self.now) place) }
-    {
-        match place {
-            Place::Slot(number) => Ok(PlaceShown::Slot(number)),
-            Place::On(node) => Ok(PlaceShown::On(self.node_shown(node)?)),
-        }
-    }
-
-    // Why its place is closed, or else why it waits.
-    pub(crate) fn note_of(&self, task: &Task) -> Result<NoteShown, NoMemory>
-        ensures { IfOk result (λ shown. shown ≡ note_of (tables_now self.now) task.now.closed task.now.note) }
-    {
-        if let Some(cause) = task.closed {
-            return Ok(NoteShown::Closed(cause));
-        }
-        match task.note {
-            Note::Empty => Ok(NoteShown::Empty),
-            Note::Filters(counts) => Ok(NoteShown::Filters(counts)),
-            Note::NoPort(udp) => Ok(NoteShown::NoPort(udp)),
-            Note::NoAddress(network) => Ok(NoteShown::NoAddress(self.network_shown(network)?)),
-        }
-    }
-}
-
-// It is a live task of the service that was seen running.
-fn is_shown_running(service: &Service, task: &Task) -> bool
-    ensures { result ≡ is_shown_running service.now task.now }
-{
-    task.is_of(service.id) && task.is_live() && task.is_running()
-}
-
-// How its last update stands, if there was one.
-pub(crate) fn status_of(service: &Service) -> Option<RunStatus>
-    ensures { result ≡ status_of service.now }
-{
-    match &service.run {
-        Some(run) => Some(run.status),
-        None => None,
     }
 }

@@ -20,7 +20,7 @@ pub(crate) struct Walk<'a, R: Row + Drop> {
 
 impl<'a, R: Row + Drop> Model for Walk<'a, R> {
     ghost use Rattle.std.specs.Prelude.{List};
-    ghost use Rattle.swarm_roles.specs.Walks.{walk};
+    ghost use Rattle.swarm_objects.specs.Walks.{walk};
 
     ghost Value = { List R };
 
@@ -34,7 +34,7 @@ impl<'a, R: Row + Drop> Iterator for Walk<'a, R> {
 
     ghost remaining = { item_count (λ it. it) };
 
-    #[tactic(auto, using(swarm_roles::proofs::WalkLemmas::walk_end))]
+    #[tactic(auto, using(swarm_objects::proofs::WalkLemmas::walk_end))]
     fn next(&mut self) -> Option<&'a R> {
         let row = self.rows.next(self.after)?;
         self.after = row.id();
@@ -43,7 +43,7 @@ impl<'a, R: Row + Drop> Iterator for Walk<'a, R> {
 }
 
 // All of the rows, by rising id.
-#[tactic(auto, using(swarm_roles::proofs::WalkLemmas::walk_begins))]
+#[tactic(auto, using(swarm_objects::proofs::WalkLemmas::walk_begins))]
 pub(crate) fn all<R: Row + Drop>(rows: &Tracked<R>) -> Walk<'_, R>
     requires { RisesFrom R.id_of 0 rows.now.rows }
     ensures { result ≡ rows.now.rows }
@@ -64,7 +64,7 @@ impl<'a> Model for ServiceTasks<'a> {
     ghost use Rattle.swarm_objects.specs.declared.tasks.Task.{Task as Row};
     ghost use Rattle.swarm_objects.specs.Rows.{task_id};
     ghost use Rattle.swarm_objects.specs.Tasks.Words.{is_of};
-    ghost use Rattle.swarm_roles.specs.Walks.{walk};
+    ghost use Rattle.swarm_objects.specs.Walks.{walk};
 
     ghost Value = { List Row };
 
@@ -78,7 +78,7 @@ impl<'a> Iterator for ServiceTasks<'a> {
 
     ghost remaining = { item_count (λ it. it) };
 
-    #[tactic(auto, using(swarm_roles::proofs::WalkLemmas::walk_end))]
+    #[tactic(auto, using(swarm_objects::proofs::WalkLemmas::walk_end))]
     fn next(&mut self) -> Option<&'a Task> {
         let row = self.state.next_task_of(self.service, self.after)?;
         self.after = row.id;
@@ -87,7 +87,7 @@ impl<'a> Iterator for ServiceTasks<'a> {
 }
 
 // The tasks of the service, by rising id.
-#[tactic(auto, using(swarm_roles::proofs::WalkLemmas::walk_begins_among))]
+#[tactic(auto, using(swarm_objects::proofs::WalkLemmas::walk_begins_among))]
 pub(crate) fn service_tasks(state: &State, service: Id) -> ServiceTasks<'_>
     requires { Stands (tables_now state.now) }
     ensures { result ≡ filter (is_of service) state.now.tasks.rows }

@@ -6,7 +6,7 @@ use Rattle.swarm_objects.specs.Tasks.Words.{is_of}
 use Rattle.swarm_objects.specs.World.{Tables}
 use Rattle.swarm_objects.specs.declared.services.Service.{Service}
 use Rattle.swarm_objects.specs.declared.services.UpdateRun.{UpdateRun}
-use Rattle.swarm_roles.proofs.PlaceLemmas.{and_left, count_again}
+use Rattle.swarm_objects.proofs.PlaceLemmas.{and_left, count_again}
 
 pub failures_of_service : (t : Tables) (s : Service) (run : UpdateRun)
     → count_by (is_failure s run) (filter (is_of s.id) t.tasks) ≡ failures t s run

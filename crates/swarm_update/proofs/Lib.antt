@@ -1,4 +1,3 @@
-mod Dirty
 mod Failures
 mod Replacements
 mod Running

@@ -17,8 +17,8 @@ use Rattle.swarm_objects.specs.declared.services.Service.{Service}
 use Rattle.swarm_objects.specs.declared.services.UpdateOrder.{UpdateOrder}
 use Rattle.swarm_objects.specs.declared.services.UpdateOrder.TheVariants as order
 use Rattle.swarm_objects.specs.declared.tasks.Desired.TheVariants as desired
-use Rattle.swarm_roles.proofs.Applied.{each_makes, makes_append, makes_new, put_service, sound_where}
-use Rattle.swarm_roles.specs.Changes.{Makes, put_each}
+use Rattle.swarm_objects.proofs.Applied.{each_makes, makes_append, makes_new, put_service, sound_where}
+use Rattle.swarm_objects.specs.ChangeLists.{Makes, put_each}
 use Rattle.swarm_update.specs.Replacing.{desired_by_order, new_by_order, replacing, stops_by_order}
 
 pub swap_makes : (version : ℕ) (t : Tables) (s : Service) (k : ℕ) (cs : List Change) → IsSound t

@@ -13,8 +13,8 @@ use Rattle.swarm_objects.specs.declared.rows.Change.TheVariants as change
 use Rattle.swarm_objects.specs.declared.services.RunStatus.TheVariants as status
 use Rattle.swarm_objects.specs.declared.services.Service.{Service}
 use Rattle.swarm_objects.specs.declared.services.ServiceSpec.{ServiceSpec}
-use Rattle.swarm_roles.proofs.Applied.{makes_none, service_makes}
-use Rattle.swarm_roles.specs.Changes.{Makes}
+use Rattle.swarm_objects.proofs.Applied.{makes_none, service_makes}
+use Rattle.swarm_objects.specs.ChangeLists.{Makes}
 
 -- one service that is there, as the function leaves it
 list_makes : (f : Service → Service) (t : Tables) (s : Service) (cs : List Change) → IsSound t

@@ -15,7 +15,7 @@ use Rattle.swarm_objects.specs.declared.services.UpdateOrder.{UpdateOrder}
 use Rattle.swarm_objects.specs.declared.services.UpdateOrder.TheVariants as order
 use Rattle.swarm_objects.specs.declared.tasks.Desired.{Desired}
 use Rattle.swarm_objects.specs.declared.tasks.Desired.TheVariants as desired
-use Rattle.swarm_roles.specs.Changes.{put_each}
+use Rattle.swarm_objects.specs.ChangeLists.{put_each}
 
 -- the item, unless it was put already
 abbrev pub item_unless : Bool → Replaced → List Replaced → List Replaced

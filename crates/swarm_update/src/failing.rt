@@ -1,36 +1,23 @@
 // Updates that have failed: they are rolled back, or paused.
 ghost use Rattle.std.specs.Prelude.{◌≡◌, ◌∷◌, [], IfOk, None, Some};
 ghost use Rattle.std.specs.Option.{option_map};
-ghost use Rattle.swarm_objects.specs.Loops.Update.{
-  back_at,
-  change_run,
-  fail_run,
-  in_status,
-  is_rollback,
-  is_updating,
-  may_roll_back,
-  new_run,
-  paused,
-  paused_status,
-  rolled_back,
-  with_run,
-};
+ghost use Rattle.swarm_objects.specs.Loops.Update.{back_at, change_run, fail_run, in_status, is_rollback, is_updating, may_roll_back, new_run, paused, paused_status, rolled_back, with_run};
 ghost use Rattle.swarm_objects.specs.Rows.{row_at, service_id};
 ghost use Rattle.swarm_objects.specs.Services.Ports.{is_open_in, kept_numbers};
 ghost use Rattle.swarm_objects.specs.declared.services.UpdateRun.{UpdateRun as Run};
-ghost use Rattle.swarm_roles.specs.Changes.{Makes};
-ghost use Rattle.swarm_roles.specs.Usable.{IsUsable};
+ghost use Rattle.swarm_objects.specs.ChangeLists.{Makes};
+ghost use Rattle.swarm_objects.specs.Usable.{IsUsable};
 
 use crate::starting::{new_run, put_with_run};
 use std::alloc::Global;
+use swarm_objects::ports::is_open_in;
 use swarm_objects::{
-    Change, Duplicate, FailureAction, List, NoMemory, Port, PortNumber, Rows, RunStatus, Service,
+    Change, Duplicate, FailureAction, List, NoMemory, PortNumber, Rows, RunStatus, Service,
     ServiceSpec, UpdateRun, Version, add, list_of,
 };
-use swarm_roles::gives_number;
 
-// The status of a run that can't go on.
-fn paused_status(status: RunStatus) -> RunStatus
+/// The status of a run that can't go on.
+pub fn paused_status(status: RunStatus) -> RunStatus
     ensures { result ≡ paused_status status }
 {
     match status {
@@ -99,8 +86,8 @@ fn is_updating(status: RunStatus) -> bool
     }
 }
 
-// What failed is an update, and it is to be rolled back.
-fn may_roll_back(service: &Service) -> bool
+/// What failed is an update, and it is to be rolled back.
+pub fn may_roll_back(service: &Service) -> bool
     ensures { result ≡ may_roll_back service.now }
 {
     match &service.run {
@@ -109,17 +96,8 @@ fn may_roll_back(service: &Service) -> bool
     }
 }
 
-// One of the ports is open, and this is its number.
-fn is_open_in(ports: &[Port], given: PortNumber) -> bool
-    ensures { result ≡ is_open_in ports.now given }
-{
-    ports
-        .iter()
-        .any(|port| port.number.is_none() && gives_number(port, given))
-}
-
-// The numbers that a service keeps with this specification alone.
-fn kept_numbers(
+/// The numbers that a service keeps with this specification alone.
+pub fn kept_numbers(
     alloc: Global,
     numbers: &[PortNumber],
     spec: &ServiceSpec,

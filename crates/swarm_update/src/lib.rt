@@ -3,32 +3,28 @@
 
 mod changing;
 mod failing;
-mod places;
 mod replacing;
 mod runs;
 mod starting;
 
 ghost use Rattle.std.specs.Prelude.{◌≡◌, Some};
-ghost use Rattle.swarm_objects.specs.Loops.Update.{
-  is_to_replace,
-  is_to_swap,
-  lets_replace,
-  run_duties,
-  update,
-  update_duties,
-};
+ghost use Rattle.swarm_objects.specs.Loops.Update.{is_to_replace, is_to_swap, lets_replace, run_duties, update, update_duties};
 ghost use Rattle.swarm_objects.specs.Loops.Words.{places_where};
 ghost use Rattle.swarm_objects.specs.Rows.{first_of};
 ghost use Rattle.swarm_objects.specs.Services.Runs.{is_of_version};
 ghost use Rattle.swarm_objects.specs.Tasks.Places.{place_numbers};
 ghost use Rattle.std.specs.Prelude.{◌&&◌};
-ghost use Rattle.swarm_roles.specs.Usable.{IsUsable};
+ghost use Rattle.swarm_objects.specs.Usable.{IsUsable};
 
-use crate::places::{is_to_replace, is_to_swap};
-use crate::runs::{fails, is_of_version, is_to_finish, is_to_start, lets_replace};
+use crate::runs::{fails, is_to_finish, is_to_start, lets_replace};
 pub use changing::changes;
+pub use failing::{kept_numbers, may_roll_back, paused_status};
+pub use replacing::desired_by_order;
+use role_words::{is_of_version, is_to_replace, is_to_swap, is_under_way, place_numbers};
+pub use runs::{goes_on, has_present_run, is_failure, is_present};
+pub use starting::{finished_status, start_status};
+use swarm_objects::walks::services;
 use swarm_objects::{Duty, Rows, Service, UpdateRun};
-use swarm_roles::{is_under_way, place_numbers, services};
 
 // The first place whose old tasks are to stop.
 fn first_swap<R: Rows>(rows: &R, service: &Service, run: &UpdateRun) -> Option<Duty>

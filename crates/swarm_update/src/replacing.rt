@@ -14,16 +14,17 @@ ghost use Rattle.swarm_objects.specs.Services.Words.{is_live_dirty};
 ghost use Rattle.swarm_objects.specs.Tasks.Places.{place_at, place_tasks};
 ghost use Rattle.swarm_objects.specs.Tasks.Words.{is_live};
 ghost use Rattle.swarm_objects.specs.declared.services.UpdateRun.{UpdateRun as Run};
-ghost use Rattle.swarm_roles.specs.Changes.{Makes, put_each};
-ghost use Rattle.swarm_roles.specs.Usable.{IsUsable};
+ghost use Rattle.swarm_objects.specs.ChangeLists.{Makes, put_each};
+ghost use Rattle.swarm_objects.specs.Usable.{IsUsable};
 ghost use Rattle.swarm_update.specs.Replacing.{desired_by_order, new_by_order, replacing, stops_by_order};
 
+use role_words::place_tasks;
 use std::alloc::Global;
+use swarm_objects::effects::wanted;
 use swarm_objects::{
     Change, Desired, Duplicate, List, NoMemory, Place, Replaced, Rows, Service, Task, UpdateOrder,
     UpdateRun, Version, add,
 };
-use swarm_roles::{place_tasks, wanted};
 
 // The task is to stop.
 fn add_stop(
@@ -150,8 +151,8 @@ fn item_of<R: Rows>(rows: &R, place: Place) -> Replaced
 
 // Replacements.
 
-// What is wanted of the new task: to wait where the old ones stop first, and else its goal.
-fn desired_by_order(service: &Service) -> Desired
+/// What is wanted of the new task: to wait where the old ones stop first, and else its goal.
+pub fn desired_by_order(service: &Service) -> Desired
     ensures { result ≡ desired_by_order service.now.spec.mode service.now.spec.update.order }
 {
     match service.spec.update.order {

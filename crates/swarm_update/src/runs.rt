@@ -1,4 +1,4 @@
-// Update runs: their failures, their places in flight, and what they allow.
+// Update runs: their failures, and what they allow.
 ghost use Rattle.std.specs.Prelude.{◌≡◌, count_by, filter};
 ghost use Rattle.std.specs.List.{list_all};
 ghost use Rattle.swarm_objects.specs.Loops.Update.{
@@ -13,31 +13,20 @@ ghost use Rattle.swarm_objects.specs.Services.Runs.{
   failures,
   fails,
   goes_on,
-  has_room,
-  in_flight,
   is_exceeded,
   is_failure,
-  is_flying,
-  is_in_flight,
   is_of_version,
   is_present,
 };
 ghost use Rattle.swarm_objects.specs.Tasks.Words.{is_of};
-ghost use Rattle.swarm_roles.specs.Usable.{IsUsable};
+ghost use Rattle.swarm_objects.specs.Usable.{IsUsable};
 
-use crate::places::has_dirty_place;
-use swarm_objects::{FailureAction, Replaced, Rows, Service, Task, TaskState, UpdateRun};
-use swarm_roles::{is_under_way, tasks_of, tasks_of_place};
+use role_words::{has_dirty_place, has_room, is_of_version, is_under_way, is_watched};
+use swarm_objects::walks::tasks_of;
+use swarm_objects::{FailureAction, Rows, Service, Task, TaskState, UpdateRun};
 
-/// It is a run to the service's present template.
-pub fn is_of_version(service: &Service, run: &UpdateRun) -> bool
-    ensures { result ≡ is_of_version service.now run.now }
-{
-    run.version == service.template_version
-}
-
-// It is one under way to the present template.
-fn is_present(service: &Service, run: &UpdateRun) -> bool
+/// It is one under way to the present template.
+pub fn is_present(service: &Service, run: &UpdateRun) -> bool
     ensures { result ≡ is_present service.now run.now }
 {
     is_under_way(run) && is_of_version(service, run)
@@ -53,8 +42,8 @@ fn counts_as_failure(state: TaskState) -> bool
     }
 }
 
-// The task is one of the run's, and ended within the monitor time.
-fn is_failure(service: &Service, run: &UpdateRun, task: &Task) -> bool
+/// The task is one of the run's, and ended within the monitor time.
+pub fn is_failure(service: &Service, run: &UpdateRun, task: &Task) -> bool
     ensures { result ≡ is_failure service.now run.now task.now }
 {
     let watched_till = u128::from(task.created) + u128::from(service.spec.update.monitor);
@@ -97,8 +86,8 @@ fn is_exceeded<R: Rows>(rows: &R, service: &Service, run: &UpdateRun) -> bool
     borne < 1000 * u128::from(failures(rows, service, run))
 }
 
-// The update goes on whatever fails.
-fn goes_on(action: FailureAction) -> bool
+/// The update goes on whatever fails.
+pub fn goes_on(action: FailureAction) -> bool
     ensures { result ≡ goes_on action }
 {
     match action {
@@ -117,58 +106,12 @@ pub fn fails<R: Rows>(rows: &R, service: &Service, run: &UpdateRun) -> bool
         && is_exceeded(rows, service, run)
 }
 
-// The task is clean and live, and isn't yet RUNNING for the delay.
-fn is_flying<R: Rows>(rows: &R, service: &Service, task: &Task) -> bool
-    ensures { result ≡ is_flying (R.tables rows.now) service.now task.now }
-{
-    let flies_till = u128::from(task.since) + u128::from(service.spec.update.delay);
-    task.is_live_clean(service)
-        && (task.is_below_running() || (task.is_running() && u128::from(rows.now()) < flies_till))
-}
-
-// Such a task stands in the place that the run has replaced.
-fn is_in_flight<R: Rows>(rows: &R, service: &Service, item: &Replaced) -> bool
-    requires { IsUsable (R.tables rows.now) }
-    ensures { result ≡ is_in_flight (R.tables rows.now) service.now item.now }
-{
-    tasks_of_place(rows, service, item.place).any(|task| is_flying(rows, service, task))
-}
-
-// How many of the replaced places are in flight.
-fn in_flight<R: Rows>(rows: &R, service: &Service, run: &UpdateRun) -> usize
-    requires { IsUsable (R.tables rows.now) }
-    ensures { result ≡ in_flight (R.tables rows.now) service.now run.now }
-{
-    run.replaced
-        .as_slice()
-        .iter()
-        .filter(|item| is_in_flight(rows, service, item))
-        .count()
-}
-
-// The parallelism lets one more place be in flight.
-fn has_room<R: Rows>(rows: &R, service: &Service, run: &UpdateRun) -> bool
-    requires { IsUsable (R.tables rows.now) }
-    ensures { result ≡ has_room (R.tables rows.now) service.now run.now }
-{
-    let parallelism = service.spec.update.parallelism;
-    parallelism == 0 || (in_flight(rows, service, run) as u64) < parallelism
-}
-
 /// One more place may be replaced.
 pub fn lets_replace<R: Rows>(rows: &R, service: &Service, run: &UpdateRun) -> bool
     requires { IsUsable (R.tables rows.now) }
     ensures { result ≡ lets_replace (R.tables rows.now) service.now run.now }
 {
     has_room(rows, service, run) && !fails(rows, service, run)
-}
-
-// The new task of the place was watched for the monitor time.
-fn is_watched<R: Rows>(rows: &R, service: &Service, item: &Replaced) -> bool
-    ensures { result ≡ is_watched (R.tables rows.now) service.now item.now }
-{
-    let watched_till = u128::from(item.created) + u128::from(service.spec.update.monitor);
-    watched_till <= u128::from(rows.now())
 }
 
 // Each new task of the run was watched for the monitor time.
@@ -189,8 +132,8 @@ pub fn is_to_finish<R: Rows>(rows: &R, service: &Service, run: &UpdateRun) -> bo
     !has_dirty_place(rows, service) && all_watched(rows, service, run) && !fails(rows, service, run)
 }
 
-// The service has a run to its present template.
-fn has_present_run(service: &Service) -> bool
+/// The service has a run to its present template.
+pub fn has_present_run(service: &Service) -> bool
     ensures { result ≡ is_some_and (is_of_version service.now) service.now.run }
 {
     match &service.run {

@@ -13,17 +13,17 @@ ghost use Rattle.swarm_objects.specs.Loops.Update.{
 };
 ghost use Rattle.swarm_objects.specs.Rows.{row_at, service_id};
 ghost use Rattle.swarm_objects.specs.declared.services.UpdateRun.{UpdateRun as Run};
-ghost use Rattle.swarm_roles.specs.Changes.{Makes};
-ghost use Rattle.swarm_roles.specs.Usable.{IsUsable};
+ghost use Rattle.swarm_objects.specs.ChangeLists.{Makes};
+ghost use Rattle.swarm_objects.specs.Usable.{IsUsable};
 
-use crate::places::dirty_count;
+use role_words::dirty_count;
 use std::alloc::Global;
 use swarm_objects::{
     Change, Duplicate, List, NoMemory, Rows, RunStatus, Service, UpdateRun, Version, list_of,
 };
 
-// The status of a run that starts.
-fn start_status(rolling_back: bool) -> RunStatus
+/// The status of a run that starts.
+pub fn start_status(rolling_back: bool) -> RunStatus
     ensures { result ≡ start_status rolling_back }
 {
     if rolling_back {
@@ -33,7 +33,7 @@ fn start_status(rolling_back: bool) -> RunStatus
     }
 }
 
-fn finished_status(status: RunStatus) -> RunStatus
+pub fn finished_status(status: RunStatus) -> RunStatus
     ensures { result ≡ finished_status status }
 {
     match status {

@@ -14,8 +14,8 @@ use Rattle.swarm_objects.specs.World.{Tables}
 use Rattle.swarm_objects.specs.declared.duties.Duty.TheVariants as duty
 use Rattle.swarm_objects.specs.declared.services.Service.{Service}
 use Rattle.swarm_objects.specs.declared.tasks.Task.{Task}
-use Rattle.swarm_roles.proofs.PlaceLemmas.{and_left}
-use Rattle.swarm_roles.specs.Usable.{IsUsable}
+use Rattle.swarm_objects.proofs.PlaceLemmas.{and_left}
+use Rattle.swarm_objects.specs.Usable.{IsUsable}
 
 -- rows with one number are one row
 one_row : (t : Tables) (x y : Task) → RisesFrom task_id 0 t.tasks → Has t.tasks x → Has t.tasks y → y.id ≡ x.id → y ≡ x

@@ -1,6 +1,6 @@
 -- Counts, and first duties.
-use Rattle.swarm_roles.proofs.Few.{few_among}
-use Rattle.swarm_roles.proofs.WalkLemmas.{count_by_no, count_by_yes, first_left, first_right}
+use Rattle.swarm_objects.proofs.Few.{few_among}
+use Rattle.swarm_objects.proofs.WalkLemmas.{count_by_no, count_by_yes, first_left, first_right}
 
 pub ruleset first_steps = (first_left, first_right)
 

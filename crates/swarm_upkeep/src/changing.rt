@@ -2,13 +2,14 @@
 ghost use Rattle.std.specs.Prelude.{◌≡◌, ◌⊎◌, IfOk};
 ghost use Rattle.swarm_objects.specs.Kinds.{role_of};
 ghost use Rattle.swarm_objects.specs.declared.loops.Role.TheVariants as role;
-ghost use Rattle.swarm_roles.specs.Changes.{Makes};
-ghost use Rattle.swarm_roles.specs.Effects.{after_duty};
-ghost use Rattle.swarm_roles.specs.Usable.{IsUsable};
+ghost use Rattle.swarm_objects.specs.ChangeLists.{Makes};
+ghost use Rattle.swarm_objects.specs.Effects.{after_duty};
+ghost use Rattle.swarm_objects.specs.Usable.{IsUsable};
 
 use std::alloc::Global;
+use swarm_objects::effects::drop_task;
+use swarm_objects::states::set_state;
 use swarm_objects::{Change, Duty, List, NoMemory, Rows, TaskState, Version};
-use swarm_roles::{drop_task, set_state};
 
 /// The changes that a duty of the reaper or the enforcer makes as the entry with this number. What isn't due any more
 /// may be asked for too: a task that isn't there is left out.

@@ -2,13 +2,15 @@
 ghost use Rattle.std.specs.Prelude.{◌≡◌};
 ghost use Rattle.swarm_objects.specs.Loops.Enforcer.{breaks_constraints, enforcer, is_misplaced};
 ghost use Rattle.swarm_objects.specs.Rows.{first_of};
-ghost use Rattle.swarm_roles.specs.Usable.{IsUsable};
+ghost use Rattle.swarm_objects.specs.Usable.{IsUsable};
 
+use swarm_filters::meets_all;
+use swarm_objects::homes::node_of;
+use swarm_objects::walks::tasks;
 use swarm_objects::{Duty, Node, Rows, Task};
-use swarm_roles::{meets_all, node_of, tasks};
 
-// The node doesn't meet each of the task's constraints.
-fn breaks_constraints(task: &Task, node: &Node) -> bool
+/// The node doesn't meet each of the task's constraints.
+pub fn breaks_constraints(task: &Task, node: &Node) -> bool
     ensures { result ≡ breaks_constraints task.now node.now }
 {
     !meets_all(task.template.constraints.as_slice(), node)

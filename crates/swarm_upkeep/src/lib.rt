@@ -6,5 +6,5 @@ mod enforcing;
 mod reaping;
 
 pub use changing::changes;
-pub use enforcing::least_enforcer;
-pub use reaping::least_reaper;
+pub use enforcing::{breaks_constraints, least_enforcer};
+pub use reaping::{is_past, is_removable, least_reaper};

@@ -13,20 +13,21 @@ ghost use Rattle.swarm_objects.specs.Loops.Words.{duty_where};
 ghost use Rattle.swarm_objects.specs.Rows.{first_of, is_some_and};
 ghost use Rattle.swarm_objects.specs.Tasks.Places.{newest, tasks_of_place};
 ghost use Rattle.swarm_objects.specs.Tasks.Words.{is_task};
-ghost use Rattle.swarm_roles.specs.Usable.{IsUsable};
+ghost use Rattle.swarm_objects.specs.Usable.{IsUsable};
 
+use role_words::{has_open_run, newest, tasks_of_place};
+use swarm_objects::walks::tasks;
 use swarm_objects::{Desired, Duty, Place, Rows, Service, Task, desired_rank};
-use swarm_roles::{has_open_run, newest, tasks, tasks_of_place};
 
-// It is to be removed, and nothing of it runs.
-fn is_removable(task: &Task) -> bool
+/// It is to be removed, and nothing of it runs.
+pub fn is_removable(task: &Task) -> bool
     ensures { result ≡ is_removable task.now }
 {
     !task.is_kept() && (task.is_below_assigned() || task.has_ended())
 }
 
-// It ended, and was to stop.
-fn is_past(task: &Task) -> bool
+/// It ended, and was to stop.
+pub fn is_past(task: &Task) -> bool
     ensures { result ≡ is_past task.now }
 {
     task.has_ended() && desired_rank(task.desired) == desired_rank(Desired::Shutdown)

@@ -8,8 +8,10 @@ use Rattle.swarm_model.proofs.Laws.GivesOutReplay.{IsOrderedBeside-replay}
 use Rattle.swarm_model.proofs.Watching.Changes.{changes-at, changes-none}
 use Rattle.swarm_model.proofs.Watching.Waiting.{IsWatched, kept-for, none-past, watched-replay}
 use Rattle.swarm_model.specs.Calls.{answer, answered, entered}
-use Rattle.swarm_model.specs.Calls.Refusals.{too_many, unless}
-use Rattle.swarm_model.specs.Calls.Watches.{filter_admits, new_watcher, told_all, told_at, waiting_events, waits_for, watch_finish, watch_poll, with_watcher, without_watcher}
+use Rattle.swarm_model.specs.Calls.Refusals.{too_many}
+use Rattle.swarm_objects.specs.Refusals.{unless}
+use Rattle.swarm_objects.specs.Watches.{filter_admits}
+use Rattle.swarm_model.specs.Calls.Watches.{new_watcher, told_all, told_at, waiting_events, waits_for, watch_finish, watch_poll, with_watcher, without_watcher}
 use Rattle.swarm_model.specs.Changed.{changes_between}
 use Rattle.swarm_model.specs.History.{replay, step}
 use Rattle.swarm_model.specs.Outcome.{Answered, Outcome}
@@ -31,8 +33,9 @@ use Rattle.swarm_objects.specs.declared.watches.Event.{Event}
 use Rattle.swarm_objects.specs.declared.watches.Filter.{Filter}
 use Rattle.swarm_objects.specs.declared.watches.Watcher.{Watcher}
 use Rattle.swarm_watch.proofs.Missing.{row_at-seen, seen_at}
-use Rattle.swarm_watch.specs.Calls.{Answer, Gives, Meets, begin_answer, begin_unless, begun, done, finish_answer, hears, poll_answer, refused, told}
-use Rattle.swarm_watch.specs.Watchings.{Watching, Watchings, watching_id}
+use Rattle.swarm_watch.proofs.Noting.{waits_again}
+use Rattle.swarm_watch.specs.Calls.{Answer, Gives, Meets, begin_answer, begin_unless, begun, finish_answer, hears, poll_answer, polled, told}
+use Rattle.swarm_watch.specs.Watchings.{Few, Many, Watching, Watchings, waiting_of, watching_id}
 use Rattle.swarm_watch.specs.Worlds.{BeginLaw, FinishLaw, Follows, FreeLaw, MayFollow, NotesLaw, PollsLaw, reply_with, watching_in, watchings_of}
 
 -- the answer is the one that the world gives, and so are the watchers after it
@@ -52,7 +55,11 @@ may_follow say answer outcome before after result is (inr wanting) = inr wanting
 -- What waits after an entry.
 
 abbrev seen : Watcher → List Event → Watching
-seen x events = record { id = x.id; filter = x.filter; waiting = events }
+seen x events = record { id = x.id; filter = x.filter; waiting = waiting_of events }
+
+hears_seen : (x : Watcher) (before events : List Event) → hears events (seen x before) ≡ seen x (before ++ filter (filter_admits x.filter) events)
+hears_seen x before events =
+    ap (λ waiting. record { id = x.id; filter = x.filter; waiting = waiting }) (waits_again before (filter (filter_admits x.filter) events))
 
 -- whose tables are the same: what was kept
 waits_still : (old new : World) (x : Watcher) → changes_between (old.entries + 1) old.tables new.tables ≡ [] → Has new.watchers x →
@@ -96,7 +103,8 @@ hears_all : (old new : World) (x : Watcher) → IsWatched old → Has old.watche
     hears (changes_between (old.entries + 1) old.tables new.tables) (watching_in old x) ≡ watching_in (entered old new) x
 hears_all old new x is was h =
     let changes = changes_between (old.entries + 1) old.tables new.tables in
-    ap (seen x)
+    hears_seen x (waiting_events old x) changes
+    ∙ ap (seen x)
     (ap (λ es. filter (waits_for x) old.events ++ es)
     (sym (new_events old.entries x changes (is.cursors x was) (changes-at (old.entries + 1) old.tables new.tables)))
     ∙ sym (kept-for old new x h))
@@ -110,18 +118,22 @@ noted old new is same =
     (λ x h. hears_all old new x is h (subst (λ xs. Has xs x) (sym same) h))
     ∙ ap (map (watching_in (entered old new))) (sym same)
 
-hears_nothing : (events : List Event) (xs : List Watching) → events ≡ [] → map (hears events) xs ≡ xs
-hears_nothing events [] none = refl
-hears_nothing events (x ∷ xs) none =
-    ap (λ es. record x { waiting = x.waiting ++ filter (filter_admits x.filter) es } ∷ map (hears events) xs) none
-    ∙ ap (λ es. record x { waiting = es } ∷ map (hears events) xs) (append-nil x.waiting)
-    ∙ ap (λ ys. x ∷ ys) (hears_nothing events xs none)
+hears_none : (w : World) (events : List Event) (x : Watcher) → events ≡ [] → hears events (watching_in w x) ≡ watching_in w x
+hears_none w events x none =
+    ap (λ es. hears es (watching_in w x)) none
+    ∙ hears_seen x (waiting_events w x) []
+    ∙ ap (seen x) (append-nil (waiting_events w x))
+
+hears_nothing : (w : World) (events : List Event) → events ≡ [] → map (hears events) (watchings_of w) ≡ watchings_of w
+hears_nothing w events none =
+    map_twice (hears events) (watching_in w) w.watchers
+    ∙ seen_same (λ x. hears events (watching_in w x)) (watching_in w) w.watchers (λ x h. hears_none w events x none)
 
 answered-notes : (w : World) (given : Answered) → IsWatched w → (answered w given).after.watchers ≡ w.watchers →
     map (hears (changes_between (w.entries + 1) w.tables (answered w given).after.tables)) (watchings_of w) ≡ watchings_of (answered w given).after
 answered-notes w (Ok given) is same = noted w given.1 is same
 answered-notes w (Err r) is same =
-    hears_nothing (changes_between (w.entries + 1) w.tables w.tables) (watchings_of w) (changes-none (w.entries + 1) w.tables)
+    hears_nothing w (changes_between (w.entries + 1) w.tables w.tables) (changes-none (w.entries + 1) w.tables)
 
 notes_world : (h : List Entry) (e : What) → let w = replay h in let v = (step w e).after in v.watchers ≡ w.watchers →
     map (hears (changes_between (w.entries + 1) w.tables v.tables)) (watchings_of w) ≡ watchings_of v
@@ -224,8 +236,7 @@ poll_row w id (Some x) is = go (nat_lt most_events (length (waiting_events w x))
 
     go : (b : Bool) →
         IsAnswerOf reply.Events
-        (cond b (refused (refusal.Lagged (length events)) (drop_row watching_id id (watchings_of w)))
-        (done events (change_row watching_id id told (watchings_of w))))
+        (polled (watchings_of w) id (cond b (Many (length events)) (Few events)))
         (record { reply = (told_so b).0; after = entered w (told_so b).1 })
     go true = (refl, gone_world w id)
     go false = (refl, told_world w id is)

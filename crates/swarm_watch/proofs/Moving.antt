@@ -3,7 +3,7 @@ use Rattle.std.proofs.Common.{◌≡◌, ℕ, ◌+◌, ◌-◌, ◌<◌, ◌≤�
 use Rattle.std.specs.Prelude.{map, ◌||◌, ◌&&◌, ◌==◌}
 use Rattle.std.specs.List.{list_any}
 use Rattle.std.proofs.lemmas.Bool.Decides.{nat_tests}
-use Rattle.swarm_model.specs.Calls.Watches.{filter_admits}
+use Rattle.swarm_objects.specs.Watches.{filter_admits}
 use Rattle.swarm_objects.proofs.Tests.{or_right}
 use Rattle.swarm_objects.specs.Rows.{row_at}
 use Rattle.swarm_objects.specs.declared.watches.Event.{Event}

@@ -1,19 +1,20 @@
 -- Events come to wait.
-use Rattle.std.proofs.Common.{◌≡◌, ℕ, ◌+◌, ◌≤◌, suc, Bool, true, false, cond, List, [], ◌∷◌, ◌++◌, length, take, drop, refl, ap, ◌∙◌, arith, inl, inr, length-append}
-use Rattle.std.specs.Prelude.{filter, map, nat_le, ◌||◌, ◌&&◌}
+use Rattle.std.proofs.Common.{◌≡◌, ℕ, ◌+◌, ◌≤◌, suc, Bool, true, false, cond, List, [], ◌∷◌, ◌++◌, length, nat_lt, take, drop, refl, ap, sym, ◌∙◌, arith, inl, inr, length-append}
+use Rattle.std.specs.Prelude.{filter, map, nat_le, ◌==◌, ◌||◌, ◌&&◌}
 use Rattle.std.specs.List.{list_any}
 use Rattle.std.proofs.lemmas.Bool.Decides.{nat_tests}
 use Rattle.std.proofs.lemmas.List.{drop-append-le}
 use Rattle.std.proofs.lemmas.List.Elements.{filter-append}
-use Rattle.swarm_model.specs.Calls.Watches.{filter_admits}
+use Rattle.swarm_objects.specs.Watches.{filter_admits}
 use Rattle.swarm_objects.proofs.Tests.{or_right}
 use Rattle.swarm_objects.proofs.Filters.{filter_again}
+use Rattle.swarm_objects.specs.Limits.{most_events}
 use Rattle.swarm_objects.specs.Rows.{Has}
 use Rattle.swarm_objects.specs.declared.watches.Event.{Event}
 use Rattle.swarm_watch.proofs.Moving.{any_map, waited_append, within_more}
 use Rattle.swarm_watch.specs.Calls.{hears, is_awaited}
 use Rattle.swarm_watch.specs.Inside.Cursors.{AreWaited, AreWithin, IsTidy, is_admitted, is_waited_at, watching_at, watchings}
-use Rattle.swarm_watch.specs.Watchings.{Watching}
+use Rattle.swarm_watch.specs.Watchings.{Few, Many, Watching, waiting_of, waits_more}
 use Rattle.swarm_watch.specs.declared.cursors.Cursor.{Cursor}
 
 -- the first so many events were put, and there is memory for the others
@@ -23,6 +24,30 @@ pub record Keeps (xs : List Cursor) (events : List Event) (index : ℕ) (kept₀
   pub fits : length kept + length (filter (is_admitted xs) (drop index events)) ≤ capacity
 
 -- What waits.
+
+pub waits_again : (before events : List Event) → waits_more (waiting_of before) events ≡ waiting_of (before ++ events)
+waits_again before events = go (nat_lt most_events (length before)) refl
+  where
+    all : List Event
+    all = before ++ events
+
+    go : (many : Bool) → nat_lt most_events (length before) ≡ many →
+        waits_more (cond many (Many (length before)) (Few before)) events ≡ waiting_of all
+    go true t =
+        let test : nat_lt most_events (length all) ≡ true = (let sum = length-append before events in grind (arith, nat_tests)) in
+        ap Many (sym (length-append before events))
+        ∙ ap (λ many. cond many (Many (length all)) (Few all)) (sym test)
+    go false t = refl
+
+pub no_item : {X : Type 0} (xs : List X) (n : ℕ) (b : Bool) → n ≡ length xs → b ≡ (n == 0) → b ≡ true → xs ≡ []
+no_item [] n b count e t = refl
+no_item (x ∷ xs) n b count e t = absurd (grind (arith, nat_tests))
+
+-- where nobody watches, nothing is waited for
+pub nobody_waits : (xs : List Watching) (events : List Event) → xs ≡ [] → filter (is_awaited xs) events ≡ []
+nobody_waits [] [] none = refl
+nobody_waits [] (e ∷ events) none = nobody_waits [] events none
+nobody_waits (x ∷ xs) events none = absurd cc
 
 any_has : (p : Cursor → Bool) (xs : List Cursor) (x : Cursor) → Has xs x → p x ≡ true → list_any p xs ≡ true
 any_has p [] x h t = absurd h
@@ -34,11 +59,12 @@ hears_more : (xs : List Cursor) (kept events : List Event) (x : Cursor) → Has 
 hears_more xs kept events x h le =
     let p : Event → Bool = filter_admits x.filter in
     let q : Event → Bool = is_admitted xs in
-    let seen : List Event → Watching = λ es. record { id = x.id; filter = x.filter; waiting = es } in
+    let seen : List Event → Watching = λ es. record { id = x.id; filter = x.filter; waiting = waiting_of es } in
     ap (λ es. seen (filter p es)) (drop-append-le x.from kept (filter q events) le)
     ∙ ap seen (filter-append p (drop x.from kept) (filter q events))
     ∙ ap (λ es. seen (filter p (drop x.from kept) ++ es))
     (filter_again p q events (λ e t. any_has (λ y. filter_admits y.filter e) xs x h t))
+    ∙ ap (λ waiting. record { id = x.id; filter = x.filter; waiting = waiting }) (sym (waits_again (filter p (drop x.from kept)) (filter p events)))
 
 each_hears : (xs : List Cursor) (kept events : List Event) (ys : List Cursor) → ((y : Cursor) → Has ys y → Has xs y) → AreWithin (length kept) ys →
     watchings (kept ++ filter (is_admitted xs) events) ys ≡ map (hears events) (watchings kept ys)

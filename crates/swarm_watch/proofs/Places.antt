@@ -7,7 +7,7 @@ use Rattle.std.proofs.Math.Seq.{drop-length}
 use Rattle.std.proofs.lemmas.Bool.Decides.{nat_tests}
 use Rattle.std.proofs.lemmas.List.{get_or_default, map-append, set_split, take-append-drop}
 use Rattle.std.proofs.lemmas.List.Quantifiers.{position-Some}
-use Rattle.swarm_model.specs.Calls.Watches.{filter_admits}
+use Rattle.swarm_objects.specs.Watches.{filter_admits}
 use Rattle.swarm_objects.proofs.RowLemmas.{Has-from_row_at, drop_next, instead_is}
 use Rattle.swarm_objects.proofs.RowChanges.{change_row-None, drop_row-None}
 use Rattle.swarm_objects.specs.Rows.{Has, change_row, drop_row, row_at}
@@ -17,7 +17,7 @@ use Rattle.swarm_watch.proofs.Missing.{change_split, drop_split, no_place, none_
 use Rattle.swarm_watch.proofs.Moving.{distinct_join, distinct_split, waited_before, waited_more, within_join, within_split}
 use Rattle.swarm_watch.specs.Calls.{begun, told}
 use Rattle.swarm_watch.specs.Inside.Cursors.{AreDistinct, AreWaited, AreWithin, IsSwept, IsTidy, cursor_id, watching_at, watchings}
-use Rattle.swarm_watch.specs.Watchings.{Watching, watching_id}
+use Rattle.swarm_watch.specs.Watchings.{Watching, waiting_of, watching_id}
 use Rattle.swarm_watch.specs.declared.cursors.Cursor.{Cursor}
 
 -- it is one of the watchers, and those before and after it are other ones
@@ -110,7 +110,7 @@ swept_at_end xs kept place id x is at =
 
 nothing_waits : (kept : List Event) (x : Cursor) → watching_at kept (at_end kept x) ≡ told (watching_at kept x)
 nothing_waits kept x =
-    let seen : List Event → Watching = λ es. record { id = x.id; filter = x.filter; waiting = es } in
+    let seen : List Event → Watching = λ es. record { id = x.id; filter = x.filter; waiting = waiting_of es } in
     ap (λ es. seen (filter (filter_admits x.filter) es)) (drop-length kept)
 
 pub told_is : (xs : List Cursor) (kept : List Event) (place id : ℕ) (x : Cursor) → IsTidy xs kept → StandsAt xs place id x →
@@ -183,7 +183,7 @@ pub begun_is : (xs : List Cursor) (kept : List Event) (id : ℕ) (f : Filter) �
     watchings kept (xs ++ record { id = id; filter = f; from = length kept } ∷ []) ≡ watchings kept xs ++ begun id f ∷ []
 begun_is xs kept id f =
     map-append (watching_at kept) xs (record { id = id; filter = f; from = length kept } ∷ [])
-    ∙ ap (λ es. watchings kept xs ++ record { id = id; filter = f; waiting = filter (filter_admits f) es } ∷ []) (drop-length kept)
+    ∙ ap (λ es. watchings kept xs ++ record { id = id; filter = f; waiting = waiting_of (filter (filter_admits f) es) } ∷ []) (drop-length kept)
 
 -- Who has the id is found among those who are seen.
 

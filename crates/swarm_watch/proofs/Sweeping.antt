@@ -5,12 +5,12 @@ use Rattle.std.proofs.Math.Seq.{drop-append-add}
 use Rattle.std.proofs.lemmas.Bool.Decides.{nat_tests}
 use Rattle.std.proofs.lemmas.List.{drop-append-le, drop-set-lt, length-take-le, take-append-drop, take_more_set, drop_all}
 use Rattle.std.proofs.lemmas.List.Elements.{filter-append}
-use Rattle.swarm_model.specs.Calls.Watches.{filter_admits}
+use Rattle.swarm_objects.specs.Watches.{filter_admits}
 use Rattle.swarm_objects.proofs.RowLemmas.{drop_next}
 use Rattle.swarm_objects.specs.declared.watches.Event.{Event}
 use Rattle.swarm_watch.proofs.Moving.{distinct_back, waited_append, waited_back, within_back}
 use Rattle.swarm_watch.specs.Inside.Cursors.{AreDistinct, AreWaited, AreWithin, IsSwept, IsTidy, is_waited_at, stepped_back, waits_at, watching_at, watchings}
-use Rattle.swarm_watch.specs.Watchings.{Watching}
+use Rattle.swarm_watch.specs.Watchings.{Watching, waiting_of}
 use Rattle.swarm_watch.specs.declared.cursors.Cursor.{Cursor}
 
 -- One event.
@@ -39,7 +39,7 @@ same_waiting a e b x none = go (nat_lt (length a) x.from) refl
     p = filter_admits x.filter
 
     seen : List Event → Watching
-    seen es = record { id = x.id; filter = x.filter; waiting = es }
+    seen es = record { id = x.id; filter = x.filter; waiting = waiting_of es }
 
     go : (v : Bool) → nat_lt (length a) x.from ≡ v →
         watching_at (a ++ b) (cond v (record x { from = x.from - 1 }) x) ≡ watching_at (a ++ e ∷ b) x

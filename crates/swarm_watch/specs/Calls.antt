@@ -1,16 +1,16 @@
 -- What calls on watchers are answered, and the watchers after them.
-use Rattle.std.specs.Prelude.{ℕ, Bool, None, Option, Some, Err, Ok, Result, filter, nat_lt, List, [], ◌++◌, ◌∷◌, length, if◌then◌else◌, ◌≡◌, ◌≤◌, ◌⊎◌}
+use Rattle.std.specs.Prelude.{ℕ, Bool, None, Option, Some, Err, Ok, Result, filter, List, [], ◌++◌, ◌∷◌, length, ◌≡◌, ◌≤◌, ◌⊎◌}
 use Rattle.std.specs.List.{list_any}
 use Rattle.swarm_model.specs.Calls.Refusals.{too_many}
-use Rattle.swarm_model.specs.Calls.Watches.{filter_admits}
-use Rattle.swarm_objects.specs.Limits.{most_events, most_watchers}
+use Rattle.swarm_objects.specs.Watches.{filter_admits}
+use Rattle.swarm_objects.specs.Limits.{most_watchers}
 use Rattle.swarm_objects.specs.Rows.{change_row, drop_row}
 use Rattle.swarm_objects.specs.declared.ids.Kind.TheVariants as kind
 use Rattle.swarm_objects.specs.declared.replies.Refusal.{Refusal}
 use Rattle.swarm_objects.specs.declared.replies.Refusal.TheVariants as refusal
 use Rattle.swarm_objects.specs.declared.watches.Event.{Event}
 use Rattle.swarm_objects.specs.declared.watches.Filter.{Filter}
-use Rattle.swarm_watch.specs.Watchings.{Watching, Watchings, watching_id}
+use Rattle.swarm_watch.specs.Watchings.{Few, Many, Waiting, Watching, Watchings, waits_more, watching_id}
 
 -- a call's answer, and the watchers after it
 pub record Answer (X : Type 0) : Type 0 where
@@ -25,7 +25,7 @@ done x after = record { given = Ok x; after = after }
 
 -- nothing waits for a watcher that begins
 abbrev pub begun : ℕ → Filter → Watching
-begun id f = record { id = id; filter = f; waiting = [] }
+begun id f = record { id = id; filter = f; waiting = Few [] }
 
 abbrev pub begin_unless : Option Refusal → List Watching → ℕ → Filter → Answer (Unit {0})
 begin_unless None xs id f = done tt (xs ++ begun id f ∷ [])
@@ -36,19 +36,18 @@ begin_answer xs id f = begin_unless (too_many kind.Watcher most_watchers (length
 
 -- the events come to wait for each watcher whose filter admits them
 abbrev pub hears : List Event → Watching → Watching
-hears events x = record x { waiting = x.waiting ++ filter (filter_admits x.filter) events }
+hears events x = record x { waiting = waits_more x.waiting (filter (filter_admits x.filter) events) }
 
 abbrev pub is_awaited : List Watching → Event → Bool
 is_awaited xs e = list_any (λ x. filter_admits x.filter e) xs
 
 abbrev pub told : Watching → Watching
-told x = record x { waiting = [] }
+told x = record x { waiting = Few [] }
 
--- more events than may wait take the watcher away; else it is told them all
-abbrev pub polled : List Watching → ℕ → List Event → Answer (List Event)
-polled xs id events =
-    if nat_lt most_events (length events) then refused (refusal.Lagged (length events)) (drop_row watching_id id xs)
-    else done events (change_row watching_id id told xs)
+-- too many events take the watcher away; else it is told them all
+abbrev pub polled : List Watching → ℕ → Waiting → Answer (List Event)
+polled xs id (Many count) = refused (refusal.Lagged count) (drop_row watching_id id xs)
+polled xs id (Few events) = done events (change_row watching_id id told xs)
 
 abbrev pub poll_answer : List Watching → ℕ → Option Watching → Answer (List Event)
 poll_answer xs id None = refused (refusal.UnknownWatcher id) xs

@@ -18,10 +18,10 @@ use Rattle.swarm_objects.specs.declared.watches.Event.{Event}
 use Rattle.swarm_objects.specs.declared.watches.Filter.{Filter}
 use Rattle.swarm_objects.specs.declared.watches.Watcher.{Watcher}
 use Rattle.swarm_watch.specs.Calls.{Gives, Meets, begin_answer, finish_answer, hears, poll_answer}
-use Rattle.swarm_watch.specs.Watchings.{Watching, Watchings, watching_id}
+use Rattle.swarm_watch.specs.Watchings.{Watching, Watchings, waiting_of, watching_id}
 
 abbrev pub watching_in : World → Watcher → Watching
-watching_in w x = record { id = x.id; filter = x.filter; waiting = waiting_events w x }
+watching_in w x = record { id = x.id; filter = x.filter; waiting = waiting_of (waiting_events w x) }
 
 -- the world's watchers, each with the events that wait for it
 abbrev pub watchings_of : World → List Watching

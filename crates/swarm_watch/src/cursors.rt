@@ -1,9 +1,9 @@
 // Watchers as places in one list of events. An event is kept as long as a watcher waits for it.
 ghost use Rattle.std.specs.Prelude.{◌≡◌, ◌==◌, ◌≤◌, ◌<◌, ◌+◌, ◌++◌, drop, filter, length, map, IfOk, OnErr, OnOk};
 ghost use Rattle.std.specs.List.{position};
-ghost use Rattle.std.specs.Option.{option_copied, option_map};
+ghost use Rattle.std.specs.Option.{option_copied};
 ghost use Rattle.std.specs.Vec.{vec_capacity, vec_len};
-ghost use Rattle.swarm_model.specs.Calls.Watches.{filter_admits, is_asked, kind_number};
+ghost use Rattle.swarm_objects.specs.Watches.{filter_admits};
 ghost use Rattle.swarm_objects.specs.Rows.{change_row, drop_row, row_at};
 ghost use Rattle.swarm_watch.specs.Calls.{told};
 ghost use Rattle.swarm_watch.specs.Inside.Cursors.{IsSwept, IsTidy, cursor_id, is_admitted, is_waited_at, stepped_back};
@@ -11,7 +11,8 @@ ghost use Rattle.swarm_watch.specs.Inside.Cursors.{waits_at, watchings};
 ghost use Rattle.swarm_watch.specs.Watchings.{watching_id};
 
 use std::alloc::Global;
-use swarm_objects::{Event, Filter, Id, Kind, List, NoMemory, add};
+use swarm_objects::watches::filter_admits;
+use swarm_objects::{Event, Filter, Id, List, NoMemory, add};
 
 // A watcher, and the place among the kept events from which on it wasn't told of any.
 #[derive(Clone, Copy)]
@@ -21,38 +22,11 @@ pub struct Cursor {
     pub from: usize,
 }
 
-// Whether the kind is asked for.
-fn is_kind(asked: Option<Kind>, kind: Kind) -> bool
-    ensures { result ≡ is_asked (option_map kind_number asked) (kind_number kind) }
-{
-    match asked {
-        Some(asked) => asked == kind,
-        None => true,
-    }
-}
-
-// Whether the id is asked for.
-fn is_id(asked: Option<Id>, id: Id) -> bool
-    ensures { result ≡ is_asked asked id }
-{
-    match asked {
-        Some(asked) => asked == id,
-        None => true,
-    }
-}
-
-// Whether the filter lets the event pass.
-fn admits(filter: &Filter, event: &Event) -> bool
-    ensures { result ≡ filter_admits filter.now event.now }
-{
-    is_kind(filter.kind, event.kind) && is_id(filter.id, event.id)
-}
-
 // Whether the watcher waits for the event at this place.
 fn waits_at(cursor: &Cursor, place: usize, event: &Event) -> bool
     ensures { result ≡ waits_at place event.now cursor.now }
 {
-    cursor.from <= place && admits(&cursor.filter, event)
+    cursor.from <= place && filter_admits(&cursor.filter, event)
 }
 
 // Whether some watcher waits for the event at this place.
@@ -88,7 +62,10 @@ pub fn events_from(kept: &[Event], from: usize) -> &[Event]
 pub fn count_admitted(asked: &Filter, events: &[Event]) -> usize
     ensures { result ≡ length (filter (filter_admits asked.now) events.now) }
 {
-    events.iter().filter(|event| admits(asked, event)).count()
+    events
+        .iter()
+        .filter(|event| filter_admits(asked, event))
+        .count()
 }
 
 // The events that the filter lets pass, of which there are so many.
@@ -102,7 +79,7 @@ pub fn admitted(
 {
     let mut admitted = List::from_vec(Vec::with_capacity(alloc, count)?);
     for event in events {
-        if admits(asked, event) {
+        if filter_admits(asked, event) {
             add(&mut admitted, *event)?;
         }
     }
@@ -113,7 +90,9 @@ pub fn admitted(
 fn is_admitted(cursors: &[Cursor], event: &Event) -> bool
     ensures { result ≡ is_admitted cursors.now event.now }
 {
-    cursors.iter().any(|cursor| admits(&cursor.filter, event))
+    cursors
+        .iter()
+        .any(|cursor| filter_admits(&cursor.filter, event))
 }
 
 // How many of the events some watcher's filter lets pass.

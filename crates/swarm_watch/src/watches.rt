@@ -1,5 +1,5 @@
 // Watchers of rows, and the events that they wait for.
-ghost use Rattle.std.specs.Prelude.{◌≡◌, ◌≤◌, ◌<◌, ◌+◌, [], None, filter, length, map, OnErr, OnOk};
+ghost use Rattle.std.specs.Prelude.{◌≡◌, ◌↔◌, ◌≤◌, ◌<◌, ◌+◌, [], List, None, filter, length, map, IsTrue, OnErr, OnOk};
 ghost use Rattle.swarm_objects.specs.Rows.{row_at};
 ghost use Rattle.swarm_watch.specs.Calls.{Gives, Meets, begin_answer, finish_answer, hears, is_awaited, poll_answer};
 ghost use Rattle.swarm_watch.specs.Watchings.{watching_id};
@@ -51,6 +51,14 @@ impl Watches {
             cursors: Vec::new(alloc),
             kept: Vec::new(alloc),
         }
+    }
+
+    /// Whether nobody watches. Then nothing is waited for, and no room is needed.
+    pub fn is_empty(&self) -> bool
+        ensures nobody { IsTrue result ↔ (self.now.watchers ≡ []) }
+        ensures quiet { IsTrue result → (events : List Event) → filter (is_awaited self.now.watchers) events ≡ [] }
+    {
+        self.cursors.is_empty()
     }
 
     /// Somebody begins to watch: it is told of what its filter lets pass from now on. It is refused as `TooMany` where

@@ -6,7 +6,7 @@ use Rattle.swarm_objects.specs.World.{Tables}
 use Rattle.swarm_objects.specs.declared.rows.Change.{Change}
 use Rattle.swarm_objects.specs.declared.rows.Change.TheVariants as change
 use Rattle.swarm_objects.specs.declared.tasks.Task.{Task}
-use Rattle.swarm_roles.specs.Changes.{CanApply, CanApplyAll, apply_change, put_task}
+use Rattle.swarm_objects.specs.ChangeLists.{CanApply, CanApplyAll, apply_change, put_task}
 use Rattle.swarm_store.specs.Stored.{without_sessions}
 
 put_bare : (b : Bool) (t : Tables) (x : Task)

@@ -1,7 +1,7 @@
 // A copy of the plain world before an entry, on which changes of rows are made.
 ghost use Rattle.std.specs.Prelude.{◌≡◌, OnOk, true};
 ghost use Rattle.swarm_plain.specs.Plain.{tables_of};
-ghost use Rattle.swarm_roles.specs.Changes.{CanApply, CanApplyAll, apply_change, apply_changes};
+ghost use Rattle.swarm_objects.specs.ChangeLists.{CanApply, CanApplyAll, apply_change, apply_changes};
 ghost use Rattle.swarm_store.specs.Stored.{without_sessions};
 
 use crate::faults::Fault;

@@ -1,6 +1,6 @@
 // The control loops over any rows beside the plain ones.
 ghost use Rattle.swarm_plain.specs.Plain.{tables_of};
-ghost use Rattle.swarm_roles.specs.Usable.{IsUsable};
+ghost use Rattle.swarm_objects.specs.Usable.{IsUsable};
 
 use crate::faults::Fault;
 use crate::notes::note_duties;

@@ -1,11 +1,12 @@
 -- One task more, and then one fewer.
-use Rattle.std.proofs.Common.{◌≡◌, ◌∙◌, ◌+◌, ◌-◌, ◌<◌, ◌==◌, Bool, List, [], ◌∷◌, ap, arith, cond, eqb, false, get_or, length, refl, suc, true, zero, ℕ}
+use Rattle.std.proofs.Common.{◌≡◌, ◌∙◌, ◌+◌, ◌-◌, ◌<◌, ◌==◌, Bool, List, [], ◌∷◌, ap, arith, cond, eqb, false, get_or, length, refl, subst, suc, sym, true, zero, ℕ}
 use Rattle.std.proofs.lemmas.Bool.Decides.{nat_tests}
 use Rattle.std.proofs.lemmas.List.{length-map}
 use Rattle.swarm_objects.specs.Rows.{node_id}
 use Rattle.swarm_objects.specs.World.{Tables}
+use Rattle.swarm_objects.specs.declared.tasks.Task.{Task}
 use Rattle.swarm_objects.specs.declared.templates.Key.{Key}
-use Rattle.swarm_spread.specs.Counts.{Counts, HasTask, changed_at, counts_of, here_on, one_fewer, one_more, with_change}
+use Rattle.swarm_spread.specs.Counts.{Counts, HasTask, IsFor, Stands, changed_at, counts_of, here_on, one_fewer, one_more, with_change}
 
 undone : (node : ℕ) (ns hs : List ℕ) → length ns ≡ length hs →
     changed_at one_fewer node ns (changed_at one_more node ns hs) ≡ hs
@@ -38,13 +39,19 @@ has_added t service keys node c d is changed =
     let there : d ≡ with_change one_more (counts_of t service keys) node = changed ∙ ap (λ (e : Counts). with_change one_more e node) is in
     rw there (has_one node (counts_of t service keys).nodes (counts_of t service keys).here (long_here t service keys))
 
-pub dropped_again : (t : Tables) (service : ℕ) (keys : List Key) (node : ℕ) (c d e : Counts) → c ≡ counts_of t service keys →
+dropped_again : (t : Tables) (service : ℕ) (keys : List Key) (node : ℕ) (c d e : Counts) → c ≡ counts_of t service keys →
     d ≡ with_change one_more c node → e ≡ with_change one_fewer d node → e ≡ counts_of t service keys
 dropped_again t service keys node c d e is changed back =
     back ∙ (ap (λ (x : Counts). with_change one_fewer x node) (changed ∙ ap (λ (x : Counts). with_change one_more x node) is)
-    ∙ ap (λ (hs : List ℕ). let x : Counts = record {
-      nodes = (counts_of t service keys).nodes;
-      paths = (counts_of t service keys).paths;
-      here = hs;
-    } in x)
+    ∙ ap (λ (hs : List ℕ). let x : Counts = record (counts_of t service keys) { here = hs } in x)
     (undone node (counts_of t service keys).nodes (counts_of t service keys).here (long_here t service keys)))
+
+pub stands_again : (t : Tables) (service : ℕ) (keys : List Key) (node : ℕ) (c d e : Counts) → c ≡ counts_of t service keys →
+    d ≡ with_change one_more c node → e ≡ with_change one_fewer d node → Stands t e
+stands_again t service keys node c d e is changed back =
+    subst (Stands t) (sym (dropped_again t service keys node c d e is changed back)) refl
+
+pub for_task : (t : Tables) (x : Task) (keys : List Key) (node : ℕ) (c d e : Counts) → c ≡ counts_of t x.service keys →
+    d ≡ with_change one_more c node → e ≡ with_change one_fewer d node → keys ≡ x.template.spread → IsFor x e
+for_task t x keys node c d e is changed back own =
+    subst (IsFor x) (sym (dropped_again t x.service keys node c d e is changed back)) (record { service = refl; keys = own })

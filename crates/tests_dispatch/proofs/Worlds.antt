@@ -4,7 +4,7 @@ use Rattle.std.specs.Prelude.{◌&&◌}
 use Rattle.swarm_objects.specs.Bounds.{far_end, is_near_task}
 use Rattle.swarm_objects.specs.declared.nodes.Node.{Node}
 use Rattle.swarm_objects.specs.declared.tasks.Task.{Task}
-use Rattle.swarm_roles.specs.Usable.{IsUsable}
+use Rattle.swarm_objects.specs.Usable.{IsUsable}
 use Rattle.tests_dispatch.specs.Worlds.{AreNodes, small_tables}
 
 pub usable : (now : ℕ) (ns : List Node) (x : Task) → now < far_end → AreNodes ns → x.id ≡ 2 → is_near_task x ≡ true →

@@ -1,5 +1,6 @@
 // Messages of a session, due sets, and whether a message is there, each answer once.
 ghost use Rattle.std.specs.Prelude.{◌≡◌, ◌<◌, ◌≤◌, ◌+◌, OnOk};
+ghost use Rattle.swarm_assign.specs.Sents.{sent_count};
 ghost use Rattle.swarm_objects.specs.Agents.Messages.{assigned_task};
 ghost use Rattle.swarm_objects.specs.Bounds.{far_end};
 ghost use Rattle.swarm_objects.specs.Rows.{IsRising};
@@ -7,7 +8,7 @@ ghost use Rattle.swarm_objects.specs.Rows.{IsRising};
 use crate::rows::pair;
 use std::alloc::Global;
 use std::test::Fail;
-use swarm_assign::{Sent, due_set};
+use swarm_assign::{Sent, Sents, due_set};
 use swarm_objects::{
     AssignChange, Assigned, Desired, Id, Message, NoMemory, NodeState, TaskState, Workload,
 };
@@ -39,15 +40,15 @@ fn shown(message: &Message) -> Shown {
 }
 
 // The next message, which is confirmed; nothing but zeros where there is none.
-fn tell(alloc: Global, sent: &mut Sent, due: &[Assigned]) -> Result<Shown, NoMemory>
+fn tell(sent: &mut Sent, due: &[Assigned]) -> Result<Shown, NoMemory>
     requires count { sent.old.count < far_end }
     requires rises { IsRising assigned_task due.now }
     ensures { OnOk result (sent.new.count ≤ sent.old.count + 1) }
 {
-    let Some(message) = sent.next(alloc, due)? else {
+    let Some(message) = sent.next(due)? else {
         return Ok((false, 0, 0, 0));
     };
-    sent.confirm(alloc, &message)?;
+    sent.confirm(&message)?;
     Ok(shown(&message))
 }
 
@@ -65,11 +66,11 @@ fn wanted(task: Id, desired: Desired) -> Assigned
 fn one_task_told(alloc: Global) -> Result<[Shown; 5], NoMemory> {
     let mut sent = Sent::new(alloc);
     Ok([
-        tell(alloc, &mut sent, &[])?,
-        tell(alloc, &mut sent, &[])?,
-        tell(alloc, &mut sent, &[wanted(4, Desired::Running)])?,
-        tell(alloc, &mut sent, &[wanted(4, Desired::Remove)])?,
-        tell(alloc, &mut sent, &[])?,
+        tell(&mut sent, &[])?,
+        tell(&mut sent, &[])?,
+        tell(&mut sent, &[wanted(4, Desired::Running)])?,
+        tell(&mut sent, &[wanted(4, Desired::Remove)])?,
+        tell(&mut sent, &[])?,
     ])
 }
 
@@ -90,9 +91,9 @@ fn three_tasks_told(alloc: Global) -> Result<[Shown; 3], NoMemory> {
     let begun = [wanted(2, Desired::Running), wanted(5, Desired::Running)];
     let later = [wanted(3, Desired::Running), wanted(5, Desired::Shutdown)];
     Ok([
-        tell(alloc, &mut sent, &begun)?,
-        tell(alloc, &mut sent, &later)?,
-        tell(alloc, &mut sent, &later)?,
+        tell(&mut sent, &begun)?,
+        tell(&mut sent, &later)?,
+        tell(&mut sent, &later)?,
     ])
 }
 
@@ -135,7 +136,7 @@ fn told_to_run(alloc: Global, sent: &mut Sent) -> Result<bool, NoMemory>
     let due = due_set(alloc, &rows, 1);
     drop(rows);
     let due = due?;
-    tell(alloc, sent, due.as_slice())?;
+    tell(sent, due.as_slice())?;
     Ok(before)
 }
 
@@ -151,5 +152,22 @@ fn is_due_then(alloc: Global, desired: Desired) -> Result<(bool, bool), NoMemory
 fn due_until_it_is_told(rt: HostRuntime) -> Result<(), Fail> {
     assert_eq!(rt; is_due_then(rt.alloc(), Desired::Running)?, (true, false));
     assert_eq!(rt; is_due_then(rt.alloc(), Desired::Shutdown)?, (true, true));
+    Ok(())
+}
+
+// What node 1 is sent of task 4, which is to run.
+fn pull(sents: &mut Sents) -> Result<Shown, NoMemory>
+    requires { sent_count 1 sents.old < far_end }
+{
+    match sents.pull(1, &[wanted(4, Desired::Running)])? {
+        Some(message) => Ok(shown(&message)),
+        None => Ok((false, 0, 0, 0)),
+    }
+}
+
+#[test]
+fn pulled_once(rt: HostRuntime) -> Result<(), Fail> {
+    let mut sents = Sents::new(rt.alloc());
+    assert_eq!(rt; pull(&mut sents)?, (true, 0, 1, 14));
     Ok(())
 }

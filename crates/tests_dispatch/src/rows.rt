@@ -1,7 +1,7 @@
 // A small world, which the tests of the dispatcher's parts and of the spread tree read.
 ghost use Rattle.std.specs.Prelude.{◌≡◌, ◌<◌, IfOk, true};
 ghost use Rattle.swarm_objects.specs.Bounds.{far_end, is_near_task};
-ghost use Rattle.swarm_roles.specs.Usable.{IsUsable};
+ghost use Rattle.swarm_objects.specs.Usable.{IsUsable};
 ghost use Rattle.tests_dispatch.specs.Worlds.{AreNodes, small_tables};
 
 use std::alloc::Global;

@@ -1,5 +1,5 @@
 // The spread of tasks over nodes.
-ghost use Rattle.swarm_roles.specs.Usable.{IsUsable};
+ghost use Rattle.swarm_objects.specs.Usable.{IsUsable};
 
 use crate::rows::{task, zones};
 use std::alloc::Global;

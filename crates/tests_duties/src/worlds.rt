@@ -1,6 +1,7 @@
 // Worlds that are made entry by entry.
 ghost use Rattle.std.specs.Prelude.{IfOk};
 ghost use Rattle.swarm_duties.specs.Reached.{IsReached};
+ghost use Rattle.swarm_objects.specs.Usable.{IsUsableWorld};
 ghost use Rattle.swarm_plain.specs.Plain.{world_of};
 
 use std::alloc::Global;
@@ -35,7 +36,8 @@ pub fn do_first(replay: &mut Replay, all: &[Duty], count: usize) -> Result<(), F
 
 /// A world for calls that change it.
 pub fn copy_of(replay: &Replay) -> Result<Plain, NoMemory>
-    ensures { IfOk result (λ plain. IsReached (world_of plain)) }
+    ensures reached { IfOk result (λ plain. IsReached (world_of plain)) }
+    ensures usable { IfOk result (λ plain. IsUsableWorld (world_of plain)) }
 {
     replay.plain().duplicate()
 }

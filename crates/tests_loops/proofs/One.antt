@@ -5,7 +5,7 @@ use Rattle.swarm_objects.specs.Bounds.{is_near_service, is_near_task}
 use Rattle.swarm_objects.specs.World.{Tables, empty_tables}
 use Rattle.swarm_objects.specs.declared.services.Service.{Service}
 use Rattle.swarm_objects.specs.declared.tasks.Task.{Task}
-use Rattle.swarm_roles.specs.Usable.{IsUsable}
+use Rattle.swarm_objects.specs.Usable.{IsUsable}
 
 near_one : (x : Task) → is_near_task x ≡ true → (is_near_task x && true) ≡ true
 near_one x e = ap (λ b. b && true) e

@@ -4,7 +4,7 @@ ghost use Rattle.swarm_objects.specs.Bounds.{is_near_service, is_near_task};
 ghost use Rattle.swarm_objects.specs.Kinds.{role_of};
 ghost use Rattle.swarm_objects.specs.declared.loops.Role.TheVariants as role;
 ghost use Rattle.swarm_plain.specs.Plain.{tables_of};
-ghost use Rattle.swarm_roles.specs.Usable.{IsUsable};
+ghost use Rattle.swarm_objects.specs.Usable.{IsUsable};
 
 use crate::tests::task;
 use std::alloc::Global;

@@ -2,7 +2,7 @@
 ghost use Rattle.std.specs.Prelude.{◌≡◌, IfOk, true};
 ghost use Rattle.swarm_objects.specs.Bounds.{is_near_task};
 ghost use Rattle.swarm_plain.specs.Plain.{tables_of};
-ghost use Rattle.swarm_roles.specs.Usable.{IsUsable};
+ghost use Rattle.swarm_objects.specs.Usable.{IsUsable};
 
 use std::alloc::Global;
 use std::test::Fail;

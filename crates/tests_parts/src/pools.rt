@@ -10,16 +10,19 @@ use swarm_pools::{Pool, usable};
 fn all_ports(alloc: Global) -> Result<Pool, NoMemory>
     ensures { IfOk result (λ pool. (pool.first ≡ 30000) × (pool.last ≡ 32767)) }
 {
-    let mut pool = Pool::new(30_000, 32_767);
+    let mut pool = Pool::new(alloc, 30_000, 32_767);
     for number in 30_000..32_768 {
-        pool.take(alloc, number)?;
+        pool.take(number)?;
     }
     Ok(pool)
 }
 
 #[test]
 fn first_port_of_all(rt: HostRuntime) {
-    assert_eq!(rt; Pool::new(30_000, 32_767).least_free(), Some(30_000));
+    assert_eq!(rt;
+        Pool::new(rt.alloc(), 30_000, 32_767).least_free(),
+        Some(30_000)
+    );
 }
 
 // The least free port where all are taken, and where one was given back.
@@ -38,9 +41,9 @@ fn ports_run_out(rt: HostRuntime) -> Result<(), Fail> {
 
 // The least free number from 5 to 204, where two are taken.
 fn free_beside_two(alloc: Global) -> Result<Option<u32>, NoMemory> {
-    let mut pool = Pool::new(5, 204);
-    pool.take(alloc, 5)?;
-    pool.take(alloc, 150)?;
+    let mut pool = Pool::new(alloc, 5, 204);
+    pool.take(5)?;
+    pool.take(150)?;
     Ok(pool.least_free())
 }
 
@@ -52,9 +55,9 @@ fn gap_below_a_taken_number(rt: HostRuntime) -> Result<(), Fail> {
 
 // The least free of one number, before it is taken and after.
 fn free_of_one(alloc: Global) -> Result<(Option<u32>, Option<u32>), NoMemory> {
-    let mut pool = Pool::new(u32::MAX, u32::MAX);
+    let mut pool = Pool::new(alloc, u32::MAX, u32::MAX);
     let before = pool.least_free();
-    pool.take(alloc, u32::MAX)?;
+    pool.take(u32::MAX)?;
     Ok((before, pool.least_free()))
 }
 

@@ -1,10 +1,11 @@
 // Each answer of each call, asked for once.
-ghost use Rattle.std.specs.Prelude.{◌<◌};
-ghost use Rattle.swarm_objects.specs.Bounds.{far_end};
+ghost use Rattle.std.specs.List.{list_all};
+ghost use Rattle.std.specs.Prelude.{◌≡◌, ◌<◌, IfOk, true};
+ghost use Rattle.swarm_objects.specs.Bounds.{far_end, is_near_change};
 
 use std::alloc::Global;
 use std::test::Fail;
-use swarm_agent::{Agent, ApplyFault};
+use swarm_agent::{Agent, Agents, ApplyFault};
 use swarm_objects::{
     AgentMode, AssignChange, Assigned, Desired, End, Id, List, Message, Ms, NoMemory, TaskState,
     Workload, add,
@@ -18,7 +19,9 @@ const SHORT: Workload = Workload {
     end: End::Exit(10, 1),
 };
 
-fn update(task: Id, desired: Desired) -> AssignChange {
+fn update(task: Id, desired: Desired) -> AssignChange
+    ensures { is_near_change result ≡ true }
+{
     AssignChange::Update(Assigned {
         task,
         desired,
@@ -33,7 +36,9 @@ fn message(
     applies_to: u64,
     change: AssignChange,
 ) -> Result<Message, NoMemory>
-    requires { applies_to < far_end }
+    requires number { applies_to < far_end }
+    requires near { is_near_change change ≡ true }
+    ensures { IfOk result (λ m. list_all is_near_change m.changes ≡ true) }
 {
     let mut changes = List::new(alloc);
     add(&mut changes, change)?;
@@ -46,7 +51,9 @@ fn message(
 }
 
 // The agent receives the message, where its inbox is empty, and applies it.
-fn hear(agent: &mut Agent, m: Message) -> Result<(), ApplyFault> {
+fn hear(agent: &mut Agent, m: Message) -> Result<(), ApplyFault>
+    requires { list_all is_near_change m.changes ≡ true }
+{
     if !agent.has_message() {
         agent.receive(m);
         return agent.apply();
@@ -66,9 +73,6 @@ fn again(agent: &mut Agent) -> bool {
 fn step(agent: &mut Agent, now: Ms) -> Option<Id>
     requires { now < far_end }
 {
-    if !agent.has_near_times() {
-        return None;
-    }
     match agent.step_due(now) {
         Some(task) => {
             agent.exec(task, now);
@@ -98,20 +102,6 @@ fn forget(agent: &mut Agent) -> Option<Id> {
         }
         None => None,
     }
-}
-
-fn pending(agent: &Agent) -> Option<(Ms, Id)> {
-    if agent.has_near_times() {
-        return agent.pending();
-    }
-    None
-}
-
-fn next_phase(agent: &Agent, after: Id) -> Option<(Id, Ms)> {
-    if agent.has_near_times() {
-        return agent.next_phase(after);
-    }
-    None
 }
 
 // An agent that was told to run task 4.
@@ -171,6 +161,8 @@ fn reported_once(rt: HostRuntime) -> Result<(), Fail> {
     let mut agent = with_running(rt.alloc())?;
     assert_eq!(rt; agent.report_due(4), None);
     assert_eq!(rt; report(&mut agent), Some((4, TaskState::Running)));
+    assert_eq!(rt; agent.state_of(4), Some(TaskState::Running));
+    assert_eq!(rt; agent.state_of(5), None);
     assert_eq!(rt; report(&mut agent), None);
     Ok(())
 }
@@ -178,11 +170,11 @@ fn reported_once(rt: HostRuntime) -> Result<(), Fail> {
 #[test]
 fn phases_of_an_executor(rt: HostRuntime) -> Result<(), Fail> {
     let mut agent = with_task(rt.alloc())?;
-    assert_eq!(rt; pending(&agent), None);
+    assert_eq!(rt; agent.pending(), None);
     step(&mut agent, 0);
-    assert_eq!(rt; pending(&agent), Some((1, 4)));
-    assert_eq!(rt; next_phase(&agent, 3), Some((4, 1)));
-    assert_eq!(rt; next_phase(&agent, 4), None);
+    assert_eq!(rt; agent.pending(), Some((1, 4)));
+    assert_eq!(rt; agent.next_phase(3), Some((4, 1)));
+    assert_eq!(rt; agent.next_phase(4), None);
     Ok(())
 }
 
@@ -192,7 +184,7 @@ fn stopped_and_forgotten(rt: HostRuntime) -> Result<(), Fail> {
     let m = message(rt.alloc(), false, 1, AssignChange::Remove(4))?;
     hear(&mut agent, m)?;
     assert_eq!(rt; step(&mut agent, 3), Some(4));
-    assert_eq!(rt; pending(&agent), Some((8, 4)));
+    assert_eq!(rt; agent.pending(), Some((8, 4)));
     assert_eq!(rt; step(&mut agent, 7), None);
     assert_eq!(rt; forget(&mut agent), None);
     assert_eq!(rt; step(&mut agent, 8), Some(4));
@@ -249,5 +241,40 @@ fn refused_for_want_of_memory(rt: HostRuntime) -> Result<(), Fail> {
     }
     assert!(rt; !agent.has_message());
     assert_eq!(rt; agent.report_due(4), Some((7, TaskState::Accepted)));
+    Ok(())
+}
+
+// The agents of nodes 2 and 5, of which the first was told to run task 4 and made a step.
+fn agents_of_two(alloc: Global) -> Result<Agents, Fail> {
+    let mut agents = Agents::new(alloc);
+    agents.insert(5, Agent::new(alloc))?;
+    agents.insert(2, Agent::new(alloc))?;
+    agents.register(2, 3);
+    let m = message(alloc, true, 0, update(4, Desired::Running))?;
+    agents.receive(2, m);
+    agents.apply(2)?;
+    agents.exec(2, 4, 7);
+    Ok(agents)
+}
+
+fn nodes(agents: &Agents) -> u64 {
+    let mut code: u64 = 0;
+    for (node, _) in agents.iter() {
+        code = code.wrapping_mul(10).wrapping_add(*node);
+    }
+    code
+}
+
+#[test]
+fn agents_by_rising_node(rt: HostRuntime) -> Result<(), Fail> {
+    let mut agents = agents_of_two(rt.alloc())?;
+    assert_eq!(rt; nodes(&agents), 25);
+    assert_eq!(rt; agents.state_of(2, 4), Some(TaskState::Preparing));
+    assert_eq!(rt; agents.state_of(5, 4), None);
+    agents.fail(5);
+    agents.cut(5);
+    assert_eq!(rt; nodes(&agents), 2);
+    agents.remove(2);
+    assert!(rt; agents.get(2).is_none());
     Ok(())
 }

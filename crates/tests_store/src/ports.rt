@@ -1,8 +1,8 @@
 // Each answer, asked for once.
 use std::alloc::Global;
 use std::test::Fail;
+use store_ports::{PortCounts, times};
 use swarm_objects::{Draft, List, Name, NoMemory, Port, PortNumber, Service, add};
-use swarm_ports::{PortCounts, times};
 
 // A service that names 80 twice by TCP, and 53 by UDP as a number that was given.
 fn service(alloc: Global) -> Result<Service, NoMemory> {

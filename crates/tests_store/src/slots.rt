@@ -1,10 +1,10 @@
+use role_words::tally_of;
 use std::alloc::Global;
 use std::test::Fail;
 use swarm_objects::{
     Closed, Desired, List, Mode, Name, NoMemory, Note, Place, Service, ServiceSpec, Task,
     TaskState, Template, UpdateConfig, add,
 };
-use swarm_slots::tally_of;
 
 // A replicated service with id 7.
 fn service(alloc: Global) -> Result<Service, NoMemory> {

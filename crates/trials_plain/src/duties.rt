@@ -4,6 +4,7 @@ ghost use Rattle.swarm_duties.specs.Reached.{IsReached};
 ghost use Rattle.swarm_duties.specs.Stepping.{DoesStep};
 ghost use Rattle.swarm_matching.specs.Matched.{IsMatched};
 ghost use Rattle.swarm_model.specs.Settle.{settle_answer};
+ghost use Rattle.swarm_objects.specs.Usable.{IsUsableWorld};
 ghost use Rattle.swarm_plain.specs.Plain.{world_of};
 
 use swarm_duties::StepFault;
@@ -12,7 +13,7 @@ use swarm_plain::Plain;
 
 /// `settle`.
 pub fn settle(plain: &Plain) -> Result<Settle, NoMemory>
-    requires { IsReached (world_of plain.now) }
+    requires { IsUsableWorld (world_of plain.now) }
     ensures answers { result ≡ Ok (settle_answer (world_of plain.now)) }
     ensures matched { IfOk result (λ answer. answer ≡ Settle.Settled → IsMatched (world_of plain.now)) }
 {

@@ -1,7 +1,8 @@
 -- Messages that an agent may apply, and one that is stale; inboxes that follow what was sent, and some that don't.
 use Rattle.std.proofs.Common.{None, Option, Some, [], ap, refl, sym, ℕ, ◌≡◌}
 use Rattle.std.specs.Prelude.{false, true}
-use Rattle.swarm_matching.specs.Fresh.{IsFresh, is_stale}
+use Rattle.swarm_matching.specs.Fresh.{IsFresh}
+use Rattle.swarm_objects.specs.Agents.Messages.{is_stale}
 use Rattle.swarm_objects.specs.Agents.Messages.{complete_message, difference_message}
 use Rattle.swarm_objects.specs.declared.messages.Message.{Message}
 use Rattle.swarm_objects.specs.declared.messages.NodeSent.{NodeSent}

@@ -1,8 +1,9 @@
 -- What holds of whatever world a call leaves: the answers of calls and of operations, taken apart.
-use Rattle.std.proofs.Common.{◌≡◌, ℕ, List, [], ◌∷◌, ◌++◌, Bool, true, false, refl, Result, Ok, Err, Option, Some, None, cond, subst}
-use Rattle.std.specs.Prelude.{⊤}
+use Rattle.std.proofs.Common.{◌≡◌, ℕ, ◌+◌, Bool, true, false, cond, List, [], ◌++◌, refl, subst, Option, Some, None, Ok, Err, Result, ◌∷◌}
+use Rattle.std.specs.Prelude.{OnOk, ⊤}
 use Rattle.swarm_model.specs.Calls.Operations.{apply_op, apply_ops}
-use Rattle.swarm_model.specs.Calls.Refusals.{Done, first_refusal, found, refuse, unless}
+use Rattle.swarm_model.specs.Calls.Refusals.{Done, found}
+use Rattle.swarm_objects.specs.Refusals.{first_refusal, refuse, unless}
 use Rattle.swarm_objects.specs.World.{World}
 use Rattle.swarm_objects.specs.declared.calls.Op.{Op}
 use Rattle.swarm_objects.specs.declared.ids.Kind.{Kind}
@@ -73,3 +74,7 @@ ops-keep P version keeps [] w ids holds = holds
 ops-keep P version keeps (o ∷ ops) w ids holds =
     ops_step P version ops ids (apply_op version w o) (keeps w o holds)
     (λ one one_holds. ops-keep P version keeps ops one.0 (ids ++ one.1 ∷ []) one_holds)
+
+pub on-ok : {X E : Type 0} {P Q : Type 0} (r : Result X E) → (P → Q) → OnOk r P → OnOk r Q
+on-ok (Ok x) f h = f h
+on-ok (Err e) f h = h

@@ -3,7 +3,7 @@ use Rattle.std.specs.Prelude.{List, None, Option, Some, [], codes, false, map, r
 use Rattle.swarm_model.proofs.Examples.Usual.{agent_row, assigned, executor_row, node_row, service_row, session_row, task_row, task_seen}
 use Rattle.swarm_model.proofs.Examples.Words.{add_network, all_events, create, draft_of, join, join_remote, leaves, on_networks, one, plain_draft, plain_node, plain_spec, plain_template, port, remote_draft, says, update, with_template, world_after}
 use Rattle.swarm_model.specs.Calls.{call_outcome}
-use Rattle.swarm_model.specs.Calls.Nodes.{new_node}
+use Rattle.swarm_objects.specs.NewRows.{new_node}
 use Rattle.swarm_model.specs.Outcome.{Outcome}
 use Rattle.swarm_objects.proofs.Examples.Rows.{service, task}
 use Rattle.swarm_objects.specs.Changes.{with_tables}

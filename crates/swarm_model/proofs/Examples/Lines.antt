@@ -3,7 +3,7 @@ use Rattle.std.proofs.Common.{arith}
 use Rattle.std.specs.Prelude.{List, [], codes, drop, false, refl, take, ◌∷◌, ◌≡◌}
 use Rattle.std.specs.List.{list_all}
 use Rattle.swarm_model.proofs.Examples.Words.{create, plain_draft, world_after}
-use Rattle.swarm_model.specs.Follows.{Follows, IsCalled, IsSettled, IsWaited}
+use Rattle.swarm_model.specs.Follows.{Follows, IsCalled, IsSettleLine, IsWaited}
 use Rattle.swarm_model.specs.History.{replay}
 use Rattle.swarm_model.specs.Laws.Size.{size}
 use Rattle.swarm_model.specs.Own.{own, step_at}
@@ -59,7 +59,7 @@ waited = record {
   tail_is = ((refl, omega arith), λ _. refl);
 }
 
-settled : IsSettled (replay (take 1 serial_of_one)) 72000 (take 4 (drop 1 serial_of_one))
+settled : IsSettleLine (replay (take 1 serial_of_one)) 72000 (take 4 (drop 1 serial_of_one))
 settled = record {
   duties = take 3 (drop 1 serial_of_one);
   entries = refl;

@@ -4,7 +4,7 @@ use Rattle.swarm_model.proofs.Examples.Usual.{draft, no_row, task_row}
 use Rattle.swarm_model.proofs.Examples.Words.{add_network, all_events, create, draft_of, join, join_remote, leaves, on_networks, one, plain_draft, plain_node, plain_spec, plain_template, port, says, update, with_ports, with_template, world_after}
 use Rattle.swarm_model.specs.Calls.{call_outcome, outcome}
 use Rattle.swarm_model.specs.Calls.Networks.{new_network}
-use Rattle.swarm_model.specs.Calls.Nodes.{new_node}
+use Rattle.swarm_objects.specs.NewRows.{new_node}
 use Rattle.swarm_model.specs.Calls.Services.{new_service}
 use Rattle.swarm_model.specs.Calls.Watches.{polled}
 use Rattle.swarm_model.specs.History.{may_follow}

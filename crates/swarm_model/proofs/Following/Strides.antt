@@ -7,7 +7,7 @@ use Rattle.swarm_model.proofs.Following.Clock.{duty-clock}
 use Rattle.swarm_model.proofs.Following.Named.{busy_step, idle_step, settles}
 use Rattle.swarm_model.proofs.SettleLaws.{waiting_after}
 use Rattle.swarm_model.specs.Calls.{answered, call_outcome, entered, ticked}
-use Rattle.swarm_model.specs.Calls.Refusals.{refuse, unless}
+use Rattle.swarm_objects.specs.Refusals.{refuse, unless}
 use Rattle.swarm_model.specs.Follows.{AreStrides, Stride, entries_of_strides, left_after}
 use Rattle.swarm_model.specs.History.{replay_from, replies_from, step_world}
 use Rattle.swarm_model.specs.OneCaller.{AreNextTicks}

@@ -4,8 +4,10 @@ use Rattle.std.specs.Prelude.{is_none}
 use Rattle.swarm_model.proofs.Base.FromLists.{IsDuty-due}
 use Rattle.swarm_model.proofs.Laws.Steps.{each-step}
 use Rattle.swarm_model.specs.Calls.{answered}
-use Rattle.swarm_model.specs.Calls.Refusals.{found, node_by, refuse}
-use Rattle.swarm_model.specs.Calls.Remote.{admits_session, not_admitted, on_session}
+use Rattle.swarm_model.specs.Calls.Refusals.{found, node_by}
+use Rattle.swarm_objects.specs.Refusals.{refuse}
+use Rattle.swarm_model.specs.Calls.Remote.{admits_session, on_session}
+use Rattle.swarm_objects.specs.Nodes.Admission.{not_admitted}
 use Rattle.swarm_model.specs.History.{step}
 use Rattle.swarm_model.specs.Laws.DeadSessions.{DeadChangesNothing, DeadSessionLaw, IsUnchanged, NeedsSession, StepMindsSessions, is_dead, is_dead_answer}
 use Rattle.swarm_model.specs.Outcome.{Answered}

@@ -9,7 +9,7 @@ use Rattle.swarm_model.proofs.Moves.EachDuty.{duty-moves}
 use Rattle.swarm_model.proofs.Moves.Rows.{RisesBetween, becomes-cases, between-filter, between-has, between-map, between-one, between-with_row, rows-stay}
 use Rattle.swarm_model.proofs.Moves.Sessions.{with_row-cases}
 use Rattle.swarm_model.proofs.Moves.Worlds.{IsOrderly, TablesMove, TaskMoves}
-use Rattle.swarm_model.specs.Calls.Faults.{lost}
+use Rattle.swarm_objects.specs.Agents.NodeAgents.{lost}
 use Rattle.swarm_model.specs.Laws.Rises.{KeepsNode}
 use Rattle.swarm_objects.proofs.RowLemmas.{Has-filter_cases, Has-flat_map_cases, Has-map_cases}
 use Rattle.swarm_objects.proofs.Tests.{first_so, second_so}

@@ -12,12 +12,16 @@ use Rattle.swarm_model.proofs.Laws.Sound.{rises-between, sound, watchers-rise}
 use Rattle.swarm_model.proofs.Moves.Calls.{call-answers}
 use Rattle.swarm_model.proofs.Moves.Operations.{op-moves}
 use Rattle.swarm_model.proofs.Moves.Worlds.{IsOrderly, Moves, orderly-moves}
-use Rattle.swarm_model.specs.Calls.Faults.{failed_agent, lost, on_agent}
+use Rattle.swarm_objects.specs.Agents.NodeAgents.{failed_agent, lost}
+use Rattle.swarm_model.specs.Calls.Faults.{on_agent}
 use Rattle.swarm_model.specs.Calls.Networks.{remove_network}
-use Rattle.swarm_model.specs.Calls.Nodes.{new_agent, new_node, remove_node, respecified_node, tables_without_node, update_node, with_agent_if, with_node, without_node}
+use Rattle.swarm_objects.specs.Agents.NodeAgents.{new_agent}
+use Rattle.swarm_objects.specs.NewRows.{new_node, respecified_node}
+use Rattle.swarm_model.specs.Calls.Nodes.{remove_node, tables_without_node, update_node, with_agent_if, with_node, without_node}
 use Rattle.swarm_model.specs.Calls.Operations.{apply_op, apply_ops}
 use Rattle.swarm_model.specs.Calls.Refusals.{conflict, found, network_by, node_by, service_by}
-use Rattle.swarm_model.specs.Calls.Remote.{begin_with, begun_tables, given_or, not_admitted, on_remote, on_session, pulled, remote_begin, remote_status, report}
+use Rattle.swarm_model.specs.Calls.Remote.{begin_with, begun_tables, given_or, on_remote, on_session, pulled, remote_begin, remote_status, report}
+use Rattle.swarm_objects.specs.Nodes.Admission.{not_admitted}
 use Rattle.swarm_model.specs.Calls.Services.{go_back, remove_service, rollback_service, update_service}
 use Rattle.swarm_model.specs.Calls.Views.{View, shows}
 use Rattle.swarm_model.specs.Calls.Watches.{polled, told_at, waiting_events, watch_finish, watch_poll, without_watcher}

@@ -12,7 +12,8 @@ use Rattle.swarm_model.proofs.Laws.Sound.{rises-between}
 use Rattle.swarm_model.proofs.Laws.Timely.{changed-cases, each-becomes, each-changed}
 use Rattle.swarm_model.proofs.Moves.Rows.{between-one}
 use Rattle.swarm_model.specs.Calls.Refusals.{other_holder, port_taken}
-use Rattle.swarm_model.specs.Calls.Services.{filled, new_service, respecified, with_service}
+use Rattle.swarm_model.specs.Calls.Services.{filled, new_service, with_service}
+use Rattle.swarm_objects.specs.NewRows.{respecified}
 use Rattle.swarm_model.specs.Laws.Facts.{takes}
 use Rattle.swarm_model.specs.Laws.Fits.{share_port}
 use Rattle.swarm_objects.proofs.Empty.{filter_empty, flat_map_empty, map_empty}

@@ -7,9 +7,11 @@ use Rattle.swarm_model.proofs.Moves.Rows.{Becomes, RisesBetween, becomes-cases}
 use Rattle.swarm_model.proofs.Moves.Tables.{moves-in_state, moves-wanted}
 use Rattle.swarm_model.proofs.Moves.Worlds.{Any, IsGood, IsOrderly, SameId, TablesMove, TaskMoves, good-moves, task-same, turns-between}
 use Rattle.swarm_model.specs.Calls.Nodes.{tables_without_node}
-use Rattle.swarm_model.specs.Calls.Refusals.{port_taken, same_mode}
+use Rattle.swarm_model.specs.Calls.Refusals.{port_taken}
+use Rattle.swarm_objects.specs.NewRows.{same_mode}
 use Rattle.swarm_model.specs.Calls.Remote.{begun_tables}
-use Rattle.swarm_model.specs.Calls.Services.{broken_draft, filled, new_service, respecified, with_service}
+use Rattle.swarm_model.specs.Calls.Services.{broken_draft, filled, new_service, with_service}
+use Rattle.swarm_objects.specs.NewRows.{respecified}
 use Rattle.swarm_objects.specs.Changes.{change_node, change_service, change_task, id_taken, in_state, noted, placed, raised_to, wanted}
 use Rattle.swarm_objects.specs.Loops.Agents.{after_beat}
 use Rattle.swarm_objects.specs.Loops.Allocator.{gets_address, port_number, with_addresses, with_port}

@@ -18,10 +18,14 @@ use Rattle.swarm_model.proofs.Moves.Rows.{becomes-filter, between-one}
 use Rattle.swarm_model.proofs.Moves.Worlds.{IsOrderly, Moves, orderly-moves}
 use Rattle.swarm_model.specs.Calls.Faults.{on_agent}
 use Rattle.swarm_model.specs.Calls.Networks.{remove_network}
-use Rattle.swarm_model.specs.Calls.Nodes.{new_node, remove_node, respecified_node, update_node}
+use Rattle.swarm_objects.specs.NewRows.{new_node, respecified_node}
+use Rattle.swarm_model.specs.Calls.Nodes.{remove_node, update_node}
 use Rattle.swarm_model.specs.Calls.Operations.{apply_op, apply_ops}
-use Rattle.swarm_model.specs.Calls.Refusals.{Done, bad_spec, conflict, found, has_name, missing_network, name_taken, network_by, node_by, node_name, port_taken, refuse, row_named, same_mode, service_by, service_name}
-use Rattle.swarm_model.specs.Calls.Remote.{begin_with, given_or, not_admitted, on_remote, on_session, pulled, remote_status, report}
+use Rattle.swarm_model.specs.Calls.Refusals.{Done, bad_spec, conflict, found, has_name, missing_network, name_taken, network_by, node_by, node_name, port_taken, row_named, service_by, service_name}
+use Rattle.swarm_objects.specs.NewRows.{same_mode}
+use Rattle.swarm_objects.specs.Refusals.{refuse}
+use Rattle.swarm_model.specs.Calls.Remote.{begin_with, given_or, on_remote, on_session, pulled, remote_status, report}
+use Rattle.swarm_objects.specs.Nodes.Admission.{not_admitted}
 use Rattle.swarm_model.specs.Calls.Services.{broken_draft, create_service, go_back, is_attempt_of, remove_service, rollback_service, update_service, without_service}
 use Rattle.swarm_model.specs.Calls.Views.{View, shows}
 use Rattle.swarm_model.specs.Calls.Watches.{polled, told_at, waiting_events, watch_finish, watch_poll, without_watcher}

@@ -7,11 +7,14 @@ use Rattle.swarm_model.proofs.Laws.Timely.{each-changed, each-pushed}
 use Rattle.swarm_model.proofs.Moves.Calls.{find-has}
 use Rattle.swarm_model.specs.Calls.Faults.{on_agent}
 use Rattle.swarm_model.specs.Calls.Networks.{remove_network}
-use Rattle.swarm_model.specs.Calls.Nodes.{remove_node, respecified_node, update_node}
+use Rattle.swarm_model.specs.Calls.Nodes.{remove_node, update_node}
+use Rattle.swarm_objects.specs.NewRows.{respecified_node}
 use Rattle.swarm_model.specs.Calls.Operations.{apply_op, apply_ops}
 use Rattle.swarm_model.specs.Calls.Refusals.{Done, conflict, found, has_name, network_by, node_by, service_by, service_name}
-use Rattle.swarm_model.specs.Calls.Remote.{begin_with, given_or, not_admitted, on_remote, on_session, pulled, remote_status, report}
-use Rattle.swarm_model.specs.Calls.Services.{filled, go_back, new_service, next_iteration, remove_service, respecified, rollback_service, update_service, with_service, without_service}
+use Rattle.swarm_model.specs.Calls.Remote.{begin_with, given_or, on_remote, on_session, pulled, remote_status, report}
+use Rattle.swarm_objects.specs.Nodes.Admission.{not_admitted}
+use Rattle.swarm_model.specs.Calls.Services.{filled, go_back, new_service, remove_service, rollback_service, update_service, with_service, without_service}
+use Rattle.swarm_objects.specs.NewRows.{next_iteration, respecified}
 use Rattle.swarm_model.specs.Calls.Views.{View, shows}
 use Rattle.swarm_model.specs.Calls.Watches.{polled, told_at, waiting_events, watch_finish, watch_poll, without_watcher}
 use Rattle.swarm_model.specs.Calls.{answer, answered, ticked, txn_answer, viewed}

@@ -14,9 +14,11 @@ use Rattle.swarm_model.proofs.Moves.Rows.{Becomes, RisesBetween, becomes-cases, 
 use Rattle.swarm_model.proofs.Moves.Tables.{moves-in_state, rank-most}
 use Rattle.swarm_model.proofs.Moves.Worlds.{TaskMoves, task-same}
 use Rattle.swarm_model.specs.Calls.Nodes.{is_left_behind, tables_without_node}
-use Rattle.swarm_model.specs.Calls.Refusals.{same_mode}
-use Rattle.swarm_model.specs.Calls.Remote.{begun_tables, tasks_within, with_resources}
-use Rattle.swarm_model.specs.Calls.Services.{filled, new_service, next_iteration, respecified, with_service}
+use Rattle.swarm_objects.specs.NewRows.{same_mode}
+use Rattle.swarm_model.specs.Calls.Remote.{begun_tables}
+use Rattle.swarm_objects.specs.Nodes.Opening.{tasks_within, with_resources}
+use Rattle.swarm_model.specs.Calls.Services.{filled, new_service, with_service}
+use Rattle.swarm_objects.specs.NewRows.{next_iteration, respecified}
 use Rattle.swarm_model.specs.Laws.OneTemplate.{NoTwoAlike, OneTemplateLaw, are_alike, is_of_no_job}
 use Rattle.swarm_objects.proofs.RowLemmas.{Has-append_cases, Has-from_row_at}
 use Rattle.swarm_objects.proofs.SameLemmas.{Decides-same_place}

@@ -14,7 +14,8 @@ use Rattle.swarm_model.proofs.Moves.Duties.{placed-most}
 use Rattle.swarm_model.proofs.Moves.Placing.{best-is}
 use Rattle.swarm_model.proofs.Moves.Rows.{Becomes, becomes-change_any, becomes-where, between-has, between-one}
 use Rattle.swarm_model.specs.Calls.Nodes.{is_left_behind, tables_without_node}
-use Rattle.swarm_model.specs.Calls.Remote.{begun_tables, tasks_within, with_resources}
+use Rattle.swarm_model.specs.Calls.Remote.{begun_tables}
+use Rattle.swarm_objects.specs.Nodes.Opening.{tasks_within, with_resources}
 use Rattle.swarm_model.specs.Laws.Fits.{has_room_for}
 use Rattle.swarm_objects.proofs.RowLemmas.{Has-append_left, Has-filter, Has-filter_cases, Has-map, Has-map_cases, sum_by-change_row, sum_by-filter}
 use Rattle.swarm_objects.proofs.Tests.{first_so, never-both, second_so}

@@ -13,12 +13,16 @@ use Rattle.swarm_model.proofs.Laws.Numbers.{replay-counts}
 use Rattle.swarm_model.proofs.Laws.Timely.{IsShortEnd, IsShortSpec, IsShortTemplate, IsShortWork, IsTimelyService, IsTimelySession, IsTimelyTask, Timely, Where, day, each-pushed, timely-empty, timely-keeps, timely-replay}
 use Rattle.swarm_model.proofs.Laws.TimelyAgents.{IsBeside, IsCountedMessage, IsCountedSent, IsShortChange, IsTimelyAgent, IsTimelyExecutor, TimelyBeside, agent-timely, duty-beside, lost-timely, message-counted, more, moved-on, sent-dropped, sent-timely}
 use Rattle.swarm_model.proofs.Moves.Worlds.{IsOrderly}
-use Rattle.swarm_model.specs.Calls.Faults.{failed_agent, lost, on_agent}
+use Rattle.swarm_objects.specs.Agents.NodeAgents.{failed_agent, lost}
+use Rattle.swarm_model.specs.Calls.Faults.{on_agent}
 use Rattle.swarm_model.specs.Calls.Networks.{remove_network}
-use Rattle.swarm_model.specs.Calls.Nodes.{new_agent, remove_node, respecified_node, update_node, with_agent_if}
+use Rattle.swarm_objects.specs.Agents.NodeAgents.{new_agent}
+use Rattle.swarm_model.specs.Calls.Nodes.{remove_node, update_node, with_agent_if}
+use Rattle.swarm_objects.specs.NewRows.{respecified_node}
 use Rattle.swarm_model.specs.Calls.Operations.{apply_op}
 use Rattle.swarm_model.specs.Calls.Refusals.{conflict, found, network_by, node_by, service_by}
-use Rattle.swarm_model.specs.Calls.Remote.{begin_with, given_or, not_admitted, on_remote, on_session, pulled, remote_status, report}
+use Rattle.swarm_model.specs.Calls.Remote.{begin_with, given_or, on_remote, on_session, pulled, remote_status, report}
+use Rattle.swarm_objects.specs.Nodes.Admission.{not_admitted}
 use Rattle.swarm_model.specs.Calls.Services.{go_back, remove_service, rollback_service, update_service}
 use Rattle.swarm_model.specs.Calls.Views.{View, shows}
 use Rattle.swarm_model.specs.Calls.Watches.{polled, told_at, waiting_events, watch_finish, watch_poll, without_watcher}
@@ -362,15 +366,12 @@ near-run clock s (Some r) e few is =
     all-pass (λ (i : Replaced). is_near i.created) r.replaced (λ i h. near i.created
     (omega (arith, few, is.run r e i h)))
 
-near-service : (clock : ℕ) (s : Service) → clock ≤ 900000000 → s.iteration ≤ 900000000 → IsTimelyService clock s →
-    is_near_service s ≡ true
-near-service clock s few iteration is =
-    both (is_near_spec s.spec && on_row true is_near_spec s.previous && on_row true is_near_run s.run)
-    (is_near s.iteration)
-    (both (is_near_spec s.spec && on_row true is_near_spec s.previous) (on_row true is_near_run s.run)
+near-service : (clock : ℕ) (s : Service) → clock ≤ 900000000 → IsTimelyService clock s → is_near_service s ≡ true
+near-service clock s few is =
+    both (is_near_spec s.spec && on_row true is_near_spec s.previous) (on_row true is_near_run s.run)
     (both (is_near_spec s.spec) (on_row true is_near_spec s.previous) (near-spec s.spec is.spec)
     (near-previous s.previous is.previous))
-    (near-run clock s s.run refl few is)) (near s.iteration (omega (arith, iteration)))
+    (near-run clock s s.run refl few is)
 
 near-task : (clock : ℕ) (x : Task) → clock ≤ 900000000 → IsTimelyTask clock x → is_near_task x ≡ true
 near-task clock x few is =
@@ -386,12 +387,10 @@ near-session clock s few is =
     (omega (arith, few, is.deadline)))
     (near s.session.beat (omega (arith, few, is.beat)))
 
-near-times : (t : Tables) → t.clock ≤ 900000000 → ((s : Service) → Has t.services s → s.iteration ≤ 900000000) →
-    Timely t →
-    HasNearTimes t
-near-times t few iterated is = record {
+near-times : (t : Tables) → t.clock ≤ 900000000 → Timely t → HasNearTimes t
+near-times t few is = record {
   nodes = all-pass is_near_node t.nodes (λ n h. near n.down_since (omega (arith, few, is.nodes n h)));
-  services = all-pass is_near_service t.services (λ s h. near-service t.clock s few (iterated s h) (is.services s h));
+  services = all-pass is_near_service t.services (λ s h. near-service t.clock s few (is.services s h));
   tasks = all-pass is_near_task t.tasks (λ x h. near-task t.clock x few (is.tasks x h));
   attempts = all-pass (λ (a : Attempt). is_near a.at) t.attempts (λ a h. near a.at
       (omega (arith, few, is.attempts a h)));
@@ -449,9 +448,7 @@ IsSmall-replay h legal =
       clock = omega (arith, clock);
       next_id = omega (arith, counts.next, few);
       heartbeat = omega (arith, timely.heartbeat);
-      times =
-          near-times (replay h).tables clock
-          (λ s k. omega (arith, few, counts.iteration 0 (λ v none. absurd none) s k)) timely;
+      times = near-times (replay h).tables clock timely;
       agents =
           all-pass is_near_agent (replay h).agents
           (λ a k. near-agent (replay h).tables.clock (replay h).entries a clock entries (beside.agents a k));

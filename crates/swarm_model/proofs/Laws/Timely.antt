@@ -11,8 +11,10 @@ use Rattle.swarm_model.proofs.Moves.Sessions.{with_row-cases}
 use Rattle.swarm_model.proofs.Moves.Tables.{rank-most}
 use Rattle.swarm_model.specs.Calls.Nodes.{is_left_behind, tables_without_node}
 use Rattle.swarm_model.specs.Calls.Refusals.{bad_spec}
-use Rattle.swarm_model.specs.Calls.Remote.{begun_tables, tasks_within, with_resources}
-use Rattle.swarm_model.specs.Calls.Services.{broken_draft, filled, new_service, respecified, with_service}
+use Rattle.swarm_model.specs.Calls.Remote.{begun_tables}
+use Rattle.swarm_objects.specs.Nodes.Opening.{tasks_within, with_resources}
+use Rattle.swarm_model.specs.Calls.Services.{broken_draft, filled, new_service, with_service}
+use Rattle.swarm_objects.specs.NewRows.{respecified}
 use Rattle.swarm_model.specs.History.{IsLegal, replay}
 use Rattle.swarm_objects.proofs.RowLemmas.{Has-append_cases, Has-filter_cases, Has-map_cases}
 use Rattle.swarm_objects.specs.Changes.{change_service, change_task, in_state, placed}

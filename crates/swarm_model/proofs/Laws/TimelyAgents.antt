@@ -3,7 +3,7 @@ use Rattle.std.proofs.Common.{Bool, List, None, Option, Some, [], arith, cond, e
 use Rattle.std.specs.List.{list_any}
 use Rattle.std.specs.Prelude.{filter, fold, map, nat_le, not, ⊤, ◌&&◌, ◌==◌}
 use Rattle.swarm_model.proofs.Laws.Timely.{IsShortWork, Timely, Where, day, each-changed, each-with_row}
-use Rattle.swarm_model.specs.Calls.Faults.{lost}
+use Rattle.swarm_objects.specs.Agents.NodeAgents.{lost}
 use Rattle.swarm_objects.proofs.RowLemmas.{Has-filter_cases, Has-flat_map_cases, Has-from_row_at, Has-map_cases}
 use Rattle.swarm_objects.specs.Agents.Executors.{at_time, early_step, ending, executor_step, is_early, is_late, is_to_go, late, late_step, moved, stopped_at, wants_to_stop}
 use Rattle.swarm_objects.specs.Agents.Messages.{applied, apply_change, assigned, assigned_task, change_executor, change_of, changes_of, due_set, gone_executor, is_assigned_on, is_sent, left_out, message_for, message_with, names, new_executor, next_message, sent_of, tasks_of_either, update_of, with_sent}

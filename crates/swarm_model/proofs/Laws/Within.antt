@@ -8,7 +8,7 @@ use Rattle.swarm_model.proofs.Laws.Weights.{cpu_of, held, mem_of, weight, weight
 use Rattle.swarm_model.proofs.Moves.Duties.{placed-most}
 use Rattle.swarm_model.proofs.Moves.Rows.{Becomes}
 use Rattle.swarm_model.proofs.Moves.Opening.{regroup}
-use Rattle.swarm_model.specs.Calls.Remote.{Kept, fits_in, keep_or_reject, keep_other, keep_task, tasks_within}
+use Rattle.swarm_objects.specs.Nodes.Opening.{TakenSoFar, fits_in, keep_or_reject, keep_other, keep_task, tasks_within}
 use Rattle.swarm_objects.proofs.Tests.{first_so, second_so}
 use Rattle.swarm_objects.specs.Changes.{in_state}
 use Rattle.swarm_objects.specs.Nodes.Holdings.{is_placed_on}
@@ -17,14 +17,14 @@ use Rattle.swarm_objects.specs.declared.tasks.Task.{Task}
 use Rattle.swarm_objects.specs.declared.tasks.TaskState.TheVariants as state
 
 -- what one task adds
-record Adds (clock node : ℕ) (old new : Kept) (x : Task) : Type 0 where
+record Adds (clock node : ℕ) (old new : TakenSoFar) (x : Task) : Type 0 where
   task : Task
   tasks : new.tasks ≡ old.tasks ++ task ∷ []
   lightens : Lightens clock x task
   cpu : weight cpu_of node task + new.cpu ≤ old.cpu
   mem : weight mem_of node task + new.mem ≤ old.mem
 
-one-added : (version clock node : ℕ) (kept : Kept) (x : Task) → Adds clock node kept
+one-added : (version clock node : ℕ) (kept : TakenSoFar) (x : Task) → Adds clock node kept
     (keep_other version clock node kept x) x
 one-added version clock node kept x = by_place (is_placed_on node x) refl
   where
@@ -68,14 +68,14 @@ one-added version clock node kept x = by_place (is_placed_on node x) refl
     }
 
 -- what all of them add
-record AddsAll (clock node : ℕ) (old new : Kept) (xs : List Task) : Type 0 where
+record AddsAll (clock node : ℕ) (old new : TakenSoFar) (xs : List Task) : Type 0 where
   more : List Task
   tasks : new.tasks ≡ old.tasks ++ more
   rows : Becomes (Lightens clock) [] xs more
   cpu : held cpu_of node more + new.cpu ≤ old.cpu
   mem : held mem_of node more + new.mem ≤ old.mem
 
-all-added : (version clock node : ℕ) (xs : List Task) (kept : Kept) →
+all-added : (version clock node : ℕ) (xs : List Task) (kept : TakenSoFar) →
     AddsAll clock node kept (fold (keep_other version clock node) kept xs) xs
 all-added version clock node [] kept = record {
   more = [];

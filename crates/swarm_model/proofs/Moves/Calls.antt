@@ -10,7 +10,8 @@ use Rattle.swarm_model.proofs.Moves.Sessions.{beat-moves}
 use Rattle.swarm_model.proofs.Moves.Tables.{move-any_task, moves-raised_to}
 use Rattle.swarm_model.proofs.Moves.Worlds.{Any, IsOrderly, Moves, SameId, TaskMoves, networks-stay, sessions-same, tables-same, task-same, turns-by, turns-ids, turns-more}
 use Rattle.swarm_model.specs.Calls.{answer, answered, call_outcome, ticked, txn_answer, viewed}
-use Rattle.swarm_model.specs.Calls.Remote.{begin_with, given_or, not_admitted, on_remote, on_session, pulled, remote_beat, remote_begin, remote_pull, remote_status, report}
+use Rattle.swarm_model.specs.Calls.Remote.{begin_with, given_or, on_remote, on_session, pulled, remote_beat, remote_begin, remote_pull, remote_status, report}
+use Rattle.swarm_objects.specs.Nodes.Admission.{not_admitted}
 use Rattle.swarm_model.specs.Calls.Faults.{on_agent}
 use Rattle.swarm_model.specs.Calls.Refusals.{found, has_name, node_by, node_name}
 use Rattle.swarm_model.specs.Calls.Views.{View, shows}

@@ -6,7 +6,8 @@ use Rattle.swarm_model.proofs.Moves.Rows.{Becomes, becomes-change_any}
 use Rattle.swarm_model.proofs.Moves.Sessions.{opened, opened-rises}
 use Rattle.swarm_model.proofs.Moves.Tables.{moves-in_state}
 use Rattle.swarm_model.proofs.Moves.Worlds.{networks-stay, SameId, TablesMove, TaskMoves, task-same, turns-by, turns-ids}
-use Rattle.swarm_model.specs.Calls.Remote.{Kept, begun_tables, fits_in, keep_or_reject, keep_other, keep_task, tasks_within, with_resources}
+use Rattle.swarm_model.specs.Calls.Remote.{begun_tables}
+use Rattle.swarm_objects.specs.Nodes.Opening.{TakenSoFar, fits_in, keep_or_reject, keep_other, keep_task, tasks_within, with_resources}
 use Rattle.swarm_objects.proofs.Tests.{first_so}
 use Rattle.swarm_objects.specs.Changes.{in_state}
 use Rattle.swarm_objects.specs.Nodes.Holdings.{is_placed_on}
@@ -17,12 +18,12 @@ use Rattle.swarm_objects.specs.declared.tasks.Task.{Task}
 use Rattle.swarm_objects.specs.declared.tasks.TaskState.TheVariants as state
 
 -- what one task adds
-pub record Adds (old new : Kept) (x : Task) : Type 0 where
+pub record Adds (old new : TakenSoFar) (x : Task) : Type 0 where
   pub task : Task
   pub tasks : new.tasks ≡ old.tasks ++ task ∷ []
   pub moves : TaskMoves x task
 
-one-added : (version clock node : ℕ) (kept : Kept) (x : Task) → Adds kept (keep_other version clock node kept x) x
+one-added : (version clock node : ℕ) (kept : TakenSoFar) (x : Task) → Adds kept (keep_other version clock node kept x) x
 one-added version clock node kept x = by_place (is_placed_on node x) refl
   where
     by_room : (b : Bool) → is_placed_on node x ≡ true →
@@ -46,12 +47,12 @@ regroup [] y ys = refl
 regroup (x ∷ xs) y ys = ap (λ zs. x ∷ zs) (regroup xs y ys)
 
 -- what all of them add
-pub record AddsAll (old new : Kept) (xs : List Task) : Type 0 where
+pub record AddsAll (old new : TakenSoFar) (xs : List Task) : Type 0 where
   pub more : List Task
   pub tasks : new.tasks ≡ old.tasks ++ more
   pub rows : Becomes TaskMoves [] xs more
 
-all-added : (version clock node : ℕ) (xs : List Task) (kept : Kept) →
+all-added : (version clock node : ℕ) (xs : List Task) (kept : TakenSoFar) →
     AddsAll kept (fold (keep_other version clock node) kept xs) xs
 all-added version clock node [] kept = record { more = []; tasks = sym (append-nil kept.tasks); rows = refl }
 all-added version clock node (x ∷ xs) kept =

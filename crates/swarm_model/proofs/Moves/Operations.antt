@@ -7,10 +7,14 @@ use Rattle.swarm_model.proofs.Moves.Rows.{Becomes, RisesBetween, becomes-filter,
 use Rattle.swarm_model.proofs.Moves.Tables.{move-node_at, move-service, move-where, moves-in_state, rank-most}
 use Rattle.swarm_model.proofs.Moves.Worlds.{Any, ComesFrom, IsOrderly, IsSubnet, Moves, SameId, Stays, TablesMove, TaskMoves, moves-then, networks-stay, orderly-moves, sessions-same, tables-same, tables-then, task-same, turns-by, turns-ids, turns-more}
 use Rattle.swarm_model.specs.Calls.Networks.{new_network, remove_network, with_network}
-use Rattle.swarm_model.specs.Calls.Nodes.{is_left_behind, new_agent, new_node, remove_node, respecified_node, tables_without_node, update_node, with_agent_if, with_node, without_node}
+use Rattle.swarm_model.specs.Calls.Nodes.{is_left_behind, remove_node, tables_without_node, update_node, with_agent_if, with_node, without_node}
+use Rattle.swarm_objects.specs.NewRows.{new_node, respecified_node}
+use Rattle.swarm_objects.specs.Agents.NodeAgents.{new_agent}
 use Rattle.swarm_model.specs.Calls.Operations.{apply_op, apply_ops}
-use Rattle.swarm_model.specs.Calls.Refusals.{bad_spec, first_refusal, Done, conflict, network_by, node_by, service_by}
-use Rattle.swarm_model.specs.Calls.Services.{go_back, new_service, put_service, remove_service, respecified, rollback_service, update_service, with_service, without_service}
+use Rattle.swarm_model.specs.Calls.Refusals.{bad_spec, Done, conflict, network_by, node_by, service_by}
+use Rattle.swarm_objects.specs.Refusals.{first_refusal}
+use Rattle.swarm_model.specs.Calls.Services.{go_back, new_service, put_service, remove_service, rollback_service, update_service, with_service, without_service}
+use Rattle.swarm_objects.specs.NewRows.{respecified}
 use Rattle.swarm_objects.proofs.RowLemmas.{Has-filter_cases}
 use Rattle.swarm_objects.specs.Changes.{in_state, with_tables}
 use Rattle.swarm_objects.specs.Rows.{Has, agent_node, drop_row, network_id, node_id, sent_node, service_id, session_node}

@@ -7,7 +7,8 @@ use Rattle.swarm_model.proofs.Watching.Changes.{changes-at, changes-none}
 use Rattle.swarm_model.proofs.Watching.Lists.{filter-all}
 use Rattle.swarm_model.proofs.Watching.Watchers.{GivenSees, IsSeen, Sees, answer-sees, duty-watchers, same-sees}
 use Rattle.swarm_model.specs.Calls.{answer, answered, entered}
-use Rattle.swarm_model.specs.Calls.Watches.{filter_admits, is_waited_for, kept_events, waiting_events, waits_for}
+use Rattle.swarm_objects.specs.Watches.{filter_admits}
+use Rattle.swarm_model.specs.Calls.Watches.{is_waited_for, kept_events, waiting_events, waits_for}
 use Rattle.swarm_model.specs.Changed.{changes_between}
 use Rattle.swarm_model.specs.Events.{WaitingLaw, events_from, events_of_history}
 use Rattle.swarm_model.specs.History.{replay, replay_from, step, step_world}

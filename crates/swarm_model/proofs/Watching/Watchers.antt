@@ -7,8 +7,10 @@ use Rattle.swarm_model.specs.Calls.Faults.{on_agent}
 use Rattle.swarm_model.specs.Calls.Operations.{apply_op, apply_ops}
 use Rattle.swarm_model.specs.Calls.Refusals.{conflict, found, network_by, node_by, service_by}
 use Rattle.swarm_model.specs.Calls.Networks.{remove_network}
-use Rattle.swarm_model.specs.Calls.Nodes.{remove_node, respecified_node, update_node}
-use Rattle.swarm_model.specs.Calls.Remote.{begin_with, given_or, not_admitted, on_remote, on_session, pulled, report}
+use Rattle.swarm_model.specs.Calls.Nodes.{remove_node, update_node}
+use Rattle.swarm_objects.specs.NewRows.{respecified_node}
+use Rattle.swarm_model.specs.Calls.Remote.{begin_with, given_or, on_remote, on_session, pulled, report}
+use Rattle.swarm_objects.specs.Nodes.Admission.{not_admitted}
 use Rattle.swarm_model.specs.Calls.Services.{go_back, remove_service, rollback_service, update_service}
 use Rattle.swarm_model.specs.Calls.Views.{View, shows}
 use Rattle.swarm_model.specs.Calls.Watches.{new_watcher, told_all, told_at, waiting_events, watch_finish, watch_poll, without_watcher}

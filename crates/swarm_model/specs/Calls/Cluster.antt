@@ -1,6 +1,7 @@
 -- The operation on the settings of the cluster.
 use Rattle.std.specs.Prelude.{find}
-use Rattle.swarm_model.specs.Calls.Refusals.{bad_spec, unless, Done}
+use Rattle.swarm_model.specs.Calls.Refusals.{bad_spec, Done}
+use Rattle.swarm_objects.specs.Refusals.{unless}
 use Rattle.swarm_objects.specs.Changes.{with_tables}
 use Rattle.swarm_objects.specs.Rules.Settings.{settings_break, settings_rules}
 use Rattle.swarm_objects.specs.World.{World}

@@ -1,7 +1,8 @@
 -- The operations on networks.
 use Rattle.std.specs.Prelude.{List, length, ℕ, [], ◌++◌, ◌∷◌, find}
 use Rattle.std.specs.Option.{option_map}
-use Rattle.swarm_model.specs.Calls.Refusals.{bad_spec, first_refusal, name_taken, network_by, too_many, unless, in_use, Done}
+use Rattle.swarm_model.specs.Calls.Refusals.{bad_spec, name_taken, network_by, too_many, in_use, Done}
+use Rattle.swarm_objects.specs.Refusals.{first_refusal, unless}
 use Rattle.swarm_objects.specs.Changes.{id_taken, with_tables}
 use Rattle.swarm_objects.specs.Limits.{most_networks}
 use Rattle.swarm_objects.specs.Rows.{network_id, drop_row}

@@ -1,7 +1,9 @@
 -- The operations on nodes.
-use Rattle.std.specs.Prelude.{List, ℕ, None, [], Bool, false, true, ◌++◌, ◌∷◌, not, Option, find, length, ◌&&◌}
+use Rattle.swarm_objects.specs.Agents.NodeAgents.{new_agent}
+use Rattle.std.specs.Prelude.{List, ℕ, [], Bool, false, true, ◌++◌, ◌∷◌, not, Option, find, length, ◌&&◌}
 use Rattle.std.specs.Option.{option_map}
-use Rattle.swarm_model.specs.Calls.Refusals.{bad_spec, first_refusal, name_taken, node_by, too_many, unless, conflict, refuse, Done}
+use Rattle.swarm_model.specs.Calls.Refusals.{bad_spec, name_taken, node_by, too_many, conflict, Done}
+use Rattle.swarm_objects.specs.Refusals.{first_refusal, unless, refuse}
 use Rattle.swarm_objects.specs.Changes.{id_taken, with_tables, change_node, change_where, in_state}
 use Rattle.swarm_objects.specs.Limits.{most_nodes}
 use Rattle.swarm_objects.specs.Loops.Agents.{agents}
@@ -10,41 +12,15 @@ use Rattle.swarm_objects.specs.Rows.{node_id, drop_row, session_node, agent_node
 use Rattle.swarm_objects.specs.Rules.Nodes.{node_breaks, node_rules}
 use Rattle.swarm_objects.specs.Tasks.Words.{is_not_over, is_on}
 use Rattle.swarm_objects.specs.World.{World, Tables}
-use Rattle.swarm_objects.specs.declared.agents.AgentMode.TheVariants as agent_mode
 use Rattle.swarm_objects.specs.declared.agents.NodeAgent.{NodeAgent}
 use Rattle.swarm_objects.specs.declared.ids.Kind.TheVariants as kind
-use Rattle.swarm_objects.specs.declared.nodes.Availability.{Availability}
 use Rattle.swarm_objects.specs.declared.nodes.Node.{Node}
-use Rattle.swarm_objects.specs.declared.nodes.NodeDraft.{NodeDraft}
-use Rattle.swarm_objects.specs.declared.nodes.NodeRole.{NodeRole}
-use Rattle.swarm_objects.specs.declared.nodes.NodeState.TheVariants as node_state
 use Rattle.swarm_objects.specs.declared.replies.Refusal.{Refusal}
 use Rattle.swarm_objects.specs.declared.replies.Refusal.TheVariants as refusal
 use Rattle.swarm_objects.specs.declared.tasks.Task.{Task}
 use Rattle.swarm_objects.specs.declared.tasks.TaskState.TheVariants as state
 
 -- Nodes.
-
-abbrev pub new_node : ℕ → ℕ → List ℕ → NodeDraft → Node
-new_node version id name draft = record {
-  id = id;
-  version = version;
-  name = name;
-  labels = draft.labels;
-  role = draft.role;
-  availability = draft.availability;
-  state = node_state.Unknown;
-  down_since = 0;
-  cpu = draft.cpu;
-  mem = draft.mem;
-  os = draft.os;
-  arch = draft.arch;
-  engine = draft.engine;
-  remote = draft.remote;
-}
-
-abbrev pub new_agent : ℕ → NodeAgent
-new_agent node = record { node = node; mode = agent_mode.On; inbox = None; applied = 0; executors = [] }
 
 abbrev pub with_agent_if : Bool → ℕ → List NodeAgent → List NodeAgent
 with_agent_if true node agents = agents ++ new_agent node ∷ []
@@ -67,9 +43,6 @@ create_node version w n =
     ∷ too_many kind.Node most_nodes (length w.tables.nodes)
     ∷ []))
     (with_node w n, n.id)
-
-abbrev pub respecified_node : ℕ → List (List ℕ × List ℕ) → NodeRole → Availability → Node → Node
-respecified_node version labels r a n = record n { version = version; labels = labels; role = r; availability = a }
 
 abbrev pub update_node : World → Option ℕ → Node → Node → Done
 update_node w asked old new =

@@ -2,7 +2,8 @@
 use Rattle.std.specs.Prelude.{Result, ℕ, Err, List, Ok, [], ◌++◌, ◌∷◌}
 use Rattle.swarm_model.specs.Calls.Cluster.{set_cluster}
 use Rattle.swarm_model.specs.Calls.Networks.{new_network, remove_network, create_network}
-use Rattle.swarm_model.specs.Calls.Nodes.{respecified_node, create_node, new_node, update_node, remove_node}
+use Rattle.swarm_objects.specs.NewRows.{respecified_node, new_node}
+use Rattle.swarm_model.specs.Calls.Nodes.{create_node, update_node, remove_node}
 use Rattle.swarm_model.specs.Calls.Refusals.{Done, on_network_by, on_node, on_service_by}
 use Rattle.swarm_model.specs.Calls.Services.{remove_service, update_service, rollback_service, create_service}
 use Rattle.swarm_objects.specs.World.{World}

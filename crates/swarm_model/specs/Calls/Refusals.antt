@@ -1,14 +1,14 @@
 -- Why a call is refused; each test is none, or the refusal.
-use Rattle.std.specs.Prelude.{List, None, Option, Some, [], ◌∷◌, Err, Ok, Result, Bool, false, true, ℕ, not, ◌==◌, nat_le, find, is_none, filter, map, ◌&&◌, flat_map, ◌||◌, ◌++◌}
-use Rattle.std.specs.List.{list_any}
+use Rattle.swarm_objects.specs.NetworkUse.{service_uses, task_uses}
+use Rattle.swarm_objects.specs.Refusals.{refuse}
+use Rattle.std.specs.Prelude.{List, None, Option, Some, [], Err, Result, Bool, ℕ, not, ◌==◌, nat_le, find, is_none, filter, map, ◌&&◌, flat_map, ◌++◌}
 use Rattle.std.specs.Option.{option_map, option_eq}
 use Rattle.std.specs.Ordering.{nat_cmp}
 use Rattle.std.specs.Str.{bytes_eq}
 use Rattle.swarm_objects.specs.Agents.Messages.{names}
-use Rattle.swarm_objects.specs.Rows.{service_id, first_of, is_some_and, task_id, least_by}
+use Rattle.swarm_objects.specs.Rows.{service_id, first_of, task_id, least_by}
 use Rattle.swarm_objects.specs.Same.{same_number}
 use Rattle.swarm_objects.specs.Services.Ports.{holds_port}
-use Rattle.swarm_objects.specs.Tasks.Words.{is_not_over}
 use Rattle.swarm_objects.specs.World.{World, Tables}
 use Rattle.swarm_objects.specs.declared.ids.Kind.{Kind}
 use Rattle.swarm_objects.specs.declared.ids.Kind.TheVariants as kind
@@ -19,36 +19,17 @@ use Rattle.swarm_objects.specs.declared.replies.Refusal.TheVariants as refusal
 use Rattle.swarm_objects.specs.declared.replies.Wanted.{Wanted}
 use Rattle.swarm_objects.specs.declared.replies.Wanted.TheVariants as wanted_by
 use Rattle.swarm_objects.specs.declared.rules.SpecRule.{SpecRule}
-use Rattle.swarm_objects.specs.declared.services.Mode.{Mode}
-use Rattle.swarm_objects.specs.declared.services.Mode.TheVariants as mode
 use Rattle.swarm_objects.specs.declared.services.Service.{Service}
-use Rattle.swarm_objects.specs.declared.services.ServiceSpec.{ServiceSpec}
-use Rattle.swarm_objects.specs.declared.tasks.Task.{Task}
 use Rattle.swarm_objects.specs.declared.templates.Port.{Port}
 
 -- the world after an operation and the id of its object, or its refusal
 abbrev pub Done : Type 0
 Done = Result (World × ℕ) Refusal
 
--- the first of these that is one
-abbrev pub first_refusal : List (Option Refusal) → Option Refusal
-first_refusal [] = None
-first_refusal (None ∷ rest) = first_refusal rest
-first_refusal (Some r ∷ rest) = Some r
-
--- the outcome, where nothing refuses it
-abbrev pub unless : {X : Type 0} → Option Refusal → X → Result X Refusal
-unless None done = Ok done
-unless (Some r) done = Err r
-
 -- what follows, where the row is there
 abbrev pub found : {X Y : Type 0} → Kind → Wanted → Option X → (X → Result Y Refusal) → Result Y Refusal
 found k asked None next = Err (refusal.NotFound k asked)
 found k asked (Some row) next = next row
-
-abbrev pub refuse : Bool → Refusal → Option Refusal
-refuse true r = Some r
-refuse false r = None
 
 abbrev pub bad_spec : Option SpecRule → Option Refusal
 bad_spec r = option_map refusal.BadSpec r
@@ -120,22 +101,6 @@ other_holder t own p (Some number) =
 -- the first port that another service holds
 abbrev pub port_taken : Tables → Option ℕ → List Port → Option Refusal
 port_taken t own ports = option_map refusal.PortTaken (first_of (flat_map (λ p. other_holder t own p p.number) ports))
-
-abbrev pub same_mode : Mode → Mode → Bool
-same_mode (mode.Replicated a) (mode.Replicated b) = true
-same_mode mode.Global mode.Global = true
-same_mode (mode.Job a b) (mode.Job c d) = true
-same_mode _ _ = false
-
--- the users of a network
-abbrev pub names_network : ℕ → ServiceSpec → Bool
-names_network network spec = list_any (same_number network) spec.template.networks
-
-abbrev pub service_uses : ℕ → Service → Bool
-service_uses network s = names_network network s.spec || is_some_and (names_network network) s.previous
-
-abbrev pub task_uses : ℕ → Task → Bool
-task_uses network x = is_not_over x && list_any (same_number network) x.template.networks
 
 abbrev pub users : Tables → ℕ → List ℕ
 users t network =

@@ -1,12 +1,14 @@
 -- The calls of remote nodes.
-use Rattle.std.specs.Prelude.{Err, List, if◌then◌else◌, ℕ, ◌-◌, None, Option, Some, nat_le, not, ◌==◌, Bool, is_none, ◌&&◌, [], ◌++◌, ◌+◌, ◌∷◌, fold, ◌*◌, find, Ok, nat_lt, ◌||◌, false, true}
-use Rattle.swarm_model.specs.Calls.Refusals.{on_node, refuse, bad_spec, unless, first_refusal, found}
+use Rattle.swarm_objects.specs.Nodes.Admission.{not_admitted, bad_report}
+use Rattle.std.specs.Prelude.{Err, List, if◌then◌else◌, ℕ, None, Option, Some, Bool, is_none, ◌+◌, ◌*◌, find, Ok, nat_lt, false, true}
+use Rattle.swarm_model.specs.Calls.Refusals.{on_node, bad_spec, found}
+use Rattle.swarm_objects.specs.Refusals.{unless}
 use Rattle.swarm_model.specs.Outcome.{Answered}
-use Rattle.swarm_objects.specs.Agents.Messages.{with_sent, message_for, is_assigned_on}
-use Rattle.swarm_objects.specs.Changes.{in_state, with_tables, raised_to, change_task}
+use Rattle.swarm_objects.specs.Agents.Messages.{with_sent, message_for}
+use Rattle.swarm_objects.specs.Changes.{with_tables, raised_to, change_task}
 use Rattle.swarm_objects.specs.Loops.Agents.{without_sent, after_beat}
-use Rattle.swarm_objects.specs.Nodes.Holdings.{is_placed_on}
-use Rattle.swarm_objects.specs.Nodes.Sessions.{session_of, ready_node, registered}
+use Rattle.swarm_objects.specs.Nodes.Opening.{tasks_within, with_resources}
+use Rattle.swarm_objects.specs.Nodes.Sessions.{session_of, registered}
 use Rattle.swarm_objects.specs.Rows.{change_row, node_id, on_row, row_at, task_id}
 use Rattle.swarm_objects.specs.Rules.Nodes.{resource_rules, resources_break}
 use Rattle.swarm_objects.specs.Values.Ranks.{rank}
@@ -14,12 +16,10 @@ use Rattle.swarm_objects.specs.World.{Tables, World}
 use Rattle.swarm_objects.specs.declared.ids.Kind.TheVariants as kind
 use Rattle.swarm_objects.specs.declared.messages.Message.{Message}
 use Rattle.swarm_objects.specs.declared.nodes.Node.{Node}
-use Rattle.swarm_objects.specs.declared.replies.Refusal.{Refusal}
 use Rattle.swarm_objects.specs.declared.replies.Refusal.TheVariants as refusal
 use Rattle.swarm_objects.specs.declared.replies.Reply.{Reply}
 use Rattle.swarm_objects.specs.declared.replies.Reply.TheVariants as reply
 use Rattle.swarm_objects.specs.declared.replies.Wanted.TheVariants as wanted_by
-use Rattle.swarm_objects.specs.declared.sessions.NodeSession.{NodeSession}
 use Rattle.swarm_objects.specs.declared.tasks.Task.{Task}
 use Rattle.swarm_objects.specs.declared.tasks.TaskState.{TaskState}
 use Rattle.swarm_objects.specs.declared.tasks.TaskState.TheVariants as state
@@ -29,13 +29,6 @@ use Rattle.swarm_objects.specs.declared.tasks.TaskState.TheVariants as state
 -- what follows, for a remote node that is there
 abbrev pub on_remote : Tables → List ℕ → (Node → Answered) → Answered
 on_remote t name next = on_node t name (λ n. if n.remote then next n else Err (refusal.WrongKind n.id))
-
--- the session isn't the node's, or its deadline is reached
-abbrev pub not_admitted : ℕ → ℕ → Option NodeSession → Option Refusal
-not_admitted clock session None = Some (refusal.InvalidSession None)
-not_admitted clock session (Some s) =
-    if not (s.session.id == session) then Some (refusal.InvalidSession (Some s.session.id))
-    else refuse (nat_le s.session.deadline clock) (refusal.SessionExpired s.session.deadline)
 
 -- the session is live for the node
 abbrev pub admits_session : Tables → ℕ → ℕ → Bool
@@ -47,38 +40,6 @@ on_session t name session next =
     on_remote t name (λ n. elim (not_admitted t.clock session (session_of t n.id)) [ Some r ↦ Err r | None ↦ next n ])
 
 -- Opening.
-
--- what is left of a node's resources, and the tasks after those that were taken so far
-pub record Kept : Type 0 where
-  pub cpu : ℕ
-  pub mem : ℕ
-  pub tasks : List Task
-
-abbrev pub fits_in : Kept → Task → Bool
-fits_in kept x = nat_le x.template.cpu kept.cpu && nat_le x.template.mem kept.mem
-
-abbrev pub keep_task : Kept → Task → Kept
-keep_task kept x =
-    record { cpu = kept.cpu - x.template.cpu; mem = kept.mem - x.template.mem; tasks = kept.tasks ++ x ∷ [] }
-
--- a task on the node that no longer fits in what is left is rejected
-abbrev pub keep_or_reject : ℕ → ℕ → Kept → Task → Kept
-keep_or_reject version clock kept x =
-    if fits_in kept x then keep_task kept x
-    else record kept { tasks = kept.tasks ++ in_state version clock state.Rejected x ∷ [] }
-
-abbrev pub keep_other : ℕ → ℕ → ℕ → Kept → Task → Kept
-keep_other version clock node kept x =
-    if is_placed_on node x then keep_or_reject version clock kept x
-    else record kept { tasks = kept.tasks ++ x ∷ [] }
-
--- by rising id
-abbrev pub tasks_within : ℕ → ℕ → ℕ → ℕ → ℕ → List Task → List Task
-tasks_within version clock node cpu mem tasks =
-    (fold (keep_other version clock node) (record { cpu = cpu; mem = mem; tasks = [] }) tasks).tasks
-
-abbrev pub with_resources : ℕ → ℕ → ℕ → Node → Node
-with_resources version cpu mem n = record (ready_node version n) { cpu = cpu; mem = mem }
 
 abbrev pub begun_tables : ℕ → Tables → ℕ → ℕ → ℕ → Tables
 begun_tables version t node cpu mem = record (registered version t node) {
@@ -116,18 +77,6 @@ pulled w node (Some m) = with_sent w node m
 abbrev pub remote_pull : World → List ℕ → ℕ → Answered
 remote_pull w name session =
     on_session w.tables name session (λ n. Ok (reply.Pulled (message_for w n.id), pulled w n.id (message_for w n.id)))
-
--- the state is none that a node reports
-abbrev pub is_no_report : TaskState → Bool
-is_no_report s = nat_lt (rank s) (rank state.Accepted) || nat_lt (rank state.Rejected) (rank s)
-
--- it isn't the node's task, or the state is none that a node reports
-abbrev pub bad_report : ℕ → Task → TaskState → Option Refusal
-bad_report node x s =
-    first_refusal (
-    refuse (not (is_assigned_on node x)) (refusal.NotThisNode x.id)
-    ∷ refuse (is_no_report s) (refusal.BadState s)
-    ∷ [])
 
 abbrev pub status_reply : TaskState → TaskState → Reply
 status_reply old s = if nat_lt (rank old) (rank s) then reply.Status true s else reply.Status false old

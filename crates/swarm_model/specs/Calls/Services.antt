@@ -1,22 +1,21 @@
 -- The operations on services.
-use Rattle.std.specs.Prelude.{List, flat_map, option_to_list, ℕ, Option, find, None, [], false, ◌++◌, ◌+◌, ◌∷◌, length, if◌then◌else◌, Bool, Some, not, Err, Ok, true, ◌==◌, filter}
+use Rattle.swarm_objects.specs.NewRows.{first_service, respecified, same_mode}
+use Rattle.std.specs.Prelude.{ℕ, List, Option, Some, [], ◌∷◌, ◌+◌, not, flat_map, option_to_list, find, None, false, ◌++◌, length, Bool, Err, Ok, true, ◌==◌, filter}
+use Rattle.swarm_model.specs.Calls.Refusals.{conflict, missing_network, port_taken, network_by, bad_spec, name_taken, service_by, too_many, Done}
+use Rattle.swarm_objects.specs.Refusals.{first_refusal, refuse, unless}
+use Rattle.swarm_objects.specs.World.{Tables, World}
+use Rattle.swarm_objects.specs.declared.replies.Refusal.{Refusal}
+use Rattle.swarm_objects.specs.declared.replies.Refusal.TheVariants as refusal
+use Rattle.swarm_objects.specs.declared.services.Draft.{Draft}
+use Rattle.swarm_objects.specs.declared.services.Service.{Service}
 use Rattle.std.specs.Option.{option_map}
-use Rattle.swarm_model.specs.Calls.Refusals.{network_by, bad_spec, first_refusal, missing_network, name_taken, port_taken, service_by, too_many, unless, conflict, refuse, same_mode, Done}
 use Rattle.swarm_objects.specs.Agents.Messages.{names}
 use Rattle.swarm_objects.specs.Changes.{id_taken, with_tables, change_service}
 use Rattle.swarm_objects.specs.Limits.{most_services}
 use Rattle.swarm_objects.specs.Rows.{network_id, service_id, drop_row}
 use Rattle.swarm_objects.specs.Rules.Services.{service_breaks, service_rules}
-use Rattle.swarm_objects.specs.Same.{same_template}
-use Rattle.swarm_objects.specs.Services.Ports.{kept_numbers}
-use Rattle.swarm_objects.specs.World.{Tables, World}
 use Rattle.swarm_objects.specs.declared.ids.Kind.TheVariants as kind
-use Rattle.swarm_objects.specs.declared.replies.Refusal.{Refusal}
-use Rattle.swarm_objects.specs.declared.replies.Refusal.TheVariants as refusal
-use Rattle.swarm_objects.specs.declared.services.Draft.{Draft}
-use Rattle.swarm_objects.specs.declared.services.Mode.{Mode}
 use Rattle.swarm_objects.specs.declared.services.Mode.TheVariants as mode
-use Rattle.swarm_objects.specs.declared.services.Service.{Service}
 use Rattle.swarm_objects.specs.declared.services.ServiceSpec.{ServiceSpec}
 use Rattle.swarm_objects.specs.declared.tasks.Attempt.{Attempt}
 
@@ -34,18 +33,7 @@ abbrev pub broken_draft : Draft → Option Refusal
 broken_draft d = bad_spec (find (service_breaks d) service_rules)
 
 abbrev pub new_service : ℕ → Tables → List ℕ → Draft → Service
-new_service version t name d = record {
-  id = t.next_id;
-  version = version;
-  name = name;
-  spec = filled t d;
-  previous = None;
-  template_version = version;
-  rolling_back = false;
-  iteration = 0;
-  numbers = [];
-  run = None;
-}
+new_service version t name d = first_service version t.next_id name (filled t d)
 
 abbrev pub with_service : Tables → Service → Tables
 with_service t s = record (id_taken t) { services = t.services ++ s ∷ [] }
@@ -61,39 +49,23 @@ create_service version w name d =
     ∷ []))
     (with_tables w (with_service w.tables (new_service version w.tables name d)), w.tables.next_id)
 
--- the version of the template, which changes with its content
-abbrev pub version_of_template : ℕ → ServiceSpec → Service → ℕ
-version_of_template version spec s = if same_template spec.template s.spec.template then s.template_version else version
-
-abbrev pub next_iteration : Mode → ℕ → ℕ
-next_iteration (mode.Replicated replicas) k = k
-next_iteration mode.Global k = k
-next_iteration (mode.Job concurrent total) k = k + 1
-
--- the service with the specification, whose previous one is that which it had
-abbrev pub respecified : ℕ → Bool → ServiceSpec → Service → Service
-respecified version back spec s = record s {
-  version = version;
-  spec = spec;
-  previous = Some s.spec;
-  template_version = version_of_template version spec s;
-  rolling_back = back;
-  iteration = next_iteration s.spec.mode s.iteration;
-  numbers = kept_numbers s.numbers spec (Some s.spec);
-}
-
 abbrev pub put_service : World → Service → World
 put_service w s = with_tables w (change_service s.id (λ old. s) w.tables)
 
-abbrev pub update_service : ℕ → World → Option ℕ → Draft → Service → Done
-update_service version w asked d s =
-    unless (first_refusal (
+-- why a service doesn't get the draft's specification
+abbrev pub update_refusal : Tables → Option ℕ → Draft → Service → Option Refusal
+update_refusal t asked d s =
+    first_refusal (
     conflict asked s.version
     ∷ broken_draft d
     ∷ refuse (not (same_mode d.spec.mode s.spec.mode)) refusal.ModeChange
-    ∷ missing_network w.tables d.networks
-    ∷ port_taken w.tables (Some s.id) d.spec.ports
-    ∷ []))
+    ∷ missing_network t d.networks
+    ∷ port_taken t (Some s.id) d.spec.ports
+    ∷ [])
+
+abbrev pub update_service : ℕ → World → Option ℕ → Draft → Service → Done
+update_service version w asked d s =
+    unless (update_refusal w.tables asked d s)
     (put_service w (respecified version false (filled w.tables d) s), s.id)
 
 abbrev pub go_back : ℕ → World → Service → Option ServiceSpec → Done

@@ -1,15 +1,15 @@
 -- Watchers, and the events that they wait for.
-use Rattle.std.specs.Prelude.{ℕ, Bool, None, Option, Some, true, ◌==◌, ◌&&◌, filter, nat_lt, List, [], ◌++◌, ◌+◌, ◌∷◌, length, if◌then◌else◌, Err, Ok}
+use Rattle.swarm_objects.specs.Watches.{filter_admits}
+use Rattle.std.specs.Prelude.{ℕ, Bool, None, Option, Some, ◌&&◌, filter, nat_lt, List, [], ◌++◌, ◌+◌, ◌∷◌, length, if◌then◌else◌, Err, Ok}
 use Rattle.std.specs.List.{list_any}
-use Rattle.std.specs.Option.{option_map}
-use Rattle.swarm_model.specs.Calls.Refusals.{too_many, unless}
+use Rattle.swarm_model.specs.Calls.Refusals.{too_many}
+use Rattle.swarm_objects.specs.Refusals.{unless}
 use Rattle.swarm_model.specs.Changed.{changes_between}
 use Rattle.swarm_model.specs.Outcome.{Answered}
 use Rattle.swarm_objects.specs.Changes.{id_taken}
 use Rattle.swarm_objects.specs.Limits.{most_watchers, most_events}
 use Rattle.swarm_objects.specs.Rows.{watcher_id, drop_row, change_row}
 use Rattle.swarm_objects.specs.World.{World}
-use Rattle.swarm_objects.specs.declared.ids.Kind.{Kind}
 use Rattle.swarm_objects.specs.declared.ids.Kind.TheVariants as kind
 use Rattle.swarm_objects.specs.declared.replies.Refusal.TheVariants as refusal
 use Rattle.swarm_objects.specs.declared.replies.Reply.{Reply}
@@ -19,20 +19,6 @@ use Rattle.swarm_objects.specs.declared.watches.Filter.{Filter}
 use Rattle.swarm_objects.specs.declared.watches.Watcher.{Watcher}
 
 -- Watchers.
-
-abbrev pub kind_number : Kind → ℕ
-kind_number kind.Node = 0
-kind_number kind.Service = 1
-kind_number kind.Task = 2
-kind_number kind.Network = 3
-kind_number kind.Watcher = 4
-
-abbrev pub is_asked : Option ℕ → ℕ → Bool
-is_asked None n = true
-is_asked (Some asked) n = asked == n
-
-abbrev pub filter_admits : Filter → Event → Bool
-filter_admits f e = is_asked (option_map kind_number f.kind) (kind_number e.kind) && is_asked f.id e.id
 
 -- an event of a later entry than it was told of, which its filter admits
 abbrev pub waits_for : Watcher → Event → Bool

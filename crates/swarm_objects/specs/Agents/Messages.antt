@@ -1,5 +1,5 @@
 -- What a node is to have, what it is sent, and what its agent makes of that.
-use Rattle.std.specs.Prelude.{Bool, nat_le, ℕ, ◌&&◌, List, filter, map, ◌==◌, [], if◌then◌else◌, ◌∷◌, not, ◌++◌, ◌+◌, flat_map, true, false, None, Option, Some, fold}
+use Rattle.std.specs.Prelude.{Bool, List, None, Option, Some, false, not, ℕ, ◌&&◌, ◌==◌, nat_le, filter, map, [], if◌then◌else◌, ◌∷◌, ◌++◌, ◌+◌, flat_map, true, fold}
 use Rattle.std.specs.List.{list_any}
 use Rattle.swarm_objects.specs.Rows.{rising, has_row, sent_node, row_at, with_row, executor_task, change_row}
 use Rattle.swarm_objects.specs.Same.{same_workload}
@@ -127,3 +127,7 @@ left_out m e = if m.complete && not (list_any (names e.task) m.changes) then gon
 
 abbrev pub applied : ℕ → Message → List Executor → List Executor
 applied clock m executors = map (left_out m) (fold (apply_change clock) executors m.changes)
+
+-- it has only changes, and they don't begin where the agent is
+abbrev pub is_stale : ℕ → Message → Bool
+is_stale applied m = not m.complete && not (m.applies_to == applied)

@@ -1,7 +1,9 @@
 -- Look-ups that may be refused, and what follows them.
-use Rattle.std.specs.Prelude.{◌≡◌, ◌⊎◌, if◌then◌else◌, ℕ, Err, List, Ok, Result}
-use Rattle.swarm_model.specs.Calls.Refusals.{found, on_node, unless}
-use Rattle.swarm_model.specs.Calls.Remote.{not_admitted, pulled, report}
+use Rattle.std.specs.Prelude.{if◌then◌else◌, ℕ, Err, List, Ok, Result}
+use Rattle.swarm_model.specs.Calls.Refusals.{found, on_node}
+use Rattle.swarm_objects.specs.Refusals.{unless}
+use Rattle.swarm_objects.specs.Nodes.Admission.{not_admitted}
+use Rattle.swarm_model.specs.Calls.Remote.{pulled, report}
 use Rattle.swarm_model.specs.Outcome.{Answered}
 use Rattle.swarm_objects.specs.Agents.Messages.{message_for}
 use Rattle.swarm_objects.specs.Nodes.Sessions.{session_of}
@@ -15,11 +17,6 @@ use Rattle.swarm_objects.specs.declared.replies.Reply.TheVariants as reply
 use Rattle.swarm_objects.specs.declared.replies.Wanted.TheVariants as wanted_by
 use Rattle.swarm_objects.specs.declared.sessions.NodeSession.{NodeSession}
 use Rattle.swarm_objects.specs.declared.tasks.TaskState.{TaskState}
-
--- the expected one, or memory was wanting
-abbrev pub Gets : {X : Type 0} → Result X Refusal → Result X Refusal → Type 0
-Gets expected (Ok x) = expected ≡ Ok x
-Gets expected (Err r) = (r ≡ refusal.NoMemory) ⊎ (expected ≡ Err r)
 
 -- the node with this name, whose agent is inside
 abbrev pub inside : Tables → List ℕ → Result ℕ Refusal

@@ -10,9 +10,9 @@ use Rattle.swarm_objects.specs.declared.calls.What.{What}
 use Rattle.swarm_objects.specs.declared.replies.Reply.{Reply}
 use Rattle.swarm_duties.specs.declared.steps.StepFault.{StepFault}
 use Rattle.swarm_duties.specs.declared.steps.StepFault.TheVariants as step_fault
-use Rattle.swarm_script.specs.Entries.{entry_meaning}
-use Rattle.swarm_script.specs.HasText.{has_text}
-use Rattle.swarm_script.specs.Texts.{entry_text}
+use Rattle.script_grammar.specs.Entries.{entry_meaning}
+use Rattle.script_grammar.specs.HasText.{has_text}
+use Rattle.script_grammar.specs.Texts.{entry_text}
 use Rattle.swarm_replay.specs.Journal.{is_head, journal_reading, journal_text}
 use Rattle.swarm_input.specs.Lines.{lines_of, IsWhole}
 use Rattle.swarm_replay.specs.Replay.{IsVerdictOf, Judges, TakesAtMostAJournal, verdict_status}
@@ -27,8 +27,8 @@ use Rattle.swarm_input.specs.declared.faults.WriteFault.TheVariants.{Failed as S
 use Rattle.swarm_replay.specs.declared.verdicts.EntryFault.TheVariants.{Head, Size, Text}
 use Rattle.swarm_replay.specs.declared.verdicts.Verdict.{Verdict}
 use Rattle.swarm_replay.specs.declared.verdicts.Verdict.TheVariants.{Legal, Illegal, BadLine, ReadFault, NoMemory}
-use Rattle.swarm_script.specs.LineFault.{LineFault}
-use Rattle.swarm_script.specs.LineFault.TheVariants as fault
+use Rattle.script_grammar.specs.declared.lines.LineFault.{LineFault}
+use Rattle.script_grammar.specs.declared.lines.LineFault.TheVariants as fault
 
 -- The head.
 

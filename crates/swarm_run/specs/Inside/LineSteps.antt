@@ -4,7 +4,7 @@ use Rattle.std.specs.List.{list_any}
 use Rattle.swarm_objects.specs.declared.calls.Entry.{Entry}
 use Rattle.swarm_objects.specs.declared.replies.Reply.{Reply}
 use Rattle.swarm_print.specs.Texts.{reply_text}
-use Rattle.swarm_script.specs.Line.{Line}
+use Rattle.script_grammar.specs.declared.lines.Line.{Line}
 use Rattle.swarm_run.specs.Serial.{is_refused, line_entries, line_out, line_replies}
 use Rattle.swarm_model.specs.History.{replay}
 use Rattle.swarm_model.specs.Serial.{settle_entries, wait_entries}

@@ -3,7 +3,7 @@ use Rattle.std.specs.Prelude.{◌≡◌, ◌<◌, vec_len, vec_capacity, true, f
 use Rattle.std.specs.List.{list_all}
 use Rattle.swarm_model.specs.History.{replay, IsLegal}
 use Rattle.swarm_plain.specs.Plain.{world_of}
-use Rattle.swarm_script.specs.HasText.{has_text}
+use Rattle.script_grammar.specs.HasText.{has_text}
 use Rattle.swarm_run.specs.Lengths.{is_short}
 use Rattle.swarm_run.specs.declared.run.Run.TheInside.{Inside}
 

@@ -4,7 +4,7 @@ use Rattle.swarm_objects.specs.Rows.{task_id, with_row}
 use Rattle.swarm_objects.specs.declared.tasks.Task.{Task}
 use Rattle.swarm_objects.specs.Sound.{IsBelowNext, IsOrdered}
 use Rattle.swarm_objects.specs.World.{Tables, World}
-use Rattle.swarm_roles.specs.Effects.{world_with}
+use Rattle.swarm_objects.specs.Effects.{world_with}
 use Rattle.swarm_store.specs.declared.state.State.{State}
 
 abbrev pub tables_now : State → Tables

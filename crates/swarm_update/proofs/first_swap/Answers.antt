@@ -1,7 +1,7 @@
 use Rattle.std.proofs.Common.{rules, sym, ◌∙◌, ◌≡◌, ◌∷◌}
 use Rattle.swarm_objects.specs.Loops.Update.{is_to_swap}
 use Rattle.swarm_objects.specs.declared.duties.Duty.TheVariants as duty
-use Rattle.swarm_roles.proofs.Passing.{passed_over}
+use Rattle.role_words.proofs.Passing.{passed_over}
 use Rattle.swarm_update.proofs.first_swap.Goals as goal
 
 pub loop-number-preserved : goal.loop-number-preserved

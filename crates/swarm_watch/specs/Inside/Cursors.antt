@@ -1,10 +1,10 @@
 -- Watchers as places in the list of events that are kept.
 use Rattle.std.specs.Prelude.{ℕ, Bool, None, filter, nat_le, nat_lt, List, [], ◌∷◌, length, map, if◌then◌else◌, drop, take, true, ◌≡◌, ◌≤◌, ◌-◌, ◌&&◌, suc, ⊤}
 use Rattle.std.specs.List.{list_any}
-use Rattle.swarm_model.specs.Calls.Watches.{filter_admits}
+use Rattle.swarm_objects.specs.Watches.{filter_admits}
 use Rattle.swarm_objects.specs.Rows.{row_at}
 use Rattle.swarm_objects.specs.declared.watches.Event.{Event}
-use Rattle.swarm_watch.specs.Watchings.{Watching}
+use Rattle.swarm_watch.specs.Watchings.{Watching, waiting_of}
 use Rattle.swarm_watch.specs.declared.cursors.Cursor.{Cursor}
 
 abbrev pub cursor_id : Cursor → ℕ
@@ -13,7 +13,7 @@ cursor_id x = x.id
 -- the watcher, where these events are kept
 abbrev pub watching_at : List Event → Cursor → Watching
 watching_at kept x =
-    record { id = x.id; filter = x.filter; waiting = filter (filter_admits x.filter) (drop x.from kept) }
+    record { id = x.id; filter = x.filter; waiting = waiting_of (filter (filter_admits x.filter) (drop x.from kept)) }
 
 abbrev pub watchings : List Event → List Cursor → List Watching
 watchings kept xs = map (watching_at kept) xs

@@ -3,7 +3,7 @@ use Rattle.std.specs.Map.{values_of}
 use Rattle.std.specs.Option.{option_map}
 use Rattle.swarm_agent.proofs.Changes.{near-above}
 use Rattle.swarm_agent.specs.Agent.{phases, task_first}
-use Rattle.swarm_objects.specs.Bounds.{is_near_executor}
+use Rattle.swarm_objects.specs.Bounds.{has_near_times}
 use Rattle.swarm_objects.specs.Rows.{first_of}
 use Rattle.swarm_agent.proofs.looks.phase_after.Goals as goal
 
@@ -11,6 +11,6 @@ pub loop-executor-init : goal.loop-executor-init
 loop-executor-init c =
     let rows = ap values_of c.into_iter-executor-iterator.ensures.into_iter_gives ∙ c.above-executor-items.ensures.rows in
     record {
-      near = rw rows (near-above is_near_executor c.args.after c.args.executors.now c.requires);
+      near = rw rows (near-above has_near_times c.args.after c.args.executors.now c.requires);
       first = ap (λ es. option_map task_first (first_of (phases es))) rows;
     }

@@ -1,11 +1,10 @@
 use Rattle.std.proofs.Common.{arith}
 use Rattle.swarm_duties.proofs.Entries.{unseen_duty}
-use Rattle.swarm_duties.proofs.Reached.{small}
 use Rattle.swarm_plain.specs.Plain.{world_of}
 use Rattle.swarm_duties.proofs.effects.do_unseen.Goals as goal
 
 pub overflow_add-entry : goal.overflow_add-entry
-overflow_add-entry c = omega (arith, (small (world_of c.args.plain.now) c.requires.reached).entries)
+overflow_add-entry c = omega (arith, c.requires.usable.small.entries)
 
 pub returns-clause-ok : goal.returns-clause-ok
 returns-clause-ok c =

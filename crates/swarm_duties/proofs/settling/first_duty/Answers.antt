@@ -5,11 +5,11 @@ use Rattle.swarm_plain.specs.Plain.{world_of}
 use Rattle.swarm_duties.proofs.settling.first_duty.Goals as goal
 
 pub first_by_tables-requires : goal.first_by_tables-requires
-first_by_tables-requires c = record { reached = c.requires.reached; quiet = c.requires.quiet.tables }
+first_by_tables-requires c = record { usable = c.requires.usable; quiet = c.requires.quiet.tables }
 
 pub agents_first-requires : goal.agents_first-requires
 agents_first-requires c = record {
-  order = order (world_of c.args.plain.now) c.requires.reached;
+  order = order (world_of c.args.plain.now) c.requires.usable;
   quiet = c.requires.quiet.before;
 }
 

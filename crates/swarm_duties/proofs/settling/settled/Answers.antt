@@ -5,7 +5,7 @@ use Rattle.swarm_duties.proofs.settling.settled.Goals as goal
 
 pub settle_knowing-requires : goal.settle_knowing-requires
 settle_knowing-requires c = record {
-  reached = c.requires;
+  usable = c.requires;
   quiet =
       nowhere_quiet c.nowhere.result (world_of c.args.plain.now) c.nowhere.ensures.tables c.nowhere.ensures.before;
 }

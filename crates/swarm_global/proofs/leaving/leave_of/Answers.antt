@@ -1,7 +1,7 @@
 use Rattle.std.proofs.Common.{rules, sym, ◌∙◌, ◌≡◌, ◌∷◌}
 use Rattle.swarm_objects.specs.Loops.Global.{is_to_leave}
 use Rattle.swarm_objects.specs.declared.duties.Duty.TheVariants as duty
-use Rattle.swarm_roles.proofs.Passing.{passed_over}
+use Rattle.role_words.proofs.Passing.{passed_over}
 use Rattle.swarm_global.proofs.leaving.leave_of.Goals as goal
 
 pub loop-node-preserved : goal.loop-node-preserved

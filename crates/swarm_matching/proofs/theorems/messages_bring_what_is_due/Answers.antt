@@ -1,4 +1,4 @@
-use Rattle.swarm_matching.proofs.Hearing.{message-tells}
+use Rattle.swarm_objects.proofs.Hearing.{message-tells}
 use Rattle.swarm_matching.proofs.theorems.messages_bring_what_is_due.Goals as goal
 
 pub returns : goal.returns

@@ -1,6 +1,7 @@
 use Rattle.std.proofs.Common.{rules, ◌≡◌, ◌<◌, ◌∷◌, ◌++◌, [], Ok, length, ◌∙◌}
 use Rattle.swarm_model.specs.Calls.Operations.{apply_op}
-use Rattle.swarm_plain.proofs.OpSteps.{next-done, room-next, room-rest}
+use Rattle.swarm_model.proofs.Base.Updates.{next-done}
+use Rattle.swarm_plain.proofs.OpSteps.{room-next, room-rest}
 use Rattle.swarm_plain.proofs.Plain.apply_ops.Goals as goal
 use Rattle.swarm_plain.specs.Plain.{tables_of, world_of}
 

@@ -1,7 +1,8 @@
 use Rattle.std.proofs.Common.{◌≡◌, ◌++◌, drop, None}
 use Rattle.std.specs.Ordering.{nat_cmp}
 use Rattle.std.specs.Prelude.{filter, map}
-use Rattle.swarm_model.specs.Calls.Refusals.{service_uses, task_uses, users}
+use Rattle.swarm_objects.specs.NetworkUse.{service_uses, task_uses}
+use Rattle.swarm_model.specs.Calls.Refusals.{users}
 use Rattle.swarm_objects.specs.Rows.{least_by, service_id, task_id}
 use Rattle.swarm_plain.specs.Plain.{tables_of}
 use Rattle.swarm_plain.proofs.Plain.least_user.Given as goal

@@ -1,15 +1,9 @@
 use Rattle.std.proofs.Common.{ap}
 use Rattle.std.specs.Option.{option_copied}
 use Rattle.swarm_model.specs.Calls.Refusals.{conflict}
-use Rattle.swarm_plain.proofs.Rooms.{found-room}
-use Rattle.swarm_plain.proofs.Updates.{found-is, passed, rolled-back}
+use Rattle.swarm_model.proofs.Base.Updates.{found-is, passed, rolled-back}
 use Rattle.swarm_plain.proofs.Plain.rollback_service.Goals as goal
 use Rattle.swarm_plain.specs.Plain.{tables_of, world_of}
-
-pub respecified-requires : goal.respecified-requires
-respecified-requires c =
-    found-room 1 (tables_of c.args.self.now) c.as_slice.result.now c.args.name.now (option_copied c.service_named.result)
-    c.in-Some.service.now c.as_slice.ensures c.service_named.ensures (ap option_copied c.in-Some.is) c.requires
 
 pub returns : goal.returns
 returns c =

@@ -1,6 +1,6 @@
 use Rattle.std.proofs.Common.{◌≡◌, take}
 use Rattle.std.specs.Prelude.{filter, map}
-use Rattle.swarm_model.specs.Calls.Views.{task_shown}
+use Rattle.swarm_objects.specs.Shown.{task_shown}
 use Rattle.swarm_objects.specs.Tasks.Words.{is_of}
 use Rattle.swarm_plain.specs.Plain.{tables_of}
 use Rattle.swarm_plain.proofs.Plain.tasks_of.Given as goal

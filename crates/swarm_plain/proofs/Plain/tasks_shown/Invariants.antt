@@ -1,6 +1,6 @@
 use Rattle.std.proofs.Common.{◌≡◌, take}
 use Rattle.std.specs.Prelude.{map}
-use Rattle.swarm_model.specs.Calls.Views.{task_shown}
+use Rattle.swarm_objects.specs.Shown.{task_shown}
 use Rattle.swarm_plain.specs.Plain.{tables_of}
 use Rattle.swarm_plain.proofs.Plain.tasks_shown.Given as goal
 

@@ -4,7 +4,8 @@ use Rattle.swarm_model.specs.Calls.Watches.{is_waited_for}
 use Rattle.swarm_model.specs.Content.{same_network, same_node, same_service, same_task}
 use Rattle.swarm_objects.specs.Rows.{network_id, node_id, service_id, task_id}
 use Rattle.swarm_objects.specs.declared.ids.Kind.TheVariants as kind
-use Rattle.swarm_plain.proofs.EntryLemmas.{all-put, on-ok, put-kind}
+use Rattle.swarm_plain.proofs.EntryLemmas.{all-put, put-kind}
+use Rattle.swarm_model.proofs.Base.Answers.{on-ok}
 use Rattle.swarm_plain.specs.Plain.{tables_of}
 use Rattle.swarm_plain.proofs.events.put_all_changes.Goals as goal
 

@@ -1,6 +1,6 @@
 use Rattle.std.proofs.Common.{◌≡◌, ◌++◌, drop, take}
 use Rattle.std.specs.Prelude.{map}
-use Rattle.swarm_model.specs.Calls.Faults.{lost}
+use Rattle.swarm_objects.specs.Agents.NodeAgents.{lost}
 use Rattle.swarm_plain.proofs.faults.lose.Given as goal
 
 abbrev pub invariant-loop-executor : goal.invariant-loop-executor

@@ -1,5 +1,5 @@
 use Rattle.std.proofs.Common.{◌≡◌, ◌++◌, drop, take}
-use Rattle.swarm_model.specs.Calls.Faults.{started_agent}
+use Rattle.swarm_objects.specs.Agents.NodeAgents.{started_agent}
 use Rattle.swarm_objects.specs.Rows.{agent_node, change_row}
 use Rattle.swarm_plain.proofs.faults.start.Given as goal
 

@@ -1,5 +1,5 @@
 use Rattle.std.proofs.Common.{◌≡◌, ◌++◌, drop, take}
-use Rattle.swarm_model.specs.Calls.Faults.{in_mode, mode_after_stop}
+use Rattle.swarm_objects.specs.Agents.NodeAgents.{in_mode, mode_after_stop}
 use Rattle.swarm_objects.specs.Rows.{agent_node, change_row}
 use Rattle.swarm_plain.proofs.faults.stop_agent.Given as goal
 

@@ -1,5 +1,5 @@
 use Rattle.std.proofs.Common.{◌≡◌, ◌++◌, drop, take}
-use Rattle.swarm_plain.proofs.Openings.{within}
+use Rattle.swarm_objects.proofs.Within.{within}
 use Rattle.swarm_plain.proofs.remote.reject_unfit.Given as goal
 
 abbrev pub invariant-loop-task : goal.invariant-loop-task

@@ -1,5 +1,5 @@
 use Rattle.std.proofs.Common.{◌≡◌, ◌++◌, drop, take}
-use Rattle.swarm_model.specs.Calls.Remote.{with_resources}
+use Rattle.swarm_objects.specs.Nodes.Opening.{with_resources}
 use Rattle.swarm_objects.specs.Rows.{change_row, node_id}
 use Rattle.swarm_plain.proofs.remote.set_resources.Given as goal
 

@@ -1,8 +1,8 @@
 use Rattle.std.proofs.Common.{◌≡◌, ◌+◌, refl, sym, ◌∙◌, ap, subst, arith, Ok, Err, None}
-use Rattle.swarm_input.specs.LineBuffer.{Gives, GivesLine}
+use Rattle.swarm_input.specs.LineBuffer.{HandsOut, GivesLine}
 use Rattle.swarm_run.specs.Inside.LineSteps.{SaysLine}
 use Rattle.swarm_run.specs.Endings.{ending_of, whole_ending}
-use Rattle.swarm_script.specs.Lines.{meaning_of}
+use Rattle.script_grammar.specs.Lines.{meaning_of}
 use Rattle.swarm_input.specs.Script.{in_text}
 use Rattle.swarm_run.proofs.Callers.{callers_line}
 use Rattle.swarm_input.proofs.Prefixes.{appends_none}
@@ -29,7 +29,7 @@ returns-in-Ok-None g c =
     let run = c.loop-line.run in
     let number = c.loop-line.number in
     let input = c.loop-line.input in
-    let gives : Gives input c.next_line.new.self (g.S.Source.left c.loop-line.script) (g.S.Source.left c.next_line.new.script) None = rw c.in-Ok-None.field-0-is at c.in-Ok-None.ensures.line in
+    let gives : HandsOut input c.next_line.new.self (g.S.Source.left c.loop-line.script) (g.S.Source.left c.next_line.new.script) None = rw c.in-Ok-None.field-0-is at c.in-Ok-None.ensures.line in
     is_read _ (whole_ending c.loop-line.refused) _ _ _ _ _ _ _ _ run c.whole_ending.ensures
     (end _ run number input c.next_line.new.self _ _ c.loop-line.refused kept.reached gives)
     (some _ run number input _ kept.reached)

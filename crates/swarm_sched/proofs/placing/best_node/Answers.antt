@@ -1,7 +1,7 @@
 use Rattle.std.proofs.Common.{List, None, ap, ◌∙◌}
 use Rattle.std.specs.Prelude.{filter}
-use Rattle.swarm_admission.proofs.Filtering.{best_is}
-use Rattle.swarm_admission.specs.Tested.{is_open}
+use Rattle.swarm_filters.proofs.Filtering.{best_is}
+use Rattle.swarm_filters.specs.Tested.{is_open}
 use Rattle.swarm_objects.specs.Nodes.BestNode.{node_cmp}
 use Rattle.swarm_objects.specs.Rows.{least_by}
 use Rattle.swarm_objects.specs.declared.nodes.Node.{Node}

@@ -1,7 +1,7 @@
 use Rattle.std.proofs.Common.{◌≡◌}
 use Rattle.std.specs.Option.{option_copied}
 use Rattle.std.specs.Prelude.{filter}
-use Rattle.swarm_admission.specs.Tested.{is_open}
+use Rattle.swarm_filters.specs.Tested.{is_open}
 use Rattle.swarm_objects.specs.Nodes.BestNode.{best_node, node_cmp}
 use Rattle.swarm_objects.specs.Rows.{least_by}
 use Rattle.swarm_sched.proofs.placing.best_node.Given as goal

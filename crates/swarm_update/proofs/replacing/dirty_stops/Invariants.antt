@@ -3,7 +3,7 @@ use Rattle.swarm_objects.specs.Changes.{wanted}
 use Rattle.swarm_objects.specs.Services.Words.{is_live_dirty}
 use Rattle.swarm_objects.specs.Tasks.Places.{place_tasks}
 use Rattle.swarm_objects.specs.declared.tasks.Desired.TheVariants as desired
-use Rattle.swarm_roles.specs.Changes.{put_each}
+use Rattle.swarm_objects.specs.ChangeLists.{put_each}
 use Rattle.swarm_update.proofs.replacing.dirty_stops.Given as goal
 
 abbrev pub invariant-loop-task : goal.invariant-loop-task

@@ -1,6 +1,6 @@
 use Rattle.std.proofs.Common.{◌≡◌, take}
 use Rattle.std.specs.Prelude.{filter}
-use Rattle.swarm_model.specs.Calls.Watches.{filter_admits}
+use Rattle.swarm_objects.specs.Watches.{filter_admits}
 use Rattle.swarm_watch.proofs.cursors.admitted.Given as goal
 
 abbrev pub invariant-loop-event : goal.invariant-loop-event

@@ -2,7 +2,7 @@ use Rattle.std.proofs.Common.{sym, ap, ◌∙◌, subst}
 use Rattle.tests_beside.proofs.Bare.{can_bare}
 use Rattle.tests_beside.proofs.stores.apply_both.Goals as goal
 use Rattle.swarm_plain.specs.Plain.{tables_of, world_of}
-use Rattle.swarm_roles.specs.Changes.{CanApplyAll, apply_changes}
+use Rattle.swarm_objects.specs.ChangeLists.{CanApplyAll, apply_changes}
 use Rattle.swarm_store.specs.Stored.{without_sessions}
 
 pub apply-requires : goal.apply-requires

@@ -1,6 +1,4 @@
-use Rattle.std.proofs.Common.{ap, ◌∙◌}
-use Rattle.swarm_spread.specs.Counts.{counts_of}
-use Rattle.tests_dispatch.proofs.Counted.{dropped_again, has_added}
+use Rattle.tests_dispatch.proofs.Counted.{for_task, has_added, stands_again}
 use Rattle.tests_dispatch.proofs.spread.best_after.Goals as goal
 
 pub drop_task-requires : goal.drop_task-requires
@@ -8,8 +6,12 @@ drop_task-requires g c =
     has_added (g.R.Rows.tables c.args.rows.now) c.args.task.now.service c.as_slice.result.now c.args.node c.in_ok-tree.tree
     c.add.new.self c.in_ok-tree.ensures.counts c.add.ensures.count
 
-pub best-requires-clause-scan : goal.best-requires-clause-scan
-best-requires-clause-scan g c =
-    dropped_again (g.R.Rows.tables c.args.rows.now) c.args.task.now.service c.as_slice.result.now c.args.node
+pub best-requires-clause-own : goal.best-requires-clause-own
+best-requires-clause-own g c =
+    for_task (g.R.Rows.tables c.args.rows.now) c.args.task.now c.as_slice.result.now c.args.node c.in_ok-tree.tree
+    c.add.new.self c.drop_task.new.self c.in_ok-tree.ensures.counts c.add.ensures.count c.drop_task.ensures c.as_slice.ensures
+
+pub best-requires-clause-stands : goal.best-requires-clause-stands
+best-requires-clause-stands g c =
+    stands_again (g.R.Rows.tables c.args.rows.now) c.args.task.now.service c.as_slice.result.now c.args.node
     c.in_ok-tree.tree c.add.new.self c.drop_task.new.self c.in_ok-tree.ensures.counts c.add.ensures.count c.drop_task.ensures
-    ∙ ap (counts_of (g.R.Rows.tables c.args.rows.now) c.args.task.now.service) c.as_slice.ensures

@@ -1,8 +1,12 @@
 use Rattle.std.proofs.Common.{◌∙◌, sym}
-use Rattle.duty_rows.proofs.First.{due_of_first}
+use Rattle.swarm_duties.proofs.Reached.{usable}
+use Rattle.swarm_plain.proofs.First.{due_of_first}
 use Rattle.swarm_plain.specs.Plain.{world_of}
 use Rattle.tests_duties.proofs.steps.do_next.Goals as goal
 
 pub do_duty-requires-clause-due : goal.do_duty-requires-clause-due
 do_duty-requires-clause-due c =
     due_of_first c.args.role (world_of c.args.plain.now) c.in-Some.duty (sym c.next_duty.ensures ∙ c.in-Some.is)
+
+pub next_duty-requires : goal.next_duty-requires
+next_duty-requires c = usable (world_of c.args.plain.now) c.requires

@@ -1,7 +1,7 @@
 use Rattle.std.proofs.Common.{rules, sym, subst, ap, map, ◌∙◌}
 use Rattle.std.proofs.lemmas.Map.Made.{map_same_pairs}
 use Rattle.std.specs.Map.{values_of}
-use Rattle.swarm_model.specs.Calls.Faults.{lost}
+use Rattle.swarm_objects.specs.Agents.NodeAgents.{lost}
 use Rattle.swarm_agent.proofs.Entries.{each-lies, each-row, lost-task}
 use Rattle.swarm_agent.specs.Inside.Keyed.{Lies}
 use Rattle.swarm_agent.proofs.executors.Executors.lose.Goals as goal

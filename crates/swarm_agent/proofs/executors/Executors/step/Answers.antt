@@ -1,13 +1,13 @@
 use Rattle.std.proofs.Common.{◌∙◌}
 use Rattle.swarm_agent.proofs.Changes.{near-at, nowhere, set-is}
-use Rattle.swarm_matching.proofs.AimSteps.{stepped-aim}
-use Rattle.swarm_objects.specs.Bounds.{is_near_executor}
+use Rattle.swarm_objects.proofs.Aims.{stepped-aim}
+use Rattle.swarm_objects.specs.Bounds.{has_near_times}
 use Rattle.swarm_objects.specs.Loops.Agents.{stepped}
 use Rattle.swarm_agent.proofs.executors.Executors.step.Goals as goal
 
 pub make_step-requires-clause-near : goal.make_step-requires-clause-near
 make_step-requires-clause-near c =
-    near-at is_near_executor c.args.task c.in-Some.executor c.args.self.now c.requires.near c.in-Some.ensures.value
+    near-at has_near_times c.args.task c.in-Some.executor c.args.self.now c.requires.near c.in-Some.ensures.value
 
 pub returns-in-Some : goal.returns-in-Some
 returns-in-Some c =

@@ -4,8 +4,9 @@ use Rattle.swarm_objects.specs.World.{World}
 use Rattle.swarm_model.specs.History.{IsLegal, replay}
 use Rattle.swarm_objects.specs.declared.calls.Entry.{Entry}
 use Rattle.swarm_model.proofs.Base.Histories.{admitted}
+use Rattle.swarm_duties.proofs.Reached.{usable}
 use Rattle.swarm_plain.specs.Plain.{world_of}
-use Rattle.swarm_script.specs.HasText.{has_text}
+use Rattle.script_grammar.specs.HasText.{has_text}
 use Rattle.swarm_run.specs.Lengths.{is_short}
 use Rattle.swarm_run.specs.Work.{call_by}
 use Rattle.swarm_run.proofs.Runs.{reached, flag, full, few, stays, going, all-snoc}
@@ -19,7 +20,9 @@ returns-then-is_full-clause-err c =
     (refl, ap (λ (H : List Entry). length H) (sym c.self.view_is) ∙ full (world_of c.self.inside.plain) history kept.legal kept.world kept.running at_end)
 
 pub answer-reply-requires : goal.answer-reply-requires
-answer-reply-requires c = reached (world_of c.self.inside.plain) c.self.inside.history.items c.self.invariant.legal c.self.invariant.world
+answer-reply-requires c =
+    usable (world_of c.self.inside.plain)
+    (reached (world_of c.self.inside.plain) c.self.inside.history.items c.self.invariant.legal c.self.invariant.world)
 
 pub invariant_of-self-then-self-before : goal.invariant_of-self-then-self-before
 invariant_of-self-then-self-before c =

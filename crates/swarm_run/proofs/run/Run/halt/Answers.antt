@@ -4,13 +4,16 @@ use Rattle.swarm_objects.specs.declared.calls.Call.TheVariants.{Halt}
 use Rattle.swarm_run.specs.Lengths.{is_short}
 use Rattle.swarm_model.specs.Script.{own_call}
 use Rattle.swarm_model.specs.History.{IsLegal}
+use Rattle.swarm_duties.proofs.Reached.{usable}
 use Rattle.swarm_plain.specs.Plain.{world_of}
 use Rattle.swarm_run.proofs.Runs.{reached, halting, all-snoc}
 use Rattle.swarm_run.proofs.Short.{halt_short}
 use Rattle.swarm_run.proofs.run.Run.halt.Goals as goal
 
 pub answer-requires : goal.answer-requires
-answer-requires c = reached (world_of c.self.inside.plain) c.self.inside.history.items c.self.invariant.legal c.self.invariant.world
+answer-requires c =
+    usable (world_of c.self.inside.plain)
+    (reached (world_of c.self.inside.plain) c.self.inside.history.items c.self.invariant.legal c.self.invariant.world)
 
 pub returns-clause-legal : goal.returns-clause-legal
 returns-clause-legal c =

@@ -3,7 +3,7 @@ use Rattle.std.specs.List.{list_all}
 use Rattle.swarm_model.specs.History.{IsLegal, replay}
 use Rattle.swarm_objects.specs.declared.calls.Entry.{Entry}
 use Rattle.swarm_plain.specs.Plain.{world_of}
-use Rattle.swarm_script.specs.HasText.{duty_has_text, has_text}
+use Rattle.script_grammar.specs.HasText.{duty_has_text, has_text}
 use Rattle.swarm_run.specs.Lengths.{is_short}
 use Rattle.swarm_run.specs.Work.{duty_by}
 use Rattle.swarm_run.proofs.Runs.{reached, due_at, flag, full, few, turning, all-snoc, numbered, number_fits}

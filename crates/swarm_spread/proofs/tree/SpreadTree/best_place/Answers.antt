@@ -1,5 +1,5 @@
 use Rattle.std.proofs.Common.{arith}
-use Rattle.swarm_roles.proofs.Few.{few_nodes}
+use Rattle.swarm_objects.proofs.Few.{few_nodes}
 use Rattle.swarm_spread.proofs.tree.SpreadTree.best_place.Goals as goal
 
 pub overflow_add-place : goal.overflow_add-place

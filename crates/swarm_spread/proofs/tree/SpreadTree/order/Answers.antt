@@ -7,7 +7,7 @@ use Rattle.swarm_spread.proofs.tree.SpreadTree.order.Goals as goal
 
 pub returns : goal.returns
 returns g c =
-    let t = g.R.Rows.tables c.args.rows.now in
+    let t = g.L.Loads.tables c.args.loads.now in
     let by_loads = λ (ns : List ℕ).
     ordering_then (nat_cmp (load t (get_or ns c.args.one 0)) (load t (get_or ns c.args.other 0)))
     (nat_cmp (get_or ns c.args.one 0) (get_or ns c.args.other 0)) in

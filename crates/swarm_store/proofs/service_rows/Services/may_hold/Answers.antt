@@ -3,8 +3,8 @@ use Rattle.std.specs.List.{list_any}
 use Rattle.std.specs.Prelude.{IfSome, nat_lt}
 use Rattle.std.proofs.lemmas.Bool.Decides.{nat_tests}
 use Rattle.swarm_objects.specs.declared.services.Service.{Service}
-use Rattle.swarm_ports.proofs.Rows.{no_other}
-use Rattle.swarm_ports.specs.Counts.{count_of, is_other, known, times_in}
+use Rattle.store_ports.proofs.Rows.{no_other}
+use Rattle.store_ports.specs.Counts.{count_of, is_other, known, times_in}
 use Rattle.swarm_store.proofs.service_rows.Services.may_hold.Goals as goal
 use Rattle.swarm_store.specs.Inside.Span.{Track}
 

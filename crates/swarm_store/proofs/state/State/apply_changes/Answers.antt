@@ -1,5 +1,5 @@
 use Rattle.std.proofs.Common.{◌^◌, ap, length, arith}
-use Rattle.swarm_roles.specs.Changes.{apply_changes}
+use Rattle.swarm_objects.specs.ChangeLists.{apply_changes}
 use Rattle.swarm_store.proofs.Rooms.{drawn-all, drawn-full, drawn-next}
 use Rattle.swarm_store.proofs.Standing.{next-change}
 use Rattle.swarm_store.proofs.state.State.apply_changes.Goals as goal

@@ -1,5 +1,5 @@
 use Rattle.std.proofs.Common.{◌≡◌, length}
-use Rattle.swarm_roles.specs.Changes.{CanApplyAll, apply_changes}
+use Rattle.swarm_objects.specs.ChangeLists.{CanApplyAll, apply_changes}
 use Rattle.swarm_store.proofs.Rooms.{Drawn}
 use Rattle.swarm_store.proofs.state.State.apply_changes.Given as goal
 use Rattle.swarm_store.specs.Inside.State.{Stands, tables_now}

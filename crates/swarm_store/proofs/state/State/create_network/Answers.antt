@@ -1,6 +1,6 @@
 use Rattle.std.proofs.Common.{ap}
 use Rattle.swarm_model.specs.Calls.Networks.{new_network}
-use Rattle.swarm_plain.proofs.Updates.{passed}
+use Rattle.swarm_model.proofs.Base.Updates.{passed}
 use Rattle.swarm_store.proofs.Ops.{network-created}
 use Rattle.swarm_store.proofs.state.State.create_network.Goals as goal
 use Rattle.swarm_store.specs.Inside.State.{tables_now}

@@ -1,6 +1,6 @@
 use Rattle.std.proofs.Common.{ap, arith}
 use Rattle.swarm_objects.specs.Rows.{node_id}
-use Rattle.swarm_plain.proofs.Updates.{passed}
+use Rattle.swarm_model.proofs.Base.Updates.{passed}
 use Rattle.swarm_store.proofs.Ops.{node-created}
 use Rattle.swarm_store.proofs.state.State.create_node.Goals as goal
 use Rattle.swarm_store.specs.Inside.State.{tables_now}

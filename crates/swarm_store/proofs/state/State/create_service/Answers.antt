@@ -1,7 +1,7 @@
 use Rattle.std.proofs.Common.{ap, arith}
 use Rattle.swarm_objects.specs.Rows.{service_id}
 use Rattle.swarm_objects.specs.declared.replies.Refusal.TheVariants as refusal
-use Rattle.swarm_plain.proofs.Updates.{passed-too}
+use Rattle.swarm_model.proofs.Base.Updates.{passed-too}
 use Rattle.swarm_store.proofs.Ops.{service-created}
 use Rattle.swarm_store.proofs.state.State.create_service.Goals as goal
 use Rattle.swarm_store.specs.Inside.State.{tables_now}

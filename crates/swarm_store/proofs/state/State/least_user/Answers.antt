@@ -2,7 +2,8 @@ use Rattle.std.proofs.Common.{◌∙◌, ap, sym, None, cond}
 use Rattle.std.specs.Option.{option_copied}
 use Rattle.std.specs.Ordering.{nat_cmp}
 use Rattle.std.specs.Prelude.{filter, map}
-use Rattle.swarm_model.specs.Calls.Refusals.{service_uses, task_uses, users}
+use Rattle.swarm_objects.specs.NetworkUse.{service_uses, task_uses}
+use Rattle.swarm_model.specs.Calls.Refusals.{users}
 use Rattle.swarm_objects.proofs.RowLemmas.{fewer_above}
 use Rattle.swarm_objects.specs.Rows.{keep_least, least_by, service_id, task_id}
 use Rattle.swarm_store.proofs.Least.{least-begins, least-ends, least-next, least-next_last, least-turns}

@@ -1,7 +1,8 @@
 use Rattle.std.proofs.Common.{◌≡◌, ◌++◌, length, None}
 use Rattle.std.specs.Ordering.{nat_cmp}
 use Rattle.std.specs.Prelude.{filter, map}
-use Rattle.swarm_model.specs.Calls.Refusals.{service_uses, task_uses, users}
+use Rattle.swarm_objects.specs.NetworkUse.{service_uses, task_uses}
+use Rattle.swarm_model.specs.Calls.Refusals.{users}
 use Rattle.swarm_objects.specs.Rows.{least_by, rows_above, service_id, task_id}
 use Rattle.swarm_store.proofs.state.State.least_user.Given as goal
 use Rattle.swarm_store.specs.Inside.State.{tables_now}

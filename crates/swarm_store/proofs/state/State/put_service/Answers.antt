@@ -1,6 +1,6 @@
 use Rattle.std.proofs.Common.{◌^◌}
 use Rattle.swarm_objects.specs.Rows.{service_id}
-use Rattle.swarm_plain.proofs.EntryLemmas.{on-ok}
+use Rattle.swarm_model.proofs.Base.Answers.{on-ok}
 use Rattle.swarm_store.proofs.Rooms.{on-err, put-full}
 use Rattle.swarm_store.proofs.Standing.{id-there, service-put}
 use Rattle.swarm_store.proofs.state.State.put_service.Goals as goal

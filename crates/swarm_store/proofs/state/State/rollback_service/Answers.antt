@@ -2,7 +2,7 @@ use Rattle.std.proofs.Common.{◌∙◌, ap, sym, arith}
 use Rattle.std.specs.Option.{option_copied}
 use Rattle.swarm_model.specs.Calls.Refusals.{conflict, has_name, service_name}
 use Rattle.swarm_objects.specs.Rows.{service_id}
-use Rattle.swarm_plain.proofs.Updates.{passed}
+use Rattle.swarm_model.proofs.Base.Updates.{passed}
 use Rattle.swarm_store.proofs.Ops.{found-above, service-rolled-back}
 use Rattle.swarm_store.proofs.state.State.rollback_service.Goals as goal
 use Rattle.swarm_store.specs.Inside.State.{tables_now}

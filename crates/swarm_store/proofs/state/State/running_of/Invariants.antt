@@ -1,6 +1,7 @@
 use Rattle.std.proofs.Common.{◌≡◌, ◌+◌, ◌≤◌, length}
 use Rattle.std.specs.Prelude.{count_by}
-use Rattle.swarm_model.specs.Calls.Views.{is_shown_running, running_of}
+use Rattle.swarm_objects.specs.Shown.{is_shown_running}
+use Rattle.swarm_model.specs.Calls.Views.{running_of}
 use Rattle.swarm_store.specs.Inside.State.{tables_now}
 use Rattle.swarm_store.proofs.state.State.running_of.Given as goal
 

@@ -1,6 +1,6 @@
 use Rattle.std.proofs.Common.{◌≡◌, ◌++◌}
 use Rattle.std.specs.Prelude.{map}
-use Rattle.swarm_model.specs.Calls.Views.{task_shown}
+use Rattle.swarm_objects.specs.Shown.{task_shown}
 use Rattle.std.specs.Prelude.{filter}
 use Rattle.swarm_objects.specs.Tasks.Words.{is_of}
 use Rattle.swarm_store.specs.Inside.State.{tables_now}

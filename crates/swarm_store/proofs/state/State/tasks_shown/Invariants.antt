@@ -1,6 +1,6 @@
 use Rattle.std.proofs.Common.{◌≡◌, ◌++◌}
 use Rattle.std.specs.Prelude.{map}
-use Rattle.swarm_model.specs.Calls.Views.{task_shown}
+use Rattle.swarm_objects.specs.Shown.{task_shown}
 use Rattle.swarm_store.specs.Inside.State.{tables_now}
 use Rattle.swarm_store.proofs.state.State.tasks_shown.Given as goal
 

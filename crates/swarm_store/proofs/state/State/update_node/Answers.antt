@@ -1,7 +1,7 @@
 use Rattle.std.proofs.Common.{◌∙◌, ap, sym, arith}
 use Rattle.std.specs.Option.{option_copied}
 use Rattle.swarm_objects.specs.Rows.{node_id}
-use Rattle.swarm_plain.proofs.Updates.{passed}
+use Rattle.swarm_model.proofs.Base.Updates.{passed}
 use Rattle.swarm_store.proofs.Ops.{found-above, node-updated}
 use Rattle.swarm_model.specs.Calls.Refusals.{has_name, node_name}
 use Rattle.swarm_store.proofs.state.State.update_node.Goals as goal

@@ -3,8 +3,8 @@ use Rattle.std.specs.Option.{option_copied}
 use Rattle.swarm_model.specs.Calls.Refusals.{has_name, service_name}
 use Rattle.swarm_objects.specs.Rows.{service_id}
 use Rattle.swarm_objects.specs.declared.replies.Refusal.TheVariants as refusal
-use Rattle.swarm_plain.proofs.Updates.{passed-too}
-use Rattle.swarm_plain.specs.Operations.{update_refusal}
+use Rattle.swarm_model.proofs.Base.Updates.{passed-too}
+use Rattle.swarm_model.specs.Calls.Services.{update_refusal}
 use Rattle.swarm_store.proofs.Ops.{found-above, service-updated}
 use Rattle.swarm_store.proofs.state.State.update_service.Goals as goal
 use Rattle.swarm_store.specs.Inside.State.{tables_now}

@@ -1,6 +1,6 @@
 use Rattle.std.proofs.Common.{ap, arith, length, subst, sym}
 use Rattle.std.specs.Vec.{vec_capacity}
-use Rattle.swarm_roles.specs.Changes.{CanApplyAll}
+use Rattle.swarm_objects.specs.ChangeLists.{CanApplyAll}
 use Rattle.swarm_store.proofs.Rooms.{ready-drawn}
 use Rattle.swarm_store.proofs.Standing.{applied-any}
 use Rattle.swarm_store.proofs.store.Store.apply.Goals as goal

@@ -2,7 +2,7 @@ use Rattle.std.proofs.Common.{◌∙◌, sym}
 use Rattle.std.specs.Prelude.{filter}
 use Rattle.swarm_objects.specs.Rows.{task_id}
 use Rattle.swarm_objects.specs.Tasks.Words.{is_of}
-use Rattle.swarm_roles.proofs.WalkLemmas.{makes_progress, walk_step}
+use Rattle.swarm_objects.proofs.WalkLemmas.{makes_progress, walk_step}
 use Rattle.swarm_store.proofs.walks.ServiceTasksIterator.next.Goals as goal
 
 pub returns-clause-steps : goal.returns-clause-steps

@@ -1,6 +1,6 @@
 use Rattle.std.proofs.Common.{◌∙◌, ◌∷◌, ap, sym}
-use Rattle.swarm_roles.proofs.WalkLemmas.{makes_progress, walk_step}
-use Rattle.swarm_roles.specs.Walks.{walk}
+use Rattle.swarm_objects.proofs.WalkLemmas.{makes_progress, walk_step}
+use Rattle.swarm_objects.specs.Walks.{walk}
 use Rattle.swarm_store.proofs.walks.WalkIterator.next.Goals as goal
 
 pub returns-clause-steps : goal.returns-clause-steps

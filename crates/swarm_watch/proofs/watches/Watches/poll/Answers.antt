@@ -1,8 +1,8 @@
-use Rattle.std.proofs.Common.{arith, ap, sym, ◌∙◌, ◌≡◌, ◌≤◌, ◌-◌, drop, length}
+use Rattle.std.proofs.Common.{arith, ap, refl, sym, ◌∙◌, ◌≡◌, ◌≤◌, ◌-◌, drop, length}
 use Rattle.std.specs.Option.{option_copied, option_map}
 use Rattle.std.specs.Vec.{vec_capacity, vec_len, with_items}
 use Rattle.std.specs.Prelude.{filter}
-use Rattle.swarm_model.specs.Calls.Watches.{filter_admits}
+use Rattle.swarm_objects.specs.Watches.{filter_admits}
 use Rattle.swarm_objects.specs.Rows.{change_row, drop_row, row_at}
 use Rattle.swarm_watch.proofs.Answering.{asked_for, poll_lags, poll_tells, poll_unknown}
 use Rattle.swarm_watch.proofs.Places.{found_within, refilled}
@@ -31,9 +31,11 @@ returns-then-count-gt-MOST_EVENTS c =
     poll_lags c.args.self.now
     (record { watchers = watchings c.end.new.kept.items c.end.new.cursors.items; room = vec_capacity c.end.new.kept - vec_len c.end.new.kept })
     c.args.id c.count_admitted-count.result _ (watching_at c.self.inside.kept.items c.in-Some.cursor.now)
+    (filter (filter_admits c.in-Some.cursor.now.filter) (drop c.in-Some.cursor.now.from c.self.inside.kept.items))
     (asked_for c.args.self.now c.self.inside.cursors.items c.as_slice.result.now c.self.inside.kept.items c.args.id (option_copied c.cursor_at.result)
     (ap (λ (v : Watchings). v.watchers) c.self.view_is) c.as_slice.ensures.value c.cursor_at.ensures
     ∙ ap (λ r. option_map (watching_at c.self.inside.kept.items) (option_copied r)) c.in-Some.is)
+    refl
     (c.count_admitted-count.ensures
     ∙ ap (λ es. length (filter (filter_admits c.in-Some.cursor.now.filter) es))
     (c.events_from-unseen.ensures ∙ ap (drop c.in-Some.cursor.now.from) c.as_slice-2.ensures.value))
@@ -48,10 +50,12 @@ returns c =
     c.events_from-unseen.ensures ∙ ap (drop c.in-Some.cursor.now.from) c.as_slice-2.ensures.value in
     poll_tells c.args.self.now
     (record { watchers = watchings c.tell_all.new.kept.items (with_items c.self.inside.cursors c.tell_all.new.cursors).items; room = vec_capacity c.tell_all.new.kept - vec_len c.tell_all.new.kept })
-    c.args.id c.count_admitted-count.result _ (watching_at c.self.inside.kept.items c.in-Some.cursor.now) c.in_ok-events.events
+    c.args.id c.count_admitted-count.result _ (watching_at c.self.inside.kept.items c.in-Some.cursor.now)
+    (filter (filter_admits c.in-Some.cursor.now.filter) (drop c.in-Some.cursor.now.from c.self.inside.kept.items)) c.in_ok-events.events
     (asked_for c.args.self.now c.self.inside.cursors.items c.as_slice.result.now c.self.inside.kept.items c.args.id (option_copied c.cursor_at.result)
     (ap (λ (v : Watchings). v.watchers) c.self.view_is) c.as_slice.ensures.value c.cursor_at.ensures
     ∙ ap (λ r. option_map (watching_at c.self.inside.kept.items) (option_copied r)) c.in-Some.is)
+    refl
     (c.count_admitted-count.ensures ∙ ap (λ es. length (filter (filter_admits c.in-Some.cursor.now.filter) es)) unseen)
     c.if-count-gt-MOST_EVENTS.false
     (c.in_ok-events.ensures ∙ ap (filter (filter_admits c.in-Some.cursor.now.filter)) unseen)

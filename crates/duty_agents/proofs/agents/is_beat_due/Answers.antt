@@ -1,7 +1,0 @@
-use Rattle.std.proofs.Common.{◌∙◌}
-use Rattle.duty_agents.proofs.AgentDues.{beat_due}
-use Rattle.swarm_plain.specs.Plain.{world_of}
-use Rattle.duty_agents.proofs.agents.is_beat_due.Goals as goal
-
-pub returns : goal.returns
-returns c = c.one_beats.ensures ∙ beat_due (world_of c.args.plain.now) c.args.node

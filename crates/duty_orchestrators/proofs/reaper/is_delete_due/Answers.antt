@@ -1,7 +1,0 @@
-use Rattle.std.proofs.Common.{◌∙◌}
-use Rattle.duty_orchestrators.proofs.OneDue.{delete_due}
-use Rattle.swarm_plain.specs.Plain.{world_of}
-use Rattle.duty_orchestrators.proofs.reaper.is_delete_due.Goals as goal
-
-pub returns : goal.returns
-returns c = c.has_removable.ensures ∙ delete_due (world_of c.args.plain.now) c.args.id

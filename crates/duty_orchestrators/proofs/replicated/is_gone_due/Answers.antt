@@ -1,7 +1,0 @@
-use Rattle.std.proofs.Common.{◌∙◌}
-use Rattle.duty_orchestrators.proofs.ReplicatedDue.{gone_due}
-use Rattle.swarm_plain.specs.Plain.{world_of}
-use Rattle.duty_orchestrators.proofs.replicated.is_gone_due.Goals as goal
-
-pub returns : goal.returns
-returns c = c.any_gone.ensures ∙ gone_due (world_of c.args.plain.now) c.args.id

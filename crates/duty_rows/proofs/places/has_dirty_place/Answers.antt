@@ -1,7 +1,0 @@
-use Rattle.std.proofs.Common.{◌∙◌}
-use Rattle.duty_rows.proofs.LeastNumber.{suspects}
-use Rattle.swarm_plain.specs.Plain.{tables_of}
-use Rattle.duty_rows.proofs.places.has_dirty_place.Goals as goal
-
-pub returns : goal.returns
-returns c = c.any_suspect.ensures ∙ suspects (tables_of c.args.plain.now) c.args.service.now

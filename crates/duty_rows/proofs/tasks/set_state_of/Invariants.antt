@@ -1,9 +1,0 @@
-use Rattle.std.proofs.Common.{◌≡◌, ◌++◌, drop, take}
-use Rattle.swarm_objects.specs.Changes.{in_state}
-use Rattle.swarm_objects.specs.Rows.{change_row, task_id}
-use Rattle.duty_rows.proofs.tasks.set_state_of.Given as goal
-
-abbrev pub invariant-loop-task : goal.invariant-loop-task
-invariant-loop-task l =
-    let change = change_row task_id l.id (in_state l.version l.now l.state) in
-    take l.task-index l.tasks ++ change (drop l.task-index l.tasks) ≡ change l.initial.tasks

@@ -1,4 +1,0 @@
--- Words of private contracts.
-pub mod Homes
-pub mod LeastNumber
-pub mod OfPlace

@@ -1,0 +1,9 @@
+use Rattle.std.proofs.Common.{◌≡◌, ◌++◌, drop, take}
+use Rattle.swarm_objects.specs.Loops.Agents.{begun}
+use Rattle.swarm_objects.specs.Rows.{agent_node, change_row}
+use Rattle.plain_agents.proofs.agents.begin.Given as goal
+
+abbrev pub invariant-loop-agent : goal.invariant-loop-agent
+invariant-loop-agent l =
+    let change = change_row agent_node l.node begun in
+    take l.agent-index l.agents ++ change (drop l.agent-index l.agents) ≡ change l.initial.agents

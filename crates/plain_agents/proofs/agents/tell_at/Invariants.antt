@@ -1,0 +1,11 @@
+use Rattle.std.proofs.Common.{◌≡◌, ◌++◌, drop, take}
+use Rattle.plain_agents.specs.OneAgent.{with_executors}
+use Rattle.swarm_objects.specs.Agents.Messages.{change_executor}
+use Rattle.swarm_objects.specs.Loops.Agents.{told}
+use Rattle.swarm_objects.specs.Rows.{agent_node, change_row}
+use Rattle.plain_agents.proofs.agents.tell_at.Given as goal
+
+abbrev pub invariant-loop-agent : goal.invariant-loop-agent
+invariant-loop-agent l =
+    let change = change_row agent_node l.node (with_executors (change_executor l.task told)) in
+    take l.agent-index l.agents ++ change (drop l.agent-index l.agents) ≡ change l.initial.agents

@@ -1,0 +1,14 @@
+use Rattle.std.proofs.Common.{◌≡◌, drop}
+use Rattle.swarm_objects.specs.Loops.Allocator.{gets_address}
+use Rattle.swarm_objects.specs.Loops.Words.{duty_where}
+use Rattle.swarm_objects.specs.Rows.{first_of}
+use Rattle.swarm_objects.specs.declared.duties.Duty.TheVariants as duty
+use Rattle.swarm_objects.specs.declared.tasks.Task.{Task}
+use Rattle.swarm_plain.specs.Plain.{tables_of}
+use Rattle.plain_placement.proofs.allocator.first_address.Given as goal
+
+abbrev pub invariant-loop-task : goal.invariant-loop-task
+invariant-loop-task l =
+    let t = tables_of l.plain in
+    first_of (duty_where (gets_address t) (λ (x : Task). duty.Address x.id) (drop l.task-index l.task-items))
+    ≡ first_of (duty_where (gets_address t) (λ (x : Task). duty.Address x.id) t.tasks)

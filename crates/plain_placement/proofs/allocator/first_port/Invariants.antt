@@ -1,0 +1,12 @@
+use Rattle.std.proofs.Common.{◌≡◌, drop}
+use Rattle.std.specs.Prelude.{flat_map}
+use Rattle.swarm_objects.specs.Loops.Allocator.{port_duties}
+use Rattle.swarm_objects.specs.Rows.{first_of}
+use Rattle.swarm_plain.specs.Plain.{world_of}
+use Rattle.plain_placement.proofs.allocator.first_port.Given as goal
+
+abbrev pub invariant-loop-service : goal.invariant-loop-service
+invariant-loop-service l =
+    let t = (world_of l.plain).tables in
+    first_of (flat_map (port_duties t) (drop l.service-index l.service-items))
+    ≡ first_of (flat_map (port_duties t) t.services)

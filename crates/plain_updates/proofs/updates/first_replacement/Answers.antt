@@ -1,0 +1,27 @@
+use Rattle.std.proofs.Common.{ap, sym, ◌∙◌}
+use Rattle.std.specs.Prelude.{◌&&◌}
+use Rattle.std.specs.Option.{option_map}
+use Rattle.plain_updates.proofs.FirstChanges.{replacement_first}
+use Rattle.swarm_objects.specs.Loops.Update.{lets_replace}
+use Rattle.swarm_objects.specs.Services.Runs.{is_of_version}
+use Rattle.swarm_objects.specs.declared.duties.Duty.TheVariants as duty
+use Rattle.swarm_plain.specs.Plain.{tables_of}
+use Rattle.plain_updates.proofs.updates.first_replacement.Goals as goal
+
+pub returns-in-Some : goal.returns-in-Some
+returns-in-Some c =
+    let t = tables_of c.args.plain.now in
+    let s = c.args.service.now in
+    ap (option_map (duty.Replace s.id)) (sym c.in-Some.is)
+    ∙ replacement_first t s (is_of_version s c.args.run.now && lets_replace t s c.args.run.now) c.least_replacement.result
+    (sym c.replaces.ensures ∙ c.if-not-replaces.false)
+    c.least_replacement.ensures
+
+pub returns-in-None : goal.returns-in-None
+returns-in-None c =
+    let t = tables_of c.args.plain.now in
+    let s = c.args.service.now in
+    ap (option_map (duty.Replace s.id)) (sym c.in-None.is)
+    ∙ replacement_first t s (is_of_version s c.args.run.now && lets_replace t s c.args.run.now) c.least_replacement.result
+    (sym c.replaces.ensures ∙ c.if-not-replaces.false)
+    c.least_replacement.ensures

@@ -1,0 +1,7 @@
+use Rattle.std.proofs.Common.{◌∙◌}
+use Rattle.plain_updates.proofs.UpdatesDue.{finish_due}
+use Rattle.swarm_plain.specs.Plain.{world_of}
+use Rattle.plain_updates.proofs.updates.is_finish_due.Goals as goal
+
+pub returns : goal.returns
+returns c = c.any_finish.ensures ∙ finish_due (world_of c.args.plain.now) c.args.id

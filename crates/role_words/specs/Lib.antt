@@ -1,0 +1,5 @@
+pub mod Marks
+pub mod Shown
+pub mod Slots
+pub mod Tallies
+pub mod Windows

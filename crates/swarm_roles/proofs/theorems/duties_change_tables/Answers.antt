@@ -1,5 +1,0 @@
-use Rattle.swarm_roles.proofs.EffectLaws.{tables_law}
-use Rattle.swarm_roles.proofs.theorems.duties_change_tables.Goals as goal
-
-pub returns : goal.returns
-returns c = tables_law

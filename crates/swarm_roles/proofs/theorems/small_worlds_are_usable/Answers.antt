@@ -1,5 +1,0 @@
-use Rattle.swarm_roles.proofs.EffectLaws.{usable_law}
-use Rattle.swarm_roles.proofs.theorems.small_worlds_are_usable.Goals as goal
-
-pub returns : goal.returns
-returns c = usable_law

@@ -1,7 +1,0 @@
-use Rattle.swarm_slots.proofs.Stepping.{all_slots}
-use Rattle.swarm_roles.proofs.windows.slots.Goals as goal
-
-pub returns : goal.returns
-returns g c =
-    let tasks = (g.R.Rows.tables c.args.rows.now).tasks in
-    all_slots c.window_from.result c.args.service.now tasks c.window_from.ensures.fresh

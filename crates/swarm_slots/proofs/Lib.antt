@@ -1,4 +1,0 @@
-pub mod Noting
-pub mod Numbers
-pub mod Stepping
-pub mod Tallying

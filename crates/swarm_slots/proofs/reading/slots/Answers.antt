@@ -1,5 +1,0 @@
-use Rattle.swarm_slots.proofs.Stepping.{all_slots}
-use Rattle.swarm_slots.proofs.reading.slots.Goals as goal
-
-pub returns : goal.returns
-returns c = all_slots c.window_from.result c.args.service.now c.args.tasks.now c.window_from.ensures.fresh

@@ -1,7 +1,0 @@
-use Rattle.std.proofs.Common.{subst, sym, []}
-use Rattle.swarm_slots.specs.Windows.{Shows}
-use Rattle.swarm_slots.proofs.Noting.{shows_none}
-use Rattle.swarm_slots.proofs.window.Window.new.Goals as goal
-
-pub returns-clause-shows : goal.returns-clause-shows
-returns-clause-shows c s = subst (λ w. Shows w s []) (sym c.begun.ensures) (shows_none s c.args.first)

@@ -1,4 +1,0 @@
-pub mod Marks
-pub mod Slots
-pub mod Tallies
-pub mod Windows
