@@ -9,7 +9,8 @@ ghost use Rattle.swarm_plain.specs.Plain.{tables_of};
 ghost use Rattle.swarm_model.specs.Outcome.{Gets};
 
 use crate::Plain;
-use crate::names::{network_named, node_named, not_found, service_named};
+use crate::names::{network_named, node_named, service_named};
+use swarm_check::not_found;
 use swarm_objects::details::{detail_counted, network_detail, node_detail};
 use swarm_objects::shown::task_detail;
 use swarm_objects::views::ServiceDetail;

@@ -12,8 +12,9 @@ ghost use Rattle.swarm_model.specs.Outcome.{Gets};
 ghost use Rattle.swarm_plain.specs.Inside.Lookups.{inside};
 
 use crate::Plain;
-use crate::names::{node_named, not_found};
+use crate::names::node_named;
 use swarm_agent::is_late;
+use swarm_check::not_found;
 use swarm_objects::limits::LONGEST_TICK;
 use swarm_objects::{
     AgentMode, Executor, Id, Kind, Ms, Name, NodeAgent, Refusal, Reply, TaskState,

@@ -1,11 +1,10 @@
 // Rows by name: the first that has it.
-ghost use Rattle.std.specs.Prelude.{◌≡◌, ◌⊎◌};
+ghost use Rattle.std.specs.Prelude.{◌≡◌};
 ghost use Rattle.std.specs.Option.{option_copied, option_map};
 ghost use Rattle.swarm_model.specs.Calls.Refusals.{network_name, node_name, row_named, service_name};
 ghost use Rattle.swarm_objects.specs.Rows.{network_id, node_id, service_id};
 
-use std::alloc::Global;
-use swarm_objects::{Duplicate, Id, Kind, Name, Network, NoMemory, Node, Refusal, Service, Wanted};
+use swarm_objects::{Id, Name, Network, Node, Service};
 
 // The first node with this name.
 pub(crate) fn node_named<'a>(nodes: &'a [Node], name: &Name) -> Option<&'a Node>
@@ -61,15 +60,5 @@ pub(crate) fn network_id(networks: &[Network], name: &Name) -> Option<Id>
     match network_named(networks, name) {
         Some(network) => Some(network.id),
         None => None,
-    }
-}
-
-// That nothing of this kind has the name; or memory is wanting for the name.
-pub(crate) fn not_found(alloc: Global, kind: Kind, name: &Name) -> Refusal
-    ensures { (result ≡ Refusal.NoMemory) ⊎ (result ≡ Refusal.NotFound kind (Wanted.Name name.now)) }
-{
-    match name.duplicate(alloc) {
-        Ok(name) => Refusal::NotFound(kind, Wanted::Name(name)),
-        Err(NoMemory) => Refusal::NoMemory,
     }
 }

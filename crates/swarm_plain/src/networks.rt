@@ -8,8 +8,8 @@ ghost use Rattle.swarm_plain.specs.Operations.{AppliesOp};
 ghost use Rattle.swarm_plain.specs.Plain.{tables_of};
 
 use crate::Plain;
-use crate::names::{network_id, network_named, not_found};
-use swarm_check::{check_network, check_settings, service_uses, task_uses};
+use crate::names::{network_id, network_named};
+use swarm_check::{check_network, check_settings, not_found, service_uses, task_uses};
 use swarm_objects::limits::MOST_NETWORKS;
 use swarm_objects::{Duplicate, Id, Kind, Name, Network, Op, Refusal, Settings, Version, drop_row};
 

@@ -7,10 +7,10 @@ ghost use Rattle.swarm_objects.specs.Changes.{in_state};
 ghost use Rattle.swarm_plain.specs.Operations.{AppliesOp};
 
 use crate::Plain;
-use crate::names::{node_id, node_named, not_found};
+use crate::names::{node_id, node_named};
 use crate::transactions::check_version;
 use std::alloc::Global;
-use swarm_check::{check_node, new_node, respecified_node};
+use swarm_check::{check_node, new_node, not_found, respecified_node};
 use swarm_objects::limits::MOST_NODES;
 use swarm_objects::{
     AgentMode, Availability, Duplicate, Id, Kind, Labels, List, Ms, Name, NoMemory, Node,

@@ -15,9 +15,9 @@ ghost use Rattle.swarm_plain.specs.Plain.{AnswersCall, tables_of, world_of};
 
 use crate::Plain;
 use crate::messages::is_assigned_on;
-use crate::names::{node_named, not_found};
+use crate::names::node_named;
 use crate::reads::session_of;
-use swarm_check::check_resources;
+use swarm_check::{check_resources, not_found};
 use swarm_objects::{
     Id, Kind, Ms, Name, Node, NodeSession, NodeState, Refusal, Reply, Rows, Session, Task,
     TaskState, Version, Wanted, drop_row, put_in_order, raise, rank,

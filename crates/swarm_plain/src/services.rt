@@ -11,11 +11,11 @@ ghost use Rattle.swarm_model.specs.Calls.Services.{update_refusal};
 ghost use Rattle.swarm_plain.specs.Plain.{tables_of};
 
 use crate::Plain;
-use crate::names::{network_id, network_named, not_found, service_id, service_named};
+use crate::names::{network_id, network_named, service_id, service_named};
 use crate::transactions::check_version;
 use std::alloc::Global;
 use std::mem::replace;
-use swarm_check::{check_service, first_service, respecified, same_mode};
+use swarm_check::{check_service, first_service, not_found, respecified, same_mode};
 use swarm_objects::limits::MOST_SERVICES;
 use swarm_objects::ports::is_other_holder;
 use swarm_objects::{

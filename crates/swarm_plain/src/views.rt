@@ -10,7 +10,8 @@ ghost use Rattle.swarm_plain.specs.Plain.{AnswersCall, tables_of, world_of};
 ghost use Rattle.swarm_model.specs.Outcome.{Gets};
 
 use crate::Plain;
-use crate::names::{not_found, service_named};
+use crate::names::service_named;
+use swarm_check::not_found;
 use swarm_objects::details::{is_shown_running, service_counted};
 use swarm_objects::shown::task_shown;
 use swarm_objects::views::{NetworkShown, NodeShown, ServiceShown, TaskShown};
