@@ -4,5 +4,6 @@ pub mod FromLists
 pub mod Halting
 pub mod Histories
 pub mod IsDuty
+pub mod Pairs
 pub mod ToLists
 pub mod Updates

@@ -3,6 +3,7 @@ pub mod Audit
 pub mod Calls
 pub mod Due
 pub mod Edges
+pub mod Facts
 pub mod Illegal
 pub mod Journals
 pub mod LawTests

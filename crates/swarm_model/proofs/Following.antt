@@ -1,10 +1,13 @@
 pub mod Alone
+pub mod AloneLaws
+pub mod Beginning
 pub mod Clock
 pub mod First
 pub mod Idle
 pub mod Keeping
 pub mod Kept
 pub mod KeptAlone
+pub mod KeptLast
 pub mod Lines
 pub mod Named
 pub mod Own

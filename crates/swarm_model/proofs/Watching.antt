@@ -1,6 +1,7 @@
 pub mod AllChanges
 pub mod Changes
 pub mod Content
+pub mod InOrder
 pub mod Keeping
 pub mod Lists
 pub mod Polls

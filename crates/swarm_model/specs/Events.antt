@@ -1,5 +1,5 @@
 -- The events of a history, and what a watcher is told of them.
-use Rattle.std.specs.Prelude.{List, [], ◌∷◌, ◌++◌, ◌+◌, ◌≡◌, ◌≢◌, ◌↔◌, ⊤, ℕ, None, Option, Some, filter, if◌then◌else◌, length, nat_lt}
+use Rattle.std.specs.Prelude.{AllPairs, ◌<◌, ◌⊎◌, List, [], ◌∷◌, ◌++◌, ◌+◌, ◌≡◌, ◌≢◌, ◌↔◌, ⊤, ℕ, None, Option, Some, filter, if◌then◌else◌, length, nat_lt}
 use Rattle.swarm_model.specs.Calls.Watches.{waiting_events, waits_for}
 use Rattle.swarm_model.specs.Changed.{changes_between}
 use Rattle.swarm_model.specs.History.{replay, step, step_world}
@@ -40,6 +40,21 @@ abbrev pub ChangesLaw : Type 0
 ChangesLaw =
     (entry : ℕ) (old new : Tables) (e : Event) →
     Has (changes_between entry old new) e ↔ ((e.entry ≡ entry) × IsChange old new e.kind e.id e.verb)
+
+abbrev pub kind_rank : Kind → ℕ
+kind_rank kind.Node = 0
+kind_rank kind.Service = 1
+kind_rank kind.Task = 2
+kind_rank kind.Network = 3
+kind_rank kind.Watcher = 4
+
+-- by kind, and by id within one
+abbrev pub ComesBefore : Event → Event → Type 0
+ComesBefore a b = (kind_rank a.kind < kind_rank b.kind) ⊎ ((a.kind ≡ b.kind) × (a.id < b.id))
+
+-- the events between two worlds stand in this order, so each stands once
+abbrev pub EventOrderLaw : Type 0
+EventOrderLaw = (entry : ℕ) (old new : Tables) → AllPairs ComesBefore (changes_between entry old new)
 
 -- the changes that each of these entries makes, in order
 abbrev pub events_from : World → List Entry → List Event

@@ -2,7 +2,7 @@
 -- makes.
 use Rattle.std.specs.Prelude.{List, true, ◌≡◌, ◌-◌, Bool, [], if◌then◌else◌, not, ◌∷◌, ℕ, ◌++◌, flat_map, sum_by, ◌≤◌, false, ◌<◌, ⊤, None, Option, Some}
 use Rattle.std.specs.List.{list_all}
-use Rattle.swarm_model.specs.History.{step_world, replay_from}
+use Rattle.swarm_model.specs.History.{step_world, replay, replay_from}
 use Rattle.swarm_model.specs.Script.{Asks, Nothing, Settles, Waits, is_duty_entry, own_duties, is_own_call, is_busy, own_call, full_stretch, next_tick, Asked, is_of_a_caller}
 use Rattle.swarm_objects.specs.World.{World, empty_world}
 use Rattle.swarm_objects.specs.declared.calls.Call.{Call}
@@ -134,3 +134,22 @@ pub record FollowsPart (h : List Entry) (lines : List Asked) (next : Option Aske
 
 abbrev pub Follows : List Entry → List Asked → ℕ → Type 0
 Follows h lines workers = FollowsPart h lines None workers
+
+-- Cut before the last line.
+
+-- the entries of lines, one line after the other, before the rest
+abbrev pub AreOfLines : World → List Asked → List Entry → List Entry → Type 0
+AreOfLines w [] es rest = es ≡ []
+AreOfLines w (line ∷ lines) es rest =
+    (part : List Entry) × (more : List Entry) × (es ≡ part ++ more) × IsLine w line part (more ++ rest)
+    × AreOfLines (replay_from w part) lines more rest
+
+-- the history of lines, cut before the last one
+pub record IsCut (h : List Entry) (lines : List Asked) (last : Asked) : Type 0 where
+  pub before : List Entry
+  pub part : List Entry
+  pub rest : List Entry
+  pub entries : h ≡ before ++ (part ++ rest)
+  pub lines_are : AreOfLines empty_world lines before (part ++ rest)
+  pub last_is : IsLine (replay before) last part rest
+  pub end_is : IsEnd (replay (before ++ part)) None rest

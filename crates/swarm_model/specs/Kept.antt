@@ -1,12 +1,13 @@
 -- What caller 0 knows of its entries while it reads lines, of each with the history before it, whatever others append.
-use Rattle.std.specs.Prelude.{List, [], ◌∷◌, ◌++◌, length, ℕ, ◌-◌, ◌<◌, ◌≤◌, ◌≡◌, true, false, None, Option, Some, sum_by}
+use Rattle.std.specs.Prelude.{List, [], ◌∷◌, ◌++◌, length, ℕ, ◌-◌, ◌<◌, ◌≤◌, ◌≡◌, ◌⊎◌, true, false, None, Option, Some, sum_by}
 use Rattle.std.specs.List.{list_all}
-use Rattle.swarm_model.specs.Follows.{FollowsPart}
+use Rattle.swarm_model.specs.Follows.{FollowsPart, IsCut}
 use Rattle.swarm_model.specs.History.{IsLegal, replay}
 use Rattle.swarm_model.specs.Own.{Step, own, own_from, step_at}
 use Rattle.swarm_model.specs.Script.{Asked, Asks, Nothing, Settles, Waits, full_stretch, is_busy, is_of_a_caller, next_tick, own_call, own_duty}
-use Rattle.swarm_model.specs.Serial.{serial}
+use Rattle.swarm_model.specs.Serial.{AreSerial, StopsSerial}
 use Rattle.swarm_model.specs.Settle.{settle_answer}
+use Rattle.swarm_model.specs.Undone.{FollowsUndone, Sees, SeesBusy}
 use Rattle.swarm_objects.specs.Duties.{duties}
 use Rattle.swarm_objects.specs.Kinds.{duty_named, role_of}
 use Rattle.swarm_objects.specs.Rows.{Has, first_of}
@@ -15,15 +16,7 @@ use Rattle.swarm_objects.specs.declared.calls.Call.TheVariants as call
 use Rattle.swarm_objects.specs.declared.calls.Entry.{Entry}
 use Rattle.swarm_objects.specs.declared.duties.Duty.{Duty}
 
--- caller 0 saw this world at a look, and has made no entry since
-pub record Sees (before : List Entry) (w : World) : Type 0 where
-  pub seen : List Entry
-  pub others : List Entry
-  pub history : before ≡ seen ++ others
-  pub none : own_from 0 seen others ≡ []
-  pub world : w ≡ replay seen
-
--- and nothing was to be done in it
+-- at the last look nothing was to be done
 pub record SeesIdle (before : List Entry) : Type 0 where
   pub world : World
   pub sees : Sees before world
@@ -104,6 +97,19 @@ KeepsPart (Some (Asks c)) part = part ≡ []
 KeepsPart (Some (Settles budget)) part = AreTurns part × (length part ≤ budget)
 KeepsPart (Some (Waits ms)) part = KeepsBegun ms part
 
+-- what was kept of a wait line: time is left, or the last look named a duty, and its turn would be of the last stretch
+pub record KeepsStopped (ms : ℕ) (part : List Step) (now : List Entry) : Type 0 where
+  pub begun : KeepsBegun ms part
+  pub more : (0 < ms - sum_by (λ s. s.ms) begun.stretches) ⊎ ((length begun.last < full_stretch) × SeesBusy now)
+
+-- of a line that is there and isn't done
+abbrev pub KeepsUndone : List Entry → Option Asked → List Step → Type 0
+KeepsUndone now None part = ⊥
+KeepsUndone now (Some Nothing) part = ⊥
+KeepsUndone now (Some (Asks c)) part = part ≡ []
+KeepsUndone now (Some (Settles budget)) part = AreTurns part × (length part ≤ budget)
+KeepsUndone now (Some (Waits ms)) part = KeepsStopped ms part now
+
 -- the history before the first of these steps, or the one that is seen now
 abbrev pub before_next : List Step → List Entry → List Entry
 before_next [] now = now
@@ -124,9 +130,43 @@ KeptLaw =
     IsLegal h → list_all (is_of_a_caller workers) h ≡ true → KeepsLines lines next (own 0 start) start →
     FollowsPart h lines next workers
 
--- without workers it is the serial one
+-- without workers it is the serial one up to Halt
 abbrev pub KeptAloneLaw : Type 0
 KeptAloneLaw =
-    (lines : List Asked) (start : List Entry) →
+    (lines : List Asked) (next : Option Asked) (start : List Entry) →
     let h = start ++ own_call call.Halt ∷ [] in
-    IsLegal h → list_all (is_of_a_caller 0) h ≡ true → KeepsLines lines None (own 0 start) start → h ≡ serial lines
+    IsLegal h → list_all (is_of_a_caller 0) h ≡ true → KeepsLines lines next (own 0 start) start →
+    AreSerial lines next start
+
+-- the history is cut before the last line as what was kept is
+pub record KeepsCut (h : List Entry) (lines : List Asked) (last : Asked) (earlier later : List Step) : Type 0 where
+  pub cut : IsCut h lines last
+  pub earlier_are : own 0 cut.before ≡ earlier
+  pub later_are : own_from 0 cut.before cut.part ≡ later
+
+-- what was kept of lines and of a last one
+abbrev pub KeptLastLaw : Type 0
+KeptLastLaw =
+    (workers : ℕ) (lines : List Asked) (last : Asked) (earlier later : List Step) (start : List Entry) →
+    let h = start ++ own_call call.Halt ∷ [] in
+    IsLegal h → list_all (is_of_a_caller workers) h ≡ true → own 0 start ≡ earlier ++ later →
+    KeepsLines lines None earlier (before_next later start) → KeepsLine last later start →
+    KeepsCut h lines last earlier later
+
+-- what was kept of lines, and of a next one that isn't done
+abbrev pub KeptUndoneLaw : Type 0
+KeptUndoneLaw =
+    (workers : ℕ) (lines : List Asked) (next : Option Asked) (earlier later : List Step) (start : List Entry) →
+    let h = start ++ own_call call.Halt ∷ [] in
+    IsLegal h → list_all (is_of_a_caller workers) h ≡ true → own 0 start ≡ earlier ++ later →
+    KeepsLines lines None earlier (before_next later start) → KeepsUndone start next later →
+    FollowsUndone h lines next workers
+
+-- without workers it is less than all of that line
+abbrev pub KeptStopLaw : Type 0
+KeptStopLaw =
+    (lines : List Asked) (next : Option Asked) (earlier later : List Step) (start : List Entry) →
+    let h = start ++ own_call call.Halt ∷ [] in
+    IsLegal h → list_all (is_of_a_caller 0) h ≡ true → own 0 start ≡ earlier ++ later →
+    KeepsLines lines None earlier (before_next later start) → KeepsUndone start next later →
+    StopsSerial lines next start

@@ -1,8 +1,8 @@
 pub mod Beside
 pub mod DeadSessions
-pub mod Facts
 pub mod Fits
 pub mod Matches
+pub mod OfService
 pub mod OneTemplate
 pub mod Reconciliation
 pub mod Rises

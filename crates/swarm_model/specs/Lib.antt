@@ -13,3 +13,4 @@ pub mod Own
 pub mod Script
 pub mod Serial
 pub mod Settle
+pub mod Undone

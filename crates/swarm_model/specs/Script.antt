@@ -1,5 +1,5 @@
 -- What a line of a script asks for, and the entries of callers.
-use Rattle.std.specs.Prelude.{ℕ, ◌-◌, Bool, min, ◌%◌, ◌==◌, List, filter, false, nat_le, ◌&&◌, ◌||◌, true, not, count_by, None, Option, Some, is_some}
+use Rattle.std.specs.Prelude.{ℕ, ◌-◌, Bool, min, ◌%◌, ◌==◌, List, filter, false, nat_le, ◌&&◌, ◌||◌, true, not, count_by, is_some}
 use Rattle.swarm_model.specs.Settle.{settle_answer}
 use Rattle.swarm_objects.specs.Kinds.{duty_named, roles, role_of}
 use Rattle.swarm_objects.specs.World.{World}

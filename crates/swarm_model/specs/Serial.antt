@@ -1,6 +1,6 @@
 -- The one history that a single caller makes of lines.
-use Rattle.std.specs.Prelude.{List, None, Some, [], suc, zero, ℕ, ◌-◌, ◌∷◌, ◌++◌, ◌+◌, false, nat_lt, true}
-use Rattle.swarm_model.specs.History.{step_world, replay_from}
+use Rattle.std.specs.Prelude.{List, None, Option, Some, [], length, suc, take, zero, ℕ, ◌-◌, ◌<◌, ◌∷◌, ◌++◌, ◌+◌, ◌≡◌, false, nat_lt, true}
+use Rattle.swarm_model.specs.History.{replay, step_world, replay_from}
 use Rattle.swarm_model.specs.Script.{own_duty, next_tick, own_call, full_stretch, Asked, Asks, Nothing, Settles, Waits}
 use Rattle.swarm_model.specs.Settle.{settle_answer}
 use Rattle.swarm_objects.specs.Kinds.{duty_named}
@@ -41,9 +41,32 @@ asked_entries w (Asks c) = own_call c ∷ []
 asked_entries w (Settles budget) = settle_entries budget w ++ own_call (call.Settle budget) ∷ []
 asked_entries w (Waits ms) = wait_entries ms w (w.tables.clock + ms)
 
+-- the entries of lines, one line after the other
 abbrev pub entries_from : World → List Asked → List Entry
-entries_from w [] = own_call call.Halt ∷ []
+entries_from w [] = []
 entries_from w (line ∷ lines) = asked_entries w line ++ entries_from (replay_from w (asked_entries w line)) lines
 
+abbrev pub entries : List Asked → List Entry
+entries lines = entries_from empty_world lines
+
 abbrev pub serial : List Asked → List Entry
-serial lines = entries_from empty_world lines
+serial lines = entries lines ++ own_call call.Halt ∷ []
+
+-- the first entries that the next line makes
+abbrev pub BeginsNext : World → Option Asked → List Entry → Type 0
+BeginsNext w None part = part ≡ []
+BeginsNext w (Some line) part = (n : ℕ) × (part ≡ take n (asked_entries w line))
+
+-- the entries of lines, and the first ones of the next line
+pub record AreSerial (lines : List Asked) (next : Option Asked) (es : List Entry) : Type 0 where
+  pub part : List Entry
+  pub entries_are : es ≡ entries lines ++ part
+  pub begins : BeginsNext (replay (entries lines)) next part
+
+-- the entries of lines, and less than all of the next line
+pub record StopsSerial (lines : List Asked) (next : Option Asked) (es : List Entry) : Type 0 where
+  pub line : Asked
+  pub next_is : next ≡ Some line
+  pub count : ℕ
+  pub more : count < length (asked_entries (replay (entries lines)) line)
+  pub entries_are : es ≡ entries lines ++ take count (asked_entries (replay (entries lines)) line)

@@ -1,16 +1,18 @@
 //! What holds over every legal history, of each of its worlds and of each step: each law is the contract of a function
 //! that does nothing.
-ghost use Rattle.swarm_model.specs.Events.{ChangesLaw, PollLaw, ToldOnceLaw, WaitingLaw};
-ghost use Rattle.swarm_model.specs.Kept.{KeptAloneLaw, KeptLaw};
+ghost use Rattle.swarm_model.specs.Events.{ChangesLaw, EventOrderLaw, PollLaw, ToldOnceLaw, WaitingLaw};
+ghost use Rattle.swarm_model.specs.Kept.{KeptAloneLaw, KeptLastLaw, KeptLaw, KeptStopLaw, KeptUndoneLaw};
 ghost use Rattle.swarm_model.specs.Laws.Beside.{BesideLaw};
 ghost use Rattle.swarm_model.specs.Laws.DeadSessions.{DeadSessionLaw};
 ghost use Rattle.swarm_model.specs.Laws.Fits.{FittingLaw};
+ghost use Rattle.swarm_model.specs.Laws.OfService.{OfServiceLaw};
 ghost use Rattle.swarm_model.specs.Laws.OneTemplate.{OneTemplateLaw};
 ghost use Rattle.swarm_model.specs.Laws.Rises.{RisingLaw};
-ghost use Rattle.swarm_model.specs.OneCaller.{RepliesLaw, SerialLaw};
+ghost use Rattle.swarm_model.specs.OneCaller.{RepliesLaw, SerialLaw, SerialPartLaw, SerialUndoneLaw};
 ghost use Rattle.swarm_model.specs.Laws.Worlds.{OrderLaw, SizeLaw, SoundLaw};
 
-/// A task keeps what it was made with, and its node; its state and what is wanted of it only rise; no id comes back.
+/// A task keeps what it was made with, and its node; its state and what is wanted of it only rise; no id comes back, and no
+/// two things share one, of whatever kinds they are.
 pub fn tasks_rise()
     ensures { RisingLaw }
 {}
@@ -37,10 +39,16 @@ pub fn places_have_one_task_a_template()
     ensures { OneTemplateLaw }
 {}
 
-/// The events of an entry are exactly what happened to objects; a poll tells all that its filter admits, and once, or how
-/// many wait where these are more than 10,000.
+/// A task of a service that is there has the goal of the service's mode, and a place of its kind.
+pub fn tasks_are_of_services()
+    ensures { OfServiceLaw }
+{}
+
+/// The events of an entry are exactly what happened to objects, each once, by kind and id; a poll tells all that its filter
+/// admits, and once, or how many wait where these are more than 10,000.
 pub fn polls_tell_every_change_once()
     ensures changes { ChangesLaw }
+    ensures order { EventOrderLaw }
     ensures waiting { WaitingLaw }
     ensures told { PollLaw }
     ensures once { ToldOnceLaw }
@@ -56,6 +64,8 @@ pub fn worlds_are_sound()
 /// A single caller that goes by the settle test has one history for each list of lines, and all replies are its own.
 pub fn single_callers_are_serial()
     ensures serial { SerialLaw }
+    ensures part { SerialPartLaw }
+    ensures undone { SerialUndoneLaw }
     ensures replies { RepliesLaw }
 {}
 
@@ -64,4 +74,7 @@ pub fn single_callers_are_serial()
 pub fn kept_entries_follow()
     ensures many { KeptLaw }
     ensures alone { KeptAloneLaw }
+    ensures last { KeptLastLaw }
+    ensures undone { KeptUndoneLaw }
+    ensures stop { KeptStopLaw }
 {}

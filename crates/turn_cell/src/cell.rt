@@ -86,7 +86,7 @@ impl<V: Counted> TurnCell<V> {
     ghost use Rattle.turn_cell.specs.Entries.{mine_of};
     ghost use Rattle.turn_cell.specs.Turn.{account, joined_view, maker_view};
     ghost use Rattle.turn_cell.specs.Steps.{own_account, full_account, idle_seat, IsIdle, Waits, IsHolding, HoldsValue, HasNoted, Takes, HasGrown, GoesOn, IsDone};
-    ghost use Rattle.turn_cell.specs.Passes.{number_of, seen, known, mine, cell_seats, IsPassOf, IsNew, HaveAllNumbers, Continues, Extends, Adds, AgreesWith};
+    ghost use Rattle.turn_cell.specs.Passes.{number_of, seen, known, mine, cell_seats, IsPassOf, IsNew, HaveAllNumbers, Extends, Adds, AgreesWith};
 
     /// Waits for the caller's turn, and does the work on the value in it.
     pub fn with_turn<W: TurnWork<V>, R: Wait>(
@@ -102,7 +102,7 @@ impl<V: Counted> TurnCell<V> {
 
         // The new `seen` is the list after the work.
         ensures turn { (before : List V.Item)
-            × Continues pass.old before
+            × AgreesWith pass.old before
             × W.relates work before (seen pass.new) result
             × Adds pass.old before pass.new }
         ensures known { known pass.new ≡ length (seen pass.new) }

@@ -1,5 +1,5 @@
 -- What holds of whatever world a call leaves: the answers of calls and of operations, taken apart.
-use Rattle.std.proofs.Common.{◌≡◌, ℕ, ◌+◌, Bool, true, false, cond, List, [], ◌++◌, refl, subst, Option, Some, None, Ok, Err, Result, ◌∷◌}
+use Rattle.std.proofs.Common.{◌≡◌, ℕ, Bool, true, false, cond, List, [], ◌++◌, refl, subst, Option, Some, None, Ok, Err, Result, ◌∷◌}
 use Rattle.std.specs.Prelude.{OnOk, ⊤}
 use Rattle.swarm_model.specs.Calls.Operations.{apply_op, apply_ops}
 use Rattle.swarm_model.specs.Calls.Refusals.{Done, found}

@@ -1,12 +1,12 @@
--- The laws as tests on closed histories.
+-- The laws, and further facts, as tests on closed histories.
 use Rattle.std.specs.Prelude.{Bool, List, None, Option, Some, [], codes, false, map, nat_le, nat_lt, not, refl, true, ℕ, ◌&&◌, ◌||◌, ◌∷◌, ◌≡◌}
 use Rattle.std.specs.List.{list_all}
 use Rattle.std.specs.Option.{option_eq}
+use Rattle.swarm_model.proofs.Examples.Facts.{are_new_ones_right, is_sane}
 use Rattle.swarm_model.specs.Calls.{call_outcome}
 use Rattle.swarm_model.specs.Content.{same_task_making}
 use Rattle.swarm_model.specs.History.{step_world}
 use Rattle.swarm_model.specs.Laws.DeadSessions.{is_dead, is_dead_answer, session_in, session_node_of}
-use Rattle.swarm_model.specs.Laws.Facts.{are_new_ones_right, is_sane}
 use Rattle.swarm_model.specs.Laws.Fits.{has_room_for, share_address, share_host_port, share_port}
 use Rattle.swarm_model.specs.Laws.OneTemplate.{are_alike}
 use Rattle.swarm_model.specs.Laws.Rises.{session_id}

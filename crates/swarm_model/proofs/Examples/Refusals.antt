@@ -32,7 +32,6 @@ use Rattle.swarm_objects.specs.declared.tasks.Place.TheVariants.{Slot}
 use Rattle.swarm_objects.specs.declared.tasks.Task.{Task}
 use Rattle.swarm_objects.specs.declared.tasks.TaskState.{TaskState}
 use Rattle.swarm_objects.specs.declared.tasks.TaskState.TheVariants as state
-use Rattle.swarm_objects.specs.declared.templates.End.TheVariants as end
 use Rattle.swarm_objects.specs.declared.templates.Key.TheVariants as key
 use Rattle.swarm_objects.specs.declared.watches.Event.{Event}
 use Rattle.swarm_objects.specs.declared.watches.Verb.TheVariants as verb

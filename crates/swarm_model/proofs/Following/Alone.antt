@@ -1,4 +1,4 @@
--- A single caller's history that follows lines, and goes on by the settle test, is the serial one.
+-- A single caller's entries: its duties are those that the settle test names, and its wait lines go on by that test.
 use Rattle.std.proofs.Common.{◌≡◌, ℕ, zero, suc, ◌+◌, ◌-◌, ◌≤◌, ◌<◌, List, [], ◌∷◌, ◌++◌, Bool, true, false, cond, ◌&&◌, ◌||◌, ◌==◌, refl, Option, Some, None, sym, ◌∙◌, ap, subst, append_assoc, arith}
 use Rattle.std.specs.Prelude.{nat_le, nat_lt}
 use Rattle.std.specs.List.{list_all}
@@ -6,18 +6,17 @@ use Rattle.std.proofs.lemmas.Bool.Decides.{nat_tests}
 use Rattle.std.proofs.lemmas.List.Folds.{list_all-append}
 use Rattle.std.proofs.lemmas.List.Sums.{sum_by-cons}
 use Rattle.swarm_model.proofs.Base.Histories.{replay-append}
-use Rattle.swarm_model.proofs.Following.Lines.{FollowsLines, halt_alone, halt_begins, halt_ends, run_follows, run_from, world_after}
 use Rattle.swarm_model.proofs.Following.Named.{busy_step, count-cons, idle_step, none_named}
 use Rattle.swarm_model.proofs.Following.Strides.{stretch, stride_clock, tick_of, wait_over, wait_step, wait_stride}
-use Rattle.swarm_model.specs.Follows.{AreDuties, AreStrides, FollowsFrom, IsLine, IsStretch, Stride, entries_of_stride, entries_of_strides, left_after}
+use Rattle.swarm_model.specs.Follows.{AreDuties, AreStrides, IsStretch, Stride, entries_of_stride, entries_of_strides, left_after}
 use Rattle.swarm_model.specs.History.{replay_from, step_world}
 use Rattle.swarm_model.specs.Laws.Steps.{EachStep}
-use Rattle.swarm_model.specs.OneCaller.{AreLinesAlone, AreNextTicks, EndsIdle, FollowsAlone, IsLineAlone, IsNamed, SerialLaw}
+use Rattle.swarm_model.specs.OneCaller.{AreNextTicks, EndsIdle, IsNamed}
 use Rattle.swarm_model.specs.Script.{Asked, Asks, Nothing, Settles, Waits, full_stretch, is_busy, is_duty_entry, is_of_a_caller, is_own_duty, is_share, is_shared, next_tick, own_call, own_duties, own_duty}
-use Rattle.swarm_model.specs.Serial.{asked_entries, entries_from, next_stride, serial, settle_entries, wait_entries}
+use Rattle.swarm_model.specs.Serial.{asked_entries, next_stride, settle_entries, wait_entries}
 use Rattle.swarm_model.specs.Settle.{settle_answer}
 use Rattle.swarm_objects.specs.Kinds.{duty_named, role_of}
-use Rattle.swarm_objects.specs.World.{World, empty_world}
+use Rattle.swarm_objects.specs.World.{World}
 use Rattle.swarm_objects.specs.declared.calls.Call.{Call}
 use Rattle.swarm_objects.specs.declared.calls.Call.TheVariants as call
 use Rattle.swarm_objects.specs.declared.calls.Entry.{Entry}
@@ -48,7 +47,7 @@ own_append es fs own = both (list_all is_own es) (list_all is_own fs) (sym (list
 pub own_join : (es fs : List Entry) → AreOwn es → AreOwn fs → AreOwn (es ++ fs)
 own_join es fs first rest = list_all-append is_own es fs ∙ joined (list_all is_own es) (list_all is_own fs) first rest
 
-named_append : (w : World) (es fs : List Entry) → AreNamed w (es ++ fs) → AreNamed w es × AreNamed (replay_from w es) fs
+pub named_append : (w : World) (es fs : List Entry) → AreNamed w (es ++ fs) → AreNamed w es × AreNamed (replay_from w es) fs
 named_append w [] fs named = (tt, named)
 named_append w (e ∷ es) fs named =
     let rest = named_append (step_world w e) es fs named.1 in
@@ -63,10 +62,10 @@ pub record AreAlone (w : World) (es : List Entry) : Type 0 where
   pub own : AreOwn es
   pub named : AreNamed w es
 
-alone_first : (w : World) (es fs : List Entry) → AreAlone w (es ++ fs) → AreAlone w es
+pub alone_first : (w : World) (es fs : List Entry) → AreAlone w (es ++ fs) → AreAlone w es
 alone_first w es fs all = record { own = (own_append es fs all.own).0; named = (named_append w es fs all.named).0 }
 
-alone_rest : (w : World) (es fs : List Entry) → AreAlone w (es ++ fs) → AreAlone (replay_from w es) fs
+pub alone_rest : (w : World) (es fs : List Entry) → AreAlone w (es ++ fs) → AreAlone (replay_from w es) fs
 alone_rest w es fs all = record { own = (own_append es fs all.own).1; named = (named_append w es fs all.named).1 }
 
 pub alone_join : (w : World) (es fs : List Entry) → AreAlone w es → AreAlone (replay_from w es) fs →
@@ -79,13 +78,13 @@ alone_join w es fs first rest =
 by_first : (n : ℕ) → (n == 0) ≡ true → n ≡ 0
 by_first n e = grind (arith, nat_tests)
 
-duty_is : (by : ℕ) (w : What) → (by == 0) ≡ true → is_duty_entry w ≡ true →
+pub duty_is : (by : ℕ) (w : What) → (by == 0) ≡ true → is_duty_entry w ≡ true →
     (d : Duty) × (◌≡◌ {A = Entry} (record { by = by; what = w }) (own_duty d))
 duty_is by (what.Call c) own is = absurd cc
 duty_is by (what.Duty d) own is =
     (d, ap (λ (n : ℕ). record { by = n; what = what.Duty d }) (by_first by own))
 
-none_left : (es : List Entry) → AreOwn es → AreDuties es → own_duties es ≡ 0 → es ≡ []
+pub none_left : (es : List Entry) → AreOwn es → AreDuties es → own_duties es ≡ 0 → es ≡ []
 none_left [] own are none = refl
 none_left (e ∷ es) own are none =
     let first = duty_is e.by e.what (both (is_own e) (list_all is_own es) own).0
@@ -133,11 +132,11 @@ named_are n w (e ∷ es) all are most idle = go n most idle (λ k. named_are k (
 
 -- Wait lines.
 
-stretch_is : (w : World) (es : List Entry) → AreAlone w es → IsStretch es →
+pub stretch_is : (w : World) (es : List Entry) → AreAlone w es → IsStretch es →
     (own_duties es < full_stretch → is_busy (replay_from w es) ≡ false) → es ≡ stretch w
 stretch_is w es all is idle = named_are full_stretch w es all is.0 is.1 idle
 
-stride_is : (w : World) (left : ℕ) (s : Stride) → s.stretch ≡ stretch w →
+pub stride_is : (w : World) (left : ℕ) (s : Stride) → s.stretch ≡ stretch w →
     s.ms ≡ next_tick (replay_from w s.stretch) left → entries_of_stride s ≡ next_stride w left
 stride_is w left s is tick =
     ap (λ (k : ℕ). s.stretch ++ own_call (call.Tick k) ∷ []) tick
@@ -154,14 +153,14 @@ waited_more n w left time s es is some first rest =
     ∙ sym (wait_stride n w left time is some)
 
 -- the time that is left after a stride
-time_left : (w : World) (left time : ℕ) (s : Stride) → w.tables.clock + left ≡ time → 0 < left →
+pub time_left : (w : World) (left time : ℕ) (s : Stride) → w.tables.clock + left ≡ time → 0 < left →
     entries_of_stride s ≡ next_stride w left → s.ms ≡ tick_of w left → s.ms ≤ left →
     (replay_from w (entries_of_stride s)).tables.clock + (left - s.ms) ≡ time
 time_left w left time s is some first tick within =
     let clock = ap (λ (es : List Entry). (replay_from w es).tables.clock) first ∙ stride_clock w left some in
     omega (arith, clock, is, tick, within)
 
-waited_is : (n : ℕ) (w : World) (left time : ℕ) (strides : List Stride) (tail : List Entry) →
+pub waited_is : (n : ℕ) (w : World) (left time : ℕ) (strides : List Stride) (tail : List Entry) →
     AreAlone w (entries_of_strides strides ++ tail) → AreStrides w left strides → AreNextTicks w left strides →
     left_after left strides ≡ 0 → IsStretch tail → EndsIdle (replay_from w (entries_of_strides strides)) tail →
     w.tables.clock + left ≡ time → left ≤ n → entries_of_strides strides ++ tail ≡ wait_entries n w time
@@ -189,51 +188,6 @@ waited_is (suc n) w left time (s ∷ strides) tail all are next done is idle at 
     (omega (arith, done, sum_by-cons (λ (x : Stride). x.ms) s strides))
     is (subst (λ (v : World). EndsIdle v tail) (replay-append w es more) idle)
     (time_left w left time s at some stride tick are.0.in_line) (omega (arith, enough, are.0.some)))
-
--- Lines.
-
-line_is : (w : World) (line : Asked) (part rest : List Entry) → AreAlone w part → (is : IsLine w line part rest) →
-    IsLineAlone w line part rest is → part ≡ asked_entries w line
-line_is w Nothing part rest all is alone = is
-line_is w (Asks c) part rest all is alone =
-    let first = own_append is.others (own_call c ∷ []) (subst AreOwn is.entries all.own) in
-    is.entries
-    ∙ ap (λ (l : List Entry). l ++ own_call c ∷ []) (none_left is.others first.0 is.are_others.0 is.are_others.1)
-line_is w (Settles budget) part rest all is alone =
-    let asks = own_call (call.Settle budget) ∷ [] in
-    let first = alone_first w is.duties asks (subst (AreAlone w) is.entries all) in
-    is.entries
-    ∙ ap (λ (l : List Entry). l ++ asks)
-    (named_are budget w is.duties first is.are_duties is.most
-    (λ less. idle (is_busy (replay_from w is.duties)) refl less))
-  where
-    idle : (b : Bool) → is_busy (replay_from w is.duties) ≡ b → own_duties is.duties < budget →
-        is_busy (replay_from w is.duties) ≡ false
-    idle true e less = absurd (omega (arith, is.busy e, less))
-    idle false e less = e
-line_is w (Waits ms) part rest all is alone =
-    is.entries
-    ∙ waited_is ms w ms (w.tables.clock + ms) is.strides is.tail
-    (subst (AreAlone w) is.entries all) is.ticks alone.0 is.all
-    is.tail_is.0 alone.1 refl (omega arith)
-
-pub lines_are : (lines : List Asked) (w : World) (h : List Entry) → AreAlone w h →
-    (follows : FollowsFrom w lines None h) →
-    AreLinesAlone w lines None h follows → h ≡ entries_from w lines
-lines_are [] w h all follows alone =
-    let first = own_append follows.part (own_call call.Halt ∷ []) (subst AreOwn follows.entries all.own) in
-    follows.entries
-    ∙ ap (λ (l : List Entry). l ++ own_call call.Halt ∷ [])
-    (none_left follows.part first.0 follows.part_is.0 follows.part_is.1)
-lines_are (line ∷ lines) w h all follows alone =
-    let part = follows.0 in
-    let rest = follows.1 in
-    let each : AreAlone w (part ++ rest) = subst (AreAlone w) follows.2 all in
-    let first = line_is w line part rest (alone_first w part rest each) follows.3 alone.0 in
-    let others = lines_are lines (replay_from w part) rest (alone_rest w part rest each) follows.4 alone.1 in
-    follows.2
-    ∙ ap (λ (l : List Entry). part ++ l) others
-    ∙ ap (λ (l : List Entry). l ++ entries_from (replay_from w l) lines) first
 
 -- No caller but 0.
 
@@ -315,34 +269,3 @@ line_alone w (Settles budget) =
     alone_join w es (own_call (call.Settle budget) ∷ []) (settle_alone budget w)
     (one_call (replay_from w es) (call.Settle budget))
 line_alone w (Waits ms) = wait_alone ms w (w.tables.clock + ms)
-
-serial_alone : (lines : List Asked) (w : World) → AreAlone w (entries_from w lines)
-serial_alone [] w = one_call w call.Halt
-serial_alone (line ∷ lines) w =
-    let es = asked_entries w line in
-    alone_join w es (entries_from (replay_from w es) lines) (line_alone w line) (serial_alone lines (replay_from w es))
-
-serial_run : (lines : List Asked) (w : World) → run_from w lines halt_alone ≡ entries_from w lines
-serial_run [] w = refl
-serial_run (line ∷ lines) w = ap (λ (l : List Entry). asked_entries w line ++ l)
-    (serial_run lines (replay_from w (asked_entries w line)))
-
--- The law.
-
-pub serial_follows : (lines : List Asked) → FollowsAlone (serial lines) lines
-serial_follows lines =
-    let all = serial_alone lines empty_world in
-    let made = subst (FollowsLines empty_world lines None) (serial_run lines empty_world)
-    (run_follows lines None halt_alone empty_world halt_begins (halt_ends (world_after empty_world lines) None)) in
-    record {
-      follows = record { callers = of_callers 0 (serial lines) all.own; lines_are = made.are };
-      duties = all.named;
-      waits = made.alone;
-    }
-
-pub serial-law : SerialLaw
-serial-law h lines = (
-  λ alone. lines_are lines empty_world h (record { own = own_all h alone.follows.callers; named = alone.duties })
-      alone.follows.lines_are alone.waits,
-  λ is. subst (λ (es : List Entry). FollowsAlone es lines) (sym is) (serial_follows lines),
-)

@@ -6,7 +6,8 @@ use Rattle.swarm_model.proofs.Base.Histories.{IsLegalFrom-append, room_duty}
 use Rattle.swarm_model.proofs.Following.Alone.{both}
 use Rattle.swarm_model.proofs.SettleLaws.{nothing_first}
 use Rattle.swarm_model.specs.History.{IsLegal, IsLegalFrom, may_follow, replay}
-use Rattle.swarm_model.specs.Kept.{Sees, SeesIdle}
+use Rattle.swarm_model.specs.Kept.{SeesIdle}
+use Rattle.swarm_model.specs.Undone.{Sees}
 use Rattle.swarm_model.specs.Own.{own_from, step_at}
 use Rattle.swarm_model.specs.Script.{is_busy, is_duty_entry, is_of_a_caller, is_shared}
 use Rattle.swarm_model.specs.Settle.{idle_answer}

@@ -1,7 +1,8 @@
 -- What caller 0 keeps as it reads on: a look stays one while others append, and a further line joins the earlier ones.
 use Rattle.std.proofs.Common.{◌≡◌, List, [], ◌∷◌, ◌++◌, Option, None, refl, sym, ◌∙◌, ap, subst, append_assoc, append-nil}
 use Rattle.swarm_model.proofs.Following.Own.{own-append}
-use Rattle.swarm_model.specs.Kept.{KeepsLine, KeepsLines, Sees, SeesIdle, before_next}
+use Rattle.swarm_model.specs.Kept.{KeepsLine, KeepsLines, SeesIdle, before_next}
+use Rattle.swarm_model.specs.Undone.{Sees}
 use Rattle.swarm_model.specs.History.{replay}
 use Rattle.swarm_model.specs.Own.{Step, own_from}
 use Rattle.swarm_model.specs.Script.{Asked, Asks, Nothing, Settles, Waits}

@@ -1,5 +1,5 @@
 -- What caller 0 knows of its entries makes the whole history follow the lines.
-use Rattle.std.proofs.Common.{◌≡◌, ℕ, ◌+◌, ◌-◌, ◌<◌, List, [], ◌∷◌, ◌++◌, length, Bool, true, false, not, ◌==◌, ◌&&◌, refl, Option, Some, None, sym, ◌∙◌, ap, subst, append_assoc, append-nil, arith}
+use Rattle.std.proofs.Common.{◌≡◌, ℕ, ◌+◌, ◌-◌, ◌<◌, List, [], ◌∷◌, ◌++◌, length, Bool, true, false, not, ◌==◌, ◌&&◌, ◌⊎◌, inl, inr, refl, Option, Some, None, sym, ◌∙◌, ap, subst, append_assoc, append-nil, arith}
 use Rattle.std.specs.Prelude.{if◌then◌else◌, sum_by}
 use Rattle.std.specs.List.{list_all}
 use Rattle.std.proofs.lemmas.List.Sums.{sum_by-cons}
@@ -7,10 +7,11 @@ use Rattle.swarm_model.proofs.Base.Histories.{IsLegalFrom-append, replay-append}
 use Rattle.swarm_model.proofs.Following.Alone.{AreOwn, both, is_own, own_append}
 use Rattle.swarm_model.proofs.Following.Idle.{AreOfCallers, callers_append, idle_until, no_duty_follows, seen_until, unchosen, unequal}
 use Rattle.swarm_model.proofs.Following.Lines.{same}
-use Rattle.swarm_model.specs.Follows.{AreDuties, AreStrides, FollowsFrom, IsLine, IsPart, IsWaitedPart, Stride, entries_of_strides, quiet_at_next_call}
+use Rattle.swarm_model.specs.Follows.{AreDuties, AreStrides, FollowsFrom, IsLine, IsPart, IsWaitedPart, Stride, entries_of_strides, left_after, quiet_at_next_call}
 use Rattle.swarm_model.specs.History.{IsLegal, replay, replay_from, step_world}
-use Rattle.swarm_model.specs.Kept.{AreTurns, KeepsBegun, KeepsLine, KeepsLines, KeepsPart, KeepsSettled, KeepsTick, KeepsTicks, KeepsWaited, KeptLaw, Sees, SeesIdle, Stretch, before_next}
-use Rattle.swarm_model.specs.OneCaller.{AreLinesAlone, AreNextTicks, IsLineAlone}
+use Rattle.swarm_model.specs.Kept.{AreTurns, KeepsBegun, KeepsLine, KeepsLines, KeepsPart, KeepsSettled, KeepsTick, KeepsTicks, KeepsUndone, KeepsWaited, KeptLaw, SeesIdle, Stretch, before_next}
+use Rattle.swarm_model.specs.Undone.{IsUndone, Sees, SeesBusy}
+use Rattle.swarm_model.specs.OneCaller.{AreLinesAlone, AreNextTicks, IsLineAlone, IsPartAlone}
 use Rattle.swarm_model.specs.Own.{Step, own, own_from, step_at}
 use Rattle.swarm_model.specs.Script.{Asked, Asks, Nothing, Settles, Waits, full_stretch, is_busy, is_duty_entry, is_own_call, next_tick, own_call, own_duties}
 use Rattle.swarm_objects.specs.World.{World, empty_world}
@@ -370,8 +371,15 @@ part_none workers before es whole none =
     let others = gap_duties workers before es none (callers_append workers before es whole.callers).1 in
     (others.are_duties, others.none)
 
+-- a wait line's part, with as many ticks and duties as were kept
+pub record MadePart (ms : ℕ) (before es : List Entry) (begun : KeepsBegun ms (own_from 0 before es)) : Type 0 where
+  pub is : IsWaitedPart (replay before) ms es
+  pub time : sum_by (λ (s : Stride). s.ms) is.strides ≡ sum_by (λ (s : Stretch). s.ms) begun.stretches
+  pub count : own_duties is.tail ≡ length begun.last
+  pub next : AreOwn (before ++ es) → AreNextTicks (replay before) ms is.strides
+
 pub part_wait : (workers ms : ℕ) (before es : List Entry) → IsWhole workers (before ++ es) →
-    KeepsBegun ms (own_from 0 before es) → IsWaitedPart (replay before) ms es
+    (begun : KeepsBegun ms (own_from 0 before es)) → MadePart ms before es begun
 part_wait workers ms before es whole begun =
     let t = ticked workers begun.stretches ms before es begun.last
     (own_from 0 before es) [] whole begun.are_turns begun.ticks
@@ -380,27 +388,75 @@ part_wait workers ms before es whole begun =
     let first = all ++ t.tail in
     let callers = callers_of workers es first t.more t.es_is (callers_append workers before es whole.callers).1 in
     let others = gap_duties workers (before ++ first) t.more t.rest_is callers.1 in
+    let count : own_duties (t.tail ++ t.more) ≡ length begun.last =
+    omega (arith, count_join t.tail t.more, t.count, others.none) in
     record {
-      strides = t.strides;
-      tail = t.tail ++ t.more;
-      entries = t.es_is ∙ append_assoc all t.tail t.more;
-      ticks = t.ticks;
-      tail_is = (
-        duties_join t.tail t.more t.are_duties others.are_duties,
-        omega (arith, count_join t.tail t.more, t.count, others.none, begun.few),
-      );
+      is = record {
+        strides = t.strides;
+        tail = t.tail ++ t.more;
+        entries = t.es_is ∙ append_assoc all t.tail t.more;
+        ticks = t.ticks;
+        tail_is = (
+          duties_join t.tail t.more t.are_duties others.are_duties,
+          omega (arith, count, begun.few),
+        );
+      };
+      time = t.time;
+      count = count;
+      next = t.next;
     }
 
+-- what was done of the next line; alone it goes on by the settle test
+pub record KeptPart (next : Option Asked) (before es : List Entry) : Type 0 where
+  pub is : IsPart (replay before) next es
+  pub alone : AreOwn (before ++ es) → IsPartAlone (replay before) next es is
+
 pub part_is : (workers : ℕ) (next : Option Asked) (before es : List Entry) → IsWhole workers (before ++ es) →
-    KeepsPart next (own_from 0 before es) → IsPart (replay before) next es
-part_is workers None before es whole keeps = part_none workers before es whole keeps
-part_is workers (Some Nothing) before es whole keeps = part_none workers before es whole keeps
-part_is workers (Some (Asks c)) before es whole keeps = part_none workers before es whole keeps
+    KeepsPart next (own_from 0 before es) → KeptPart next before es
+part_is workers None before es whole keeps =
+    record { is = part_none workers before es whole keeps; alone = λ own. tt }
+part_is workers (Some Nothing) before es whole keeps =
+    record { is = part_none workers before es whole keeps; alone = λ own. tt }
+part_is workers (Some (Asks c)) before es whole keeps =
+    record { is = part_none workers before es whole keeps; alone = λ own. tt }
 part_is workers (Some (Settles budget)) before es whole keeps =
     let turns = turned_all workers (own_from 0 before es) before es
     (callers_append workers before es whole.callers).1 keeps.0 refl in
-    (turns.0, omega (arith, turns.1, keeps.1))
-part_is workers (Some (Waits ms)) before es whole keeps = part_wait workers ms before es whole keeps
+    record { is = (turns.0, omega (arith, turns.1, keeps.1)); alone = λ own. tt }
+part_is workers (Some (Waits ms)) before es whole keeps =
+    let made = part_wait workers ms before es whole keeps in
+    record { is = made.is; alone = made.next }
+
+-- a part of a line that isn't done
+pub record UndonePart (next : Option Asked) (before es : List Entry) : Type 0 where
+  pub is : IsPart (replay before) next es
+  pub undone : IsUndone (before ++ es) (replay before) next es is
+  pub alone : AreOwn (before ++ es) → IsPartAlone (replay before) next es is
+
+pub part_undone : (workers : ℕ) (next : Option Asked) (before es : List Entry) → IsWhole workers (before ++ es) →
+    KeepsUndone (before ++ es) next (own_from 0 before es) → UndonePart next before es
+part_undone workers None before es whole keeps = absurd keeps
+part_undone workers (Some Nothing) before es whole keeps = absurd keeps
+part_undone workers (Some (Asks c)) before es whole keeps =
+    record { is = part_none workers before es whole keeps; undone = tt; alone = λ own. tt }
+part_undone workers (Some (Settles budget)) before es whole keeps =
+    record { is = (part_is workers (Some (Settles budget)) before es whole keeps).is; undone = tt; alone = λ own. tt }
+part_undone workers (Some (Waits ms)) before es whole keeps =
+    let made = part_wait workers ms before es whole keeps.begun in
+    record {
+      is = made.is;
+      undone = more made.is.strides made.is.tail made.time made.count keeps.more;
+      alone = made.next;
+    }
+  where
+    more : (strides : List Stride) (tail : List Entry) →
+        sum_by (λ (s : Stride). s.ms) strides ≡ sum_by (λ (s : Stretch). s.ms) keeps.begun.stretches →
+        own_duties tail ≡ length keeps.begun.last →
+        (0 < ms - sum_by (λ (s : Stretch). s.ms) keeps.begun.stretches)
+        ⊎ ((length keeps.begun.last < full_stretch) × SeesBusy (before ++ es)) →
+        (0 < left_after ms strides) ⊎ ((own_duties tail < full_stretch) × SeesBusy (before ++ es))
+    more strides tail time count (inl some) = inl (omega (arith, time, some))
+    more strides tail time count (inr busy) = inr (omega (arith, count, busy.0), busy.1)
 
 -- All lines.
 
@@ -426,10 +482,9 @@ kept_more line lines next before es rest m others = record {
 pub keeps_follow : (workers : ℕ) (lines : List Asked) (next : Option Asked) (before es : List Entry) →
     IsWhole workers (before ++ es) → KeepsLines lines next (own_from 0 before es) (before ++ es) →
     KeptLines (replay before) lines next before es
-keeps_follow workers [] next before es whole keeps = record {
-  are = record { part = es; entries = refl; part_is = part_is workers next before es whole keeps };
-  alone = λ own. tt;
-}
+keeps_follow workers [] next before es whole keeps =
+    let made = part_is workers next before es whole keeps in
+    record { are = record { part = es; entries = refl; part_is = made.is }; alone = made.alone }
 keeps_follow workers (line ∷ lines) next before es whole keeps =
     let m = made workers line before es keeps.0 keeps.1 whole keeps.3 keeps.2 in
     let now : before ++ es ≡ (before ++ m.part) ++ m.more =

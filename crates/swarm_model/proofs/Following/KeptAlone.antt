@@ -1,12 +1,13 @@
 -- Where caller 0 is alone, what it knows of its entries makes the history the serial one.
-use Rattle.std.proofs.Common.{◌≡◌, ℕ, ◌-◌, List, [], ◌∷◌, ◌++◌, true, ◌==◌, ◌⊎◌, inl, inr, refl, Some, None, sym, ◌∙◌, ap, subst}
+use Rattle.std.proofs.Common.{◌≡◌, ℕ, ◌-◌, List, [], ◌∷◌, ◌++◌, true, ◌==◌, ◌⊎◌, inl, inr, refl, Option, Some, None, sym, ◌∙◌, ap, subst}
 use Rattle.std.specs.List.{list_all}
 use Rattle.swarm_model.proofs.Base.Histories.{replay-snoc}
-use Rattle.swarm_model.proofs.Following.Alone.{AreAlone, AreOwn, alone_join, both, is_own, joined, lines_are, one_call, own_all, own_join}
+use Rattle.swarm_model.proofs.Following.Alone.{AreAlone, AreOwn, alone_join, both, is_own, joined, one_call, own_all, own_join}
+use Rattle.swarm_model.proofs.Following.AloneLaws.{lines_are, part_serial, stops_serial}
 use Rattle.swarm_model.proofs.Following.First.{first_of_named}
 use Rattle.swarm_model.proofs.Following.Idle.{callers_append}
 use Rattle.swarm_model.specs.History.{replay, step_world}
-use Rattle.swarm_model.specs.Kept.{AreTurns, IsTurn, KeepsLine, KeepsLines, KeepsTicks, KeptAloneLaw, Stretch, before_next}
+use Rattle.swarm_model.specs.Kept.{AreTurns, IsTurn, KeepsLine, KeepsLines, KeepsPart, KeepsTicks, KeepsUndone, KeptAloneLaw, KeptStopLaw, Stretch, before_next}
 use Rattle.swarm_model.specs.Laws.Steps.{EachStep}
 use Rattle.swarm_model.specs.OneCaller.{IsNamed}
 use Rattle.swarm_model.specs.Own.{Step, own, own_from, step_at}
@@ -21,6 +22,7 @@ use Rattle.swarm_objects.specs.declared.calls.Call.TheVariants as call
 use Rattle.swarm_objects.specs.declared.calls.Entry.{Entry}
 use Rattle.swarm_objects.specs.declared.duties.Duty.{Duty}
 use Rattle.swarm_model.proofs.Following.Kept.{choose_yes, halt, kept_lines, seen_alone, tick_at}
+use Rattle.swarm_model.proofs.Following.KeptLast.{undone_lines}
 
 -- Each step is a call or a turn.
 
@@ -65,13 +67,20 @@ line_steps (Settles budget) part next keeps =
 line_steps (Waits ms) part next keeps =
     ticks_steps ms keeps.begun.stretches keeps.begun.last part keeps.begun.are_turns keeps.begun.ticks
 
-lines_steps : (lines : List Asked) (part : List Step) (now : List Entry) → KeepsLines lines None part now →
-    AreSteps part
-lines_steps [] part now keeps = steps_are part [] keeps no_steps
-lines_steps (line ∷ lines) part now keeps =
+part_steps : (next : Option Asked) (part : List Step) → KeepsPart next part → AreSteps part
+part_steps None part keeps = steps_are part [] keeps no_steps
+part_steps (Some Nothing) part keeps = steps_are part [] keeps no_steps
+part_steps (Some (Asks c)) part keeps = steps_are part [] keeps no_steps
+part_steps (Some (Settles budget)) part keeps = turn_steps part keeps.0
+part_steps (Some (Waits ms)) part keeps = ticks_steps ms keeps.stretches keeps.last part keeps.are_turns keeps.ticks
+
+lines_steps : (lines : List Asked) (next : Option Asked) (part : List Step) (now : List Entry) →
+    KeepsLines lines next part now → AreSteps part
+lines_steps [] next part now keeps = part_steps next part keeps
+lines_steps (line ∷ lines) next part now keeps =
     steps_are part (keeps.0 ++ keeps.1) keeps.2
     (steps_join keeps.0 keeps.1 (line_steps line keeps.0 (before_next keeps.1 now) keeps.3)
-    (lines_steps lines keeps.1 now keeps.4))
+    (lines_steps lines next keeps.1 now keeps.4))
 
 -- Alone, each turn is the duty that the settle test names.
 
@@ -110,11 +119,33 @@ named_steps before (e ∷ es) own_before own are =
     )
 
 -- Alone, the history is the serial one.
+
+all_alone : (start : List Entry) → AreOwn start → AreSteps (own 0 start) → AreAlone empty_world (start ++ halt)
+all_alone start firsts steps =
+    alone_join empty_world start halt (record { own = firsts; named = named_steps [] start refl firsts steps })
+    (one_call (replay start) call.Halt)
+
 pub kept-alone-law : KeptAloneLaw
-kept-alone-law lines start legal callers keeps =
+kept-alone-law lines next start legal callers keeps =
     let firsts = own_all start (callers_append 0 start halt callers).0 in
-    let made = kept_lines 0 lines None start (record { legal = legal; callers = callers }) keeps in
-    let named = named_steps [] start refl firsts (lines_steps lines (own 0 start) start keeps) in
-    let first : AreAlone empty_world start = record { own = firsts; named = named } in
-    lines_are lines empty_world (start ++ halt)
-    (alone_join empty_world start halt first (one_call (replay start) call.Halt)) made.are (made.alone firsts)
+    let made = kept_lines 0 lines next start (record { legal = legal; callers = callers }) keeps in
+    part_serial lines next start
+    (lines_are lines next empty_world (start ++ halt)
+    (all_alone start firsts (lines_steps lines next (own 0 start) start keeps)) made.are (made.alone firsts))
+
+undone_steps : (now : List Entry) (next : Option Asked) (part : List Step) → KeepsUndone now next part → AreSteps part
+undone_steps now None part keeps = absurd keeps
+undone_steps now (Some Nothing) part keeps = absurd keeps
+undone_steps now (Some (Asks c)) part keeps = part_steps (Some (Asks c)) part keeps
+undone_steps now (Some (Settles budget)) part keeps = part_steps (Some (Settles budget)) part keeps
+undone_steps now (Some (Waits ms)) part keeps = part_steps (Some (Waits ms)) part keeps.begun
+
+pub kept-stop-law : KeptStopLaw
+kept-stop-law lines next earlier later start legal callers e keeps undone =
+    let firsts = own_all start (callers_append 0 start halt callers).0 in
+    let u = undone_lines 0 lines next earlier later start (record { legal = legal; callers = callers }) e keeps undone in
+    stops_serial lines next start firsts
+    (all_alone start firsts
+    (steps_are (own 0 start) (earlier ++ later) e
+    (steps_join earlier later (lines_steps lines None earlier (before_next later start) keeps)
+    (undone_steps start next later undone)))) u.are (u.alone firsts) u.undone

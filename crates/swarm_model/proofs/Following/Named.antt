@@ -1,5 +1,5 @@
 -- The duties that the settle test names one after the other.
-use Rattle.std.proofs.Common.{◌≡◌, ℕ, zero, suc, ◌+◌, ◌≤◌, ◌<◌, List, [], ◌∷◌, take, Bool, true, false, cond, ◌&&◌, refl, Option, Some, None, sym, ap, subst, arith}
+use Rattle.std.proofs.Common.{◌≡◌, ℕ, zero, suc, ◌+◌, ◌≤◌, ◌<◌, List, [], ◌∷◌, take, length, Bool, true, false, cond, ◌&&◌, refl, Option, Some, None, sym, ap, subst, arith}
 use Rattle.std.specs.Prelude.{is_some}
 use Rattle.std.specs.List.{list_all}
 use Rattle.std.proofs.lemmas.List.Sums.{sum_by-cons, sum_by-take-le}
@@ -82,3 +82,31 @@ duties_take (suc k) (e ∷ es) are = go (is_duty_entry e.what) are (duties_take 
 
 pub count_take : (k : ℕ) (es : List Entry) → own_duties (take k es) ≤ own_duties es
 count_take k es = sum_by-take-le (λ x. cond (is_own_duty x) 1 0) es k
+
+-- before the last of them the settle test names one more
+settle_cut_next : (n : ℕ) (w : World) (k : ℕ) (named : Option Duty) → duty_named (settle_answer w) ≡ named →
+    ((v : World) (k : ℕ) → k < length (settle_entries n v) →
+    (own_duties (take k (settle_entries n v)) < n) × (is_busy (replay_from v (take k (settle_entries n v))) ≡ true)) →
+    k < length (settle_entries (suc n) w) →
+    (own_duties (take k (settle_entries (suc n) w)) < suc n)
+    × (is_busy (replay_from w (take k (settle_entries (suc n) w))) ≡ true)
+settle_cut_next n w k None e rest inside =
+    absurd (omega (arith, ap {B = ℕ} (λ (l : List Entry). length l) (idle_step w (suc n) e), inside))
+settle_cut_next n w zero (Some d) e rest inside = (omega arith, ap is_some e)
+settle_cut_next n w (suc k) (Some d) e rest inside =
+    let v = step_world w (own_duty d) in
+    let es = settle_entries n v in
+    let later = rest v k (omega (arith, ap {B = ℕ} (λ (l : List Entry). length l) (busy_step w n d e), inside)) in
+    subst (λ (l : List Entry). (own_duties (take (suc k) l) < suc n) × (is_busy (replay_from w (take (suc k) l)) ≡ true))
+    (sym (busy_step w n d e))
+    (omega (arith, count-cons (own_duty d) (take k es), later.0), later.1)
+
+pub settle_cut : (n : ℕ) (w : World) (k : ℕ) → k < length (settle_entries n w) →
+    (own_duties (take k (settle_entries n w)) < n) × (is_busy (replay_from w (take k (settle_entries n w))) ≡ true)
+settle_cut zero w k inside = absurd (omega (arith, inside))
+settle_cut (suc n) w k inside =
+    settle_cut_next n w k (duty_named (settle_answer w)) refl (λ v j. settle_cut n v j) inside
+
+pub busy_idle : (b : Bool) → b ≡ true → b ≡ false → ⊥
+busy_idle true e f = cc
+busy_idle false e f = cc

@@ -7,7 +7,7 @@ use Rattle.swarm_model.proofs.Base.Histories.{replay-keeps, room_duty}
 use Rattle.swarm_model.proofs.Base.IsDuty.{IsDuty}
 use Rattle.swarm_model.proofs.Laws.GivesOut.{AreGivenAgents, GivesOut, IsGivenAgent, agents-change, agents-given, duty-gives, gives-still, lost-task, mapped, sent-given, with-sent-given, without-sent-given}
 use Rattle.swarm_model.proofs.Laws.Orderly.{orderly-empty, orderly-step}
-use Rattle.swarm_model.proofs.Laws.Rises.{all-has}
+use Rattle.swarm_model.proofs.Base.Pairs.{all-has}
 use Rattle.swarm_model.proofs.Laws.Sound.{rises-between, sound, watchers-rise}
 use Rattle.swarm_model.proofs.Moves.Calls.{call-answers}
 use Rattle.swarm_model.proofs.Moves.Operations.{op-moves}

@@ -14,7 +14,6 @@ use Rattle.swarm_model.proofs.Moves.Rows.{between-one}
 use Rattle.swarm_model.specs.Calls.Refusals.{other_holder, port_taken}
 use Rattle.swarm_model.specs.Calls.Services.{filled, new_service, with_service}
 use Rattle.swarm_objects.specs.NewRows.{respecified}
-use Rattle.swarm_model.specs.Laws.Facts.{takes}
 use Rattle.swarm_model.specs.Laws.Fits.{share_port}
 use Rattle.swarm_objects.proofs.Empty.{filter_empty, flat_map_empty, map_empty}
 use Rattle.swarm_objects.proofs.RowLemmas.{Has-append_cases, Has-append_left, Has-append_right, Has-filter, Has-filter_cases, Has-flat_map, Has-flat_map_cases, Has-from_row_at, Has-map, Has-map_cases, row_at-Some}

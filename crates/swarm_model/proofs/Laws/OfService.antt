@@ -1,10 +1,8 @@
 -- A task has its service's goal, and a place of its service's kind, in every world of a legal history.
-use Rattle.std.proofs.Common.{Bool, List, None, Option, Some, [], ap, arith, inl, inr, refl, subst, sym, true, ℕ, ◌++◌, ◌∙◌, ◌∷◌, ◌≡◌}
-use Rattle.std.proofs.lemmas.Bool.Decides.{nat_tests}
-use Rattle.std.specs.Prelude.{◌&&◌}
-use Rattle.swarm_model.proofs.Laws.Alone.{number-at}
+use Rattle.std.proofs.Common.{List, [], ap, arith, inl, inr, refl, subst, sym, ℕ, ◌++◌, ◌∙◌, ◌∷◌, ◌≡◌}
 use Rattle.swarm_model.proofs.Laws.Kept.{InOrder, IsNewOf, IsPlaceOf, Keeps, Lightens, Runs}
 use Rattle.swarm_model.proofs.Laws.KeptCalls.{kept-replay}
+use Rattle.swarm_model.proofs.Laws.Prefixes.{each-prefix}
 use Rattle.swarm_model.proofs.Laws.OneEach.{IsAlike, OneEach, alike-by, from-becomes, mode_number, one-each-empty, one-each-keeps, previous-kind}
 use Rattle.swarm_model.proofs.Laws.Timely.{each-becomes, each-changed, each-pushed}
 use Rattle.swarm_model.proofs.Laws.Within.{within-lightens}
@@ -16,15 +14,12 @@ use Rattle.swarm_model.proofs.Moves.Worlds.{TaskMoves, task-same}
 use Rattle.swarm_model.specs.Calls.Nodes.{is_left_behind, tables_without_node}
 use Rattle.swarm_model.specs.Calls.Services.{new_service}
 use Rattle.swarm_model.specs.History.{IsLegal, replay}
-use Rattle.swarm_model.specs.Laws.Facts.{has_goal_of, has_place_of, is_of_its_service}
-use Rattle.swarm_objects.proofs.RowLemmas.{Has-from_row_at}
-use Rattle.swarm_objects.proofs.SameLemmas.{Decides-same_place}
+use Rattle.swarm_model.specs.Laws.OfService.{AreOfServices, IsOfService, OfServiceLaw}
 use Rattle.swarm_objects.specs.Changes.{in_state, placed}
 use Rattle.swarm_objects.specs.Loops.Allocator.{port_number, with_addresses, with_port}
-use Rattle.swarm_objects.specs.Rows.{Has, change_row, on_row, row_at, service_id, task_id}
+use Rattle.swarm_objects.specs.Rows.{Has, change_row, service_id, task_id}
 use Rattle.swarm_objects.specs.Tasks.New.{goal_of}
-use Rattle.swarm_objects.specs.Tasks.Places.{place_at, place_number}
-use Rattle.swarm_objects.specs.Values.Ranks.{desired_rank}
+use Rattle.swarm_objects.specs.Tasks.Places.{place_at}
 use Rattle.swarm_objects.specs.World.{Tables}
 use Rattle.swarm_objects.specs.declared.calls.Entry.{Entry}
 use Rattle.swarm_objects.specs.declared.services.Draft.{Draft}
@@ -36,14 +31,9 @@ use Rattle.swarm_objects.specs.declared.tasks.Place.{Place}
 use Rattle.swarm_objects.specs.declared.tasks.Task.{Task}
 use Rattle.swarm_objects.specs.declared.tasks.TaskState.TheVariants as state
 
--- where its service is there
-pub record IsOfService (x : Task) (s : Service) : Type 0 where
-  pub goal : x.goal ≡ goal_of s.spec.mode
-  pub place : (k : ℕ) × (x.place ≡ place_at s.spec.mode k)
-
 pub record OfServices (t : Tables) : Type 0 where
   pub one : OneEach t
-  pub of : (x : Task) (s : Service) → Has t.tasks x → Has t.services s → x.service ≡ s.id → IsOfService x s
+  pub of : AreOfServices t
 
 goal-alike : (a b : Mode) → IsAlike a b → goal_of a ≡ goal_of b
 goal-alike (mode.Replicated a) (mode.Replicated b) e = refl
@@ -216,23 +206,6 @@ pub of-services-replay : (h : List Entry) → IsLegal h → OfServices (replay h
 of-services-replay h legal =
     kept-replay OfServices of-services-keep (record { one = one-each-empty; of = λ x s j k e. absurd j }) h legal
 
--- As tests.
-
-of-test : (x : Task) (s : Service) → IsOfService x s → (has_goal_of x s && has_place_of x s) ≡ true
-of-test x s is =
-    let goal : has_goal_of x s ≡ true = grind (arith, nat_tests, ap desired_rank is.goal) in
-    let number : place_number x.place ≡ is.place.0 = ap place_number is.place.1 ∙ number-at s.spec.mode is.place.0 in
-    let at : x.place ≡ place_at s.spec.mode (place_number x.place) =
-    is.place.1 ∙ ap (λ (k : ℕ). place_at s.spec.mode k) (sym number) in
-    let place : has_place_of x s ≡ true =
-    (Decides-same_place x.place (place_at s.spec.mode (place_number x.place))).1 at in
-    ap (λ (b : Bool). b && has_place_of x s) goal ∙ place
-
-pub of-its-service : (t : Tables) (x : Task) → OfServices t → Has t.tasks x → is_of_its_service t x ≡ true
-of-its-service t x is h = go (row_at service_id x.service t.services) refl
-  where
-    go : (o : Option Service) → row_at service_id x.service t.services ≡ o →
-        on_row true (λ s. has_goal_of x s && has_place_of x s) o ≡ true
-    go None e = refl
-    go (Some s) e =
-        let at = Has-from_row_at service_id x.service t.services s e in of-test x s (is.of x s h at.0 (sym at.1))
+-- so it is in each of its worlds
+pub of-services : OfServiceLaw
+of-services h legal = each-prefix (λ w. AreOfServices w.tables) (λ g is. (of-services-replay g is).of) h legal

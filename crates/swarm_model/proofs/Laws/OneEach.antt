@@ -34,7 +34,7 @@ use Rattle.swarm_objects.specs.Rules.Services.{has_alike}
 use Rattle.swarm_objects.specs.Same.{same_place, same_template}
 use Rattle.swarm_objects.specs.Services.Words.{is_job}
 use Rattle.swarm_objects.specs.Tasks.New.{with_task}
-use Rattle.swarm_objects.specs.Tasks.Places.{counts_for, is_in_place}
+use Rattle.swarm_objects.specs.Tasks.Places.{is_in_place}
 use Rattle.swarm_objects.specs.Tasks.Words.{is_live}
 use Rattle.swarm_objects.specs.Values.Ranks.{desired_rank}
 use Rattle.swarm_objects.specs.World.{Tables, empty_tables}

@@ -1,5 +1,5 @@
 -- Every world of a legal history is orderly, and each of its steps is a move.
-use Rattle.std.proofs.Common.{◌≡◌, List, true, arith}
+use Rattle.std.proofs.Common.{inl, ◌≡◌, List, true, arith}
 use Rattle.swarm_model.proofs.Base.FromLists.{IsDuty-due}
 use Rattle.swarm_model.proofs.Base.Histories.{replay-keeps, room_duty}
 use Rattle.swarm_model.proofs.Laws.Rises.{rises-moves}
@@ -32,6 +32,7 @@ orderly-empty = record {
   watchers = tt;
   sent = tt;
   agents = tt;
+  ids = λ k. inl (omega arith);
   good = λ x h. absurd h;
   subnets = λ n h. absurd h;
 }

@@ -1,21 +1,17 @@
--- Tasks rise, and no id comes back, wherever a step is a move.
-use Rattle.std.proofs.Common.{ap, ◌≡◌, ℕ, ◌<◌, ◌≤◌, ◌⊎◌, inl, inr, List, [], ◌∷◌, true, refl, sym, ◌∙◌, subst, arith}
-use Rattle.std.specs.Prelude.{All, length, slice_index_or, zero, suc}
+-- Tasks rise, no id comes back and none is shared, wherever a step is a move.
+use Rattle.std.proofs.Common.{eqb, ap, ◌≡◌, ℕ, ◌<◌, ◌≤◌, ◌⊎◌, inl, inr, List, [], ◌∷◌, true, sym, ◌∙◌, subst, arith}
+use Rattle.std.proofs.lemmas.Bool.Decides.{nat_tests}
+use Rattle.std.proofs.lemmas.List.Kept.{AllPairs-cons}
+use Rattle.std.specs.Prelude.{AllPairs, map, ◌++◌, ◌≢◌}
+use Rattle.swarm_model.proofs.Base.Pairs.{all-has}
+use Rattle.swarm_model.proofs.Moves.Ids.{Comes, in_world, one_if, times, times-append, times-has}
 use Rattle.swarm_model.proofs.Moves.Rows.{RisesBetween, becomes-cases, between-has, between-one, has_row-Has}
-use Rattle.swarm_model.proofs.Moves.Worlds.{IsSubnet, Stays, Any, ComesFrom, IsGood, IsOrderly, Moves, SameId, TaskMoves, Turns}
-use Rattle.swarm_model.specs.Laws.Rises.{ComeAbove, EachTaskRises, Rises, TaskRises, session_id}
+use Rattle.swarm_model.proofs.Moves.Worlds.{IsSubnet, Stays, Any, ComesFrom, IsGood, IsOrderly, Moves, SameId, TaskMoves, Turns, orderly-moves}
+use Rattle.swarm_model.specs.Laws.Rises.{ComeAbove, EachTaskRises, NoIdIsShared, Rises, TaskRises, ids_of, session_id}
 use Rattle.swarm_objects.specs.Rows.{Has, has_row, network_id, node_id, service_id, task_id, watcher_id}
 use Rattle.swarm_objects.specs.World.{World}
 use Rattle.swarm_objects.specs.declared.sessions.NodeSession.{NodeSession}
 use Rattle.swarm_objects.specs.declared.tasks.Task.{Task}
-
-has-index : {X : Type 0} (xs : List X) (k : ℕ) (d : X) → k < length xs → Has xs (slice_index_or xs k d)
-has-index [] k d less = absurd (omega (arith, less))
-has-index (x ∷ xs) zero d less = inl refl
-has-index (x ∷ xs) (suc k) d less = inr (has-index xs k d (omega (arith, less)))
-
-pub all-has : {X : Type 0} (P : X → Type 0) (xs : List X) → ((x : X) → Has xs x → P x) → All P xs
-all-has P xs each = λ k d less. each (slice_index_or xs k d) (has-index xs k d less)
 
 come-above : {X : Type 0} (key : X → ℕ) (R : X → X → Type 0) (Asked : X → Type 0) (next high : ℕ) (old new : List X) →
     ((x y : X) → R x y → key y ≡ key x) → Turns key R Asked next high old new → ComeAbove key next high old new
@@ -57,6 +53,41 @@ ids-above : {X : Type 0} (key : X → ℕ) (next high : ℕ) (old new : List X) 
     ComeAbove key next high old new
 ids-above key next high old new turns = come-above key (SameId key) Any next high old new (λ x y h. h) turns
 
+-- Ids are apart.
+
+apart : (xs : List ℕ) → ((k : ℕ) → times k xs ≤ 1) → AllPairs (λ x y. x ≢ y) xs
+apart [] once = λ i j d less short. absurd (omega (arith, short))
+apart (x ∷ xs) once =
+    AllPairs-cons (λ x y. x ≢ y) x xs (all-has (λ y. x ≢ y) xs (λ y h e. other y h e)) (apart xs (λ k. omega (arith, once k)))
+  where
+    other : (y : ℕ) → Has xs y → x ≡ y → ⊥
+    other y h e =
+        let same : eqb x y ≡ true = grind (arith, nat_tests, e) in
+        absurd (omega (arith, once y, times-has xs y h, ap one_if same))
+
+times-ids : (k : ℕ) (w : World) → times k (ids_of w) ≡ in_world k w
+times-ids k w =
+    let nodes = map node_id w.tables.nodes in
+    let services = map service_id w.tables.services in
+    let tasks = map task_id w.tables.tasks in
+    let networks = map network_id w.tables.networks in
+    let sessions = map session_id w.tables.sessions in
+    omega (
+      arith,
+      times-append k nodes services,
+      times-append k (nodes ++ services) tasks,
+      times-append k (nodes ++ services ++ tasks) networks,
+      times-append k (nodes ++ services ++ tasks ++ networks) sessions,
+      times-append k (nodes ++ services ++ tasks ++ networks ++ sessions) (map watcher_id w.watchers),
+    )
+
+ids-apart : (w : World) → IsOrderly w → NoIdIsShared w
+ids-apart w is = apart (ids_of w) (λ k. omega (arith, times-ids k w, most k (is.ids k)))
+  where
+    most : (k : ℕ) → Comes 0 w.tables.next_id k 0 (in_world k w) → in_world k w ≤ 1
+    most k (inl h) = omega (arith, h)
+    most k (inr h) = omega (arith, h.2)
+
 -- every move of an orderly world is a rise
 pub rises-moves : (w v : World) → IsOrderly w → Moves w v → Rises w v
 rises-moves w v is m = record {
@@ -75,5 +106,6 @@ rises-moves w v is m = record {
         sessions-above w.tables.next_id v.tables.next_id w.tables.sessions v.tables.sessions m.tables.sessions;
     watchers = ids-above watcher_id w.tables.next_id v.tables.next_id w.watchers v.watchers m.watchers;
     next_id = m.tables.next;
+    apart = ids-apart v (orderly-moves w v is m);
   };
 }

@@ -36,7 +36,7 @@ use Rattle.swarm_objects.specs.Bounds.{HasNearTimes, IsSmall, is_near, is_near_a
 use Rattle.swarm_objects.specs.Limits.{most_events, most_ops}
 use Rattle.swarm_objects.specs.Loops.Agents.{change_agent}
 use Rattle.swarm_objects.specs.Nodes.Sessions.{session_of}
-use Rattle.swarm_objects.specs.Rows.{Has, agent_node, drop_row, on_row, row_at, sent_node, task_id, watcher_id}
+use Rattle.swarm_objects.specs.Rows.{agent_node, drop_row, on_row, row_at, sent_node, task_id, watcher_id}
 use Rattle.swarm_objects.specs.World.{Tables, World, empty_world}
 use Rattle.swarm_objects.specs.declared.agents.AgentMode.{AgentMode}
 use Rattle.swarm_objects.specs.declared.agents.Executor.{Executor}

@@ -5,7 +5,8 @@ use Rattle.swarm_model.proofs.Base.Answers.{OnGiven, given-found, given-if, give
 use Rattle.swarm_model.proofs.Moves.EachDuty.{agent-moves, begun-moves, entered-moves, sent-moves, tables-moves, with-tables}
 use Rattle.swarm_model.proofs.Moves.Opening.{opening-moves}
 use Rattle.swarm_model.proofs.Moves.Operations.{ops-moves}
-use Rattle.swarm_model.proofs.Moves.Rows.{becomes-change_any, becomes-filter, becomes-same, between-has, rows-stay}
+use Rattle.swarm_model.proofs.Moves.Ids.{comes-next, times-becomes, times-push}
+use Rattle.swarm_model.proofs.Moves.Rows.{Becomes, becomes-change_any, becomes-filter, becomes-same, between-has, rows-stay}
 use Rattle.swarm_model.proofs.Moves.Sessions.{beat-moves}
 use Rattle.swarm_model.proofs.Moves.Tables.{move-any_task, moves-raised_to}
 use Rattle.swarm_model.proofs.Moves.Worlds.{Any, IsOrderly, Moves, SameId, TaskMoves, networks-stay, sessions-same, tables-same, task-same, turns-by, turns-ids, turns-more}
@@ -69,29 +70,42 @@ watcher-comes entry w f = record {
     networks = networks-stay w.tables.networks;
     sessions = sessions-same w.tables.sessions w.tables.next_id (w.tables.next_id + 1);
     opens = rows-stay session_node w.tables.next_id (w.tables.next_id + 1) w.tables.sessions (omega arith);
+    ids = λ i. inl (omega arith);
   };
   watchers =
       turns-more watcher_id (SameId watcher_id) Any w.tables.next_id w.watchers w.watchers
       (new_watcher entry w.tables.next_id f) (becomes-same (SameId watcher_id) (λ x. refl) w.watchers) refl tt;
   sent = rows-stay sent_node w.tables.next_id (w.tables.next_id + 1) w.sent (omega arith);
   agents = rows-stay agent_node w.tables.next_id (w.tables.next_id + 1) w.agents (omega arith);
+  ids = λ i.
+      comes-next w.tables.next_id i w.tables.next_id _ _ refl
+      (omega (arith, times-push watcher_id i w.watchers (new_watcher entry w.tables.next_id f)));
 }
+
+watcher-dropped : (id : ℕ) (w : World) → Becomes (SameId watcher_id) [] w.watchers (without_watcher id w).watchers
+watcher-dropped id w = becomes-filter (SameId watcher_id) (λ x. not (watcher_id x == id)) (λ x. refl) w.watchers
 
 watcher-goes : (id : ℕ) (w : World) → Moves w (without_watcher id w)
 watcher-goes id w = record {
   tables = tables-same w.tables;
-  watchers = turns-by (becomes-filter (SameId watcher_id) (λ x. not (watcher_id x == id)) (λ x. refl) w.watchers);
+  watchers = turns-by (watcher-dropped id w);
   sent = λ rises. rises;
   agents = λ rises. rises;
+  ids = λ i. inl (omega (arith, times-becomes watcher_id (SameId watcher_id) (λ x y e. e) i w.watchers _ (watcher-dropped id w)));
 }
+
+watcher-marked : (entry id : ℕ) (w : World) → Becomes (SameId watcher_id) [] w.watchers (told_at entry id w).watchers
+watcher-marked entry id w =
+    becomes-change_any (SameId watcher_id) watcher_id id (told_all entry) w.watchers (λ x. refl) (λ x h. refl)
 
 watcher-told : (entry id : ℕ) (w : World) → Moves w (told_at entry id w)
 watcher-told entry id w = record {
   tables = tables-same w.tables;
-  watchers =
-      turns-by (becomes-change_any (SameId watcher_id) watcher_id id (told_all entry) w.watchers (λ x. refl) (λ x h. refl));
+  watchers = turns-by (watcher-marked entry id w);
   sent = λ rises. rises;
   agents = λ rises. rises;
+  ids = λ i.
+      inl (omega (arith, times-becomes watcher_id (SameId watcher_id) (λ x y e. e) i w.watchers _ (watcher-marked entry id w)));
 }
 
 polled-moves : (entry : ℕ) (w : World) (id : ℕ) (events : List Event) → Moves w (polled entry w id events).1
@@ -121,6 +135,7 @@ tick-moves w ms =
       networks = networks-stay w.tables.networks;
       sessions = sessions-same w.tables.sessions w.tables.next_id w.tables.next_id;
       opens = rows-stay session_node w.tables.next_id w.tables.next_id w.tables.sessions (omega arith);
+      ids = λ i. inl (omega arith);
     }) refl refl refl
 
 agent-answers : (w : World) (name : List ℕ) (change : NodeAgent → NodeAgent) → ((a : NodeAgent) → (change a).node ≡ a.node) →

@@ -1,5 +1,5 @@
 -- What each duty does to the world: a move.
-use Rattle.std.proofs.Common.{◌≡◌, ℕ, ◌≤◌, Bool, true, false, cond, refl, sym, ◌∙◌, subst, arith, Option, Some, None}
+use Rattle.std.proofs.Common.{inl, ◌≡◌, ℕ, ◌≤◌, Bool, true, false, cond, refl, sym, ◌∙◌, subst, arith, Option, Some, None}
 use Rattle.std.specs.Prelude.{◌&&◌, nat_le}
 use Rattle.std.proofs.lemmas.Bool.Decides.{nat_tests}
 use Rattle.swarm_model.proofs.Base.IsDuty.{OfRow}
@@ -82,6 +82,7 @@ attempt-moves t s p = record {
   networks = networks-stay t.networks;
   sessions = sessions-same t.sessions t.next_id t.next_id;
   opens = rows-stay session_node t.next_id t.next_id t.sessions (omega arith);
+  ids = λ i. inl (omega arith);
 }
 
 pub good-next : (version : ℕ) (t : Tables) (s : Service) (p : Place) → IsGood (next_task version t s p)

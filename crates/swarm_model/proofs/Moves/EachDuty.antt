@@ -1,8 +1,9 @@
 -- Every duty that may be done is a move.
-use Rattle.std.proofs.Common.{◌≡◌, ℕ, ◌<◌, ◌≤◌, Bool, true, refl, sym, subst, Option, Some, None}
+use Rattle.std.proofs.Common.{◌+◌, ◌≡◌, ℕ, ◌<◌, ◌≤◌, Bool, true, refl, sym, subst, Option, Some, None}
 use Rattle.std.specs.Prelude.{not, ◌==◌}
 use Rattle.swarm_model.proofs.Base.IsDuty.{GoesTo, IsDuty, OfAgent}
 use Rattle.swarm_model.proofs.Moves.Duties.{addressed-moves, dropped-moves, fail-moves, noted-moves, of-task, raised-moves, rejected-moves, replace-moves, restart-moves, swap-moves}
+use Rattle.swarm_model.proofs.Moves.Ids.{Comes, comes-beside, in_tables, in_world, times_of}
 use Rattle.swarm_model.proofs.Moves.Placing.{placed-moves}
 use Rattle.swarm_model.proofs.Moves.Rows.{RisesBetween, between-change, between-filter, between-has, between-with_row, rows-stay}
 use Rattle.swarm_model.proofs.Moves.Sessions.{beat-moves, register-moves}
@@ -42,6 +43,9 @@ beside-moves w v tables same sent agents = record {
       (sym same) (turns-ids w.watchers);
   sent = sent;
   agents = agents;
+  ids = λ i.
+      subst (λ xs. Comes w.tables.next_id v.tables.next_id i (in_world i w) (in_tables i v.tables + times_of watcher_id i xs)) (sym same)
+      (comes-beside w.tables.next_id v.tables.next_id i _ _ (times_of watcher_id i w.watchers) (tables.ids i));
 }
 
 -- and so does all that stands beside them
@@ -197,7 +201,7 @@ duty-moves version w (duty.Forget n x) is of = agent-moves w w.tables n _ (table
 
 -- the entry counts as one
 pub entered-moves : (w v : World) → Moves w v → Moves w (entered w v)
-entered-moves w v m = record { tables = m.tables; watchers = m.watchers; sent = m.sent; agents = m.agents }
+entered-moves w v m = record { tables = m.tables; watchers = m.watchers; sent = m.sent; agents = m.agents; ids = m.ids }
 
 pub effect-moves : (w : World) (d : Duty) → IsOrderly w → IsDuty w d → Moves w (effect w d)
 effect-moves w d is of = entered-moves w (effect_by _ w d) (duty-moves _ w d is of)

@@ -2,6 +2,7 @@
 use Rattle.std.proofs.Common.{◌≡◌, ℕ, ◌<◌, ◌≤◌, Bool, true, false, cond, inr, List, [], ◌∷◌, ◌++◌, refl, sym, ap, ◌∙◌, subst, arith, append-nil}
 use Rattle.std.specs.Prelude.{fold}
 use Rattle.swarm_model.proofs.Moves.Duties.{placed-most}
+use Rattle.swarm_model.proofs.Moves.Ids.{comes-next, times-becomes, times-with_row}
 use Rattle.swarm_model.proofs.Moves.Rows.{Becomes, becomes-change_any}
 use Rattle.swarm_model.proofs.Moves.Sessions.{opened, opened-rises}
 use Rattle.swarm_model.proofs.Moves.Tables.{moves-in_state}
@@ -11,7 +12,9 @@ use Rattle.swarm_objects.specs.Nodes.Opening.{TakenSoFar, fits_in, keep_or_rejec
 use Rattle.swarm_objects.proofs.Tests.{first_so}
 use Rattle.swarm_objects.specs.Changes.{in_state}
 use Rattle.swarm_objects.specs.Nodes.Holdings.{is_placed_on}
-use Rattle.swarm_objects.specs.Rows.{node_id}
+use Rattle.swarm_model.specs.Laws.Rises.{session_id}
+use Rattle.swarm_objects.specs.Nodes.Sessions.{new_session}
+use Rattle.swarm_objects.specs.Rows.{node_id, session_node, task_id}
 use Rattle.swarm_objects.specs.Tasks.Words.{is_on, is_placed}
 use Rattle.swarm_objects.specs.World.{Tables}
 use Rattle.swarm_objects.specs.declared.tasks.Task.{Task}
@@ -83,4 +86,13 @@ opening-moves version t node cpu mem is = record {
   networks = networks-stay t.networks;
   sessions = opened t node;
   opens = opened-rises t node is;
+  ids = λ i.
+      comes-next t.next_id i t.next_id _ _ refl (omega (
+        arith,
+        times-becomes node_id (SameId node_id) (λ x y e. e) i t.nodes _
+            (becomes-change_any (SameId node_id) node_id node (with_resources version cpu mem) t.nodes (λ n. refl)
+            (λ n h. refl)),
+        times-becomes task_id TaskMoves (λ x y m. m.id) i t.tasks _ (within-becomes version t.clock node cpu mem t.tasks),
+        times-with_row session_node session_id i (new_session t node) t.sessions,
+      ));
 }

@@ -3,6 +3,7 @@ use Rattle.std.proofs.Common.{Bool, Err, List, None, Ok, Option, Some, [], arith
 use Rattle.std.specs.Prelude.{false, find, is_none, not, ◌==◌}
 use Rattle.swarm_model.proofs.Base.Answers.{none_of, OnDone, OnGiven, given-found, given-unless, given-unless_some, ops-keep}
 use Rattle.swarm_model.proofs.Moves.EachDuty.{beside-moves, tables-moves}
+use Rattle.swarm_model.proofs.Moves.Ids.{comes-next, times-becomes, times-push}
 use Rattle.swarm_model.proofs.Moves.Rows.{Becomes, RisesBetween, becomes-filter, becomes-same, between-filter, between-push, rows-stay}
 use Rattle.swarm_model.proofs.Moves.Tables.{move-node_at, move-service, move-where, moves-in_state, rank-most}
 use Rattle.swarm_model.proofs.Moves.Worlds.{Any, ComesFrom, IsOrderly, IsSubnet, Moves, SameId, Stays, TablesMove, TaskMoves, moves-then, networks-stay, orderly-moves, sessions-same, tables-same, tables-then, task-same, turns-by, turns-ids, turns-more}
@@ -14,6 +15,7 @@ use Rattle.swarm_model.specs.Calls.Operations.{apply_op, apply_ops}
 use Rattle.swarm_model.specs.Calls.Refusals.{bad_spec, Done, conflict, network_by, node_by, service_by}
 use Rattle.swarm_objects.specs.Refusals.{first_refusal}
 use Rattle.swarm_model.specs.Calls.Services.{go_back, new_service, put_service, remove_service, rollback_service, update_service, with_service, without_service}
+use Rattle.swarm_model.specs.Laws.Rises.{session_id}
 use Rattle.swarm_objects.specs.NewRows.{respecified}
 use Rattle.swarm_objects.proofs.RowLemmas.{Has-filter_cases}
 use Rattle.swarm_objects.specs.Changes.{in_state, with_tables}
@@ -58,10 +60,12 @@ node-comes w n low id = record {
     networks = networks-stay w.tables.networks;
     sessions = sessions-same w.tables.sessions w.tables.next_id (w.tables.next_id + 1);
     opens = rows-stay session_node w.tables.next_id (w.tables.next_id + 1) w.tables.sessions (omega arith);
+    ids = λ i. comes-next w.tables.next_id i n.id _ _ id (omega (arith, times-push node_id i w.tables.nodes n));
   };
   watchers = turns-ids w.watchers;
   sent = rows-stay sent_node w.tables.next_id (w.tables.next_id + 1) w.sent (omega arith);
   agents = λ rises. agent-comes (not n.remote) w.tables.next_id n.id w.agents low id rises;
+  ids = λ i. comes-next w.tables.next_id i n.id _ _ id (omega (arith, times-push node_id i w.tables.nodes n));
 }
 
 service-comes : (t : Tables) (s : Service) → s.id ≡ t.next_id → TablesMove t (with_service t s)
@@ -75,6 +79,7 @@ service-comes t s id = record {
   networks = networks-stay t.networks;
   sessions = sessions-same t.sessions t.next_id (t.next_id + 1);
   opens = rows-stay session_node t.next_id (t.next_id + 1) t.sessions (omega arith);
+  ids = λ i. comes-next t.next_id i s.id _ _ id (omega (arith, times-push service_id i t.services s));
 }
 
 network-comes : (t : Tables) (n : Network) → n.id ≡ t.next_id → IsSubnet n → TablesMove t (with_network t n)
@@ -88,6 +93,7 @@ network-comes t n id subnet = record {
       (becomes-same Stays (λ x. refl) t.networks) id subnet;
   sessions = sessions-same t.sessions t.next_id (t.next_id + 1);
   opens = rows-stay session_node t.next_id (t.next_id + 1) t.sessions (omega arith);
+  ids = λ i. comes-next t.next_id i n.id _ _ id (omega (arith, times-push network_id i t.networks n));
 }
 
 -- a subnet that isn't refused breaks no rule
@@ -118,6 +124,13 @@ node-goes t id = record {
   networks = networks-stay t.networks;
   sessions = sessions-left id t.sessions t.next_id t.next_id;
   opens = between-filter session_node 1 t.next_id (λ s. not (session_node s == id)) t.sessions;
+  ids = λ i.
+      inl (omega (
+        arith,
+        times-becomes node_id (SameId node_id) (λ x y e. e) i t.nodes _ (dropped node_id id t.nodes),
+        times-becomes session_id (SameId session_id) (λ x y e. e) i t.sessions _
+            (becomes-filter (SameId session_id) (λ s. not (session_node s == id)) (λ s. refl) t.sessions),
+      ));
 }
 
 without-node : (version : ℕ) (t : Tables) (id : ℕ) → TablesMove t (tables_without_node version t id)
@@ -143,6 +156,8 @@ service-goes t id = record {
   networks = networks-stay t.networks;
   sessions = sessions-same t.sessions t.next_id t.next_id;
   opens = rows-stay session_node t.next_id t.next_id t.sessions (omega arith);
+  ids = λ i.
+      inl (omega (arith, times-becomes service_id (SameId service_id) (λ x y e. e) i t.services _ (dropped service_id id t.services)));
 }
 
 network-goes : (t : Tables) (id : ℕ) → TablesMove t (record t { networks = drop_row network_id id t.networks })
@@ -154,6 +169,8 @@ network-goes t id = record {
   networks = turns-by (becomes-filter Stays (λ n. not (network_id n == id)) (λ n. refl) t.networks);
   sessions = sessions-same t.sessions t.next_id t.next_id;
   opens = rows-stay session_node t.next_id t.next_id t.sessions (omega arith);
+  ids = λ i.
+      inl (omega (arith, times-becomes network_id (SameId network_id) (λ x y e. e) i t.networks _ (dropped network_id id t.networks)));
 }
 
 settings-move : (t : Tables) (settings : Settings) → TablesMove t (record t { settings = settings })
@@ -165,6 +182,7 @@ settings-move t settings = record {
   networks = networks-stay t.networks;
   sessions = sessions-same t.sessions t.next_id t.next_id;
   opens = rows-stay session_node t.next_id t.next_id t.sessions (omega arith);
+  ids = λ i. inl (omega arith);
 }
 
 -- Operations.

@@ -1,7 +1,9 @@
 -- A session opens, or a beat moves its deadline.
 use Rattle.std.proofs.Common.{◌≡◌, ℕ, ◌+◌, ◌<◌, ◌≤◌, Bool, true, false, cond, eqb, ltb, ◌⊎◌, inl, inr, List, [], ◌∷◌, refl, ap, arith}
+use Rattle.swarm_model.proofs.Moves.Ids.{comes-next, times-becomes, times-with_row}
 use Rattle.swarm_model.proofs.Moves.Rows.{RisesBetween, becomes-change_any, becomes-same, between-change, between-with_row, rows-stay}
 use Rattle.swarm_model.proofs.Moves.Worlds.{networks-stay, ComesFrom, SameId, TablesMove, TaskMoves, task-same, turns-by, turns-ids}
+use Rattle.swarm_model.specs.Laws.Rises.{session_id}
 use Rattle.swarm_objects.proofs.RowLemmas.{Has-map_cases}
 use Rattle.swarm_objects.specs.Loops.Agents.{after_beat, beaten}
 use Rattle.swarm_objects.specs.Nodes.Sessions.{new_session, ready_node, registered}
@@ -54,6 +56,13 @@ register-moves version t node is = record {
   networks = networks-stay t.networks;
   sessions = opened t node;
   opens = opened-rises t node is;
+  ids = λ i.
+      comes-next t.next_id i t.next_id _ _ refl (omega (
+        arith,
+        times-becomes node_id (SameId node_id) (λ x y e. e) i t.nodes _
+            (becomes-change_any (SameId node_id) node_id node (ready_node version) t.nodes (λ n. refl) (λ n h. refl)),
+        times-with_row session_node session_id i (new_session t node) t.sessions,
+      ));
 }
 
 beat-from : (t : Tables) (node : ℕ) (s : NodeSession) → Has (change_row session_node node (beaten t) t.sessions) s →
@@ -76,4 +85,10 @@ beat-moves t node = record {
   networks = networks-stay t.networks;
   sessions = beat-from t node;
   opens = between-change session_node 1 t.next_id node (beaten t) t.sessions (λ s. refl);
+  ids = λ i.
+      inl (omega (
+        arith,
+        times-becomes session_id (SameId session_id) (λ x y e. e) i t.sessions _
+            (becomes-change_any (SameId session_id) session_node node (beaten t) t.sessions (λ s. refl) (λ s h. refl)),
+      ));
 }

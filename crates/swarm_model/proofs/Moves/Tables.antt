@@ -1,7 +1,8 @@
 -- Moves of tables: one table changes, or a row comes.
-use Rattle.std.proofs.Common.{◌≡◌, ℕ, ◌+◌, ◌≤◌, Bool, true, false, cond, get_or, ltb, List, [], ◌∷◌, refl, ap, arith, Option, Some, None}
+use Rattle.std.proofs.Common.{inl, ◌≡◌, ℕ, ◌+◌, ◌≤◌, Bool, true, false, cond, get_or, ltb, List, [], ◌∷◌, refl, ap, arith, Option, Some, None}
 use Rattle.std.specs.Prelude.{map, not, ◌==◌}
 use Rattle.std.proofs.lemmas.Bool.Decides.{nat_tests}
+use Rattle.swarm_model.proofs.Moves.Ids.{comes-next, times-becomes, times-push}
 use Rattle.swarm_model.proofs.Moves.Rows.{Becomes, RisesBetween, becomes-change, becomes-change_any, becomes-change_at, becomes-filter, becomes-same, becomes-where, rows-stay}
 use Rattle.swarm_model.proofs.Moves.Worlds.{networks-stay, IsGood, SameId, TablesMove, TaskMoves, sessions-same, tables-same, task-moves, task-same, turns-by, turns-ids, turns-more}
 use Rattle.swarm_model.specs.Laws.Rises.{KeepsMaking}
@@ -105,6 +106,7 @@ move-tasks t tasks rows = record {
   networks = networks-stay t.networks;
   sessions = sessions-same t.sessions t.next_id t.next_id;
   opens = rows-stay session_node t.next_id t.next_id t.sessions (omega arith);
+  ids = λ i. inl (omega (arith, times-becomes task_id TaskMoves (λ x y m. m.id) i t.tasks tasks rows));
 }
 
 pub move-services : (t : Tables) (services : List Service) → Becomes (SameId service_id) [] t.services services →
@@ -117,6 +119,7 @@ move-services t services rows = record {
   networks = networks-stay t.networks;
   sessions = sessions-same t.sessions t.next_id t.next_id;
   opens = rows-stay session_node t.next_id t.next_id t.sessions (omega arith);
+  ids = λ i. inl (omega (arith, times-becomes service_id (SameId service_id) (λ x y e. e) i t.services services rows));
 }
 
 pub move-nodes : (t : Tables) (nodes : List Node) → Becomes (SameId node_id) [] t.nodes nodes →
@@ -129,6 +132,7 @@ move-nodes t nodes rows = record {
   networks = networks-stay t.networks;
   sessions = sessions-same t.sessions t.next_id t.next_id;
   opens = rows-stay session_node t.next_id t.next_id t.sessions (omega arith);
+  ids = λ i. inl (omega (arith, times-becomes node_id (SameId node_id) (λ x y e. e) i t.nodes nodes rows));
 }
 
 pub move-node : (t : Tables) (id : ℕ) (f : Node → Node) → ((n : Node) → (f n).id ≡ n.id) → TablesMove t (change_node id f t)
@@ -192,6 +196,7 @@ move-add t x id good = record {
   networks = networks-stay t.networks;
   sessions = sessions-same t.sessions t.next_id (t.next_id + 1);
   opens = rows-stay session_node t.next_id (t.next_id + 1) t.sessions (omega arith);
+  ids = λ i. comes-next t.next_id i x.id _ _ id (omega (arith, times-push task_id i t.tasks x));
 }
 
 pub move-new : (version : ℕ) (d : Desired) (t : Tables) (s : Service) (k : ℕ) → TablesMove t (with_new version d t s k)

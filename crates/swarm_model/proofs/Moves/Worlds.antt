@@ -1,6 +1,7 @@
 -- What a step does to a world: each table's rows change, go and come.
 use Rattle.std.proofs.Common.{true, ◌≡◌, ℕ, ◌+◌, ◌<◌, ◌≤◌, ◌⊎◌, inl, inr, List, [], ◌∷◌, ◌++◌, refl, sym, ap, ◌∙◌, subst, arith, Option, Some, None}
 use Rattle.std.specs.Prelude.{⊤}
+use Rattle.swarm_model.proofs.Moves.Ids.{Comes, comes-then, in_tables, in_world}
 use Rattle.swarm_model.proofs.Moves.Rows.{Becomes, RisesBetween, becomes-cases, becomes-more, becomes-same, becomes-then, between-becomes, rows-stay}
 use Rattle.swarm_model.specs.Laws.Rises.{KeepsMaking, KeepsNode, TaskRises}
 use Rattle.swarm_objects.specs.Rows.{Has, agent_node, network_id, node_id, sent_node, service_id, session_node, task_id, watcher_id}
@@ -126,6 +127,7 @@ pub record TablesMove (t u : Tables) : Type 0 where
   pub networks : Turns network_id Stays IsSubnet t.next_id u.next_id t.networks u.networks
   pub sessions : (s : NodeSession) → Has u.sessions s → ComesFrom t.sessions t.next_id u.next_id s
   pub opens : RisesBetween session_node 1 t.next_id t.sessions → RisesBetween session_node 1 u.next_id u.sessions
+  pub ids : (k : ℕ) → Comes t.next_id u.next_id k (in_tables k t) (in_tables k u)
 
 -- what was sent, and the agents, stand by rising node
 abbrev pub SentRise : World → Type 0
@@ -139,8 +141,9 @@ pub record Moves (w v : World) : Type 0 where
   pub watchers : Turns watcher_id (SameId watcher_id) Any w.tables.next_id v.tables.next_id w.watchers v.watchers
   pub sent : SentRise w → SentRise v
   pub agents : AgentsRise w → AgentsRise v
+  pub ids : (k : ℕ) → Comes w.tables.next_id v.tables.next_id k (in_world k w) (in_world k v)
 
--- what every world is: rows rise by numbers from 1 on, below the next one, and tasks are good
+-- what every world is: rows rise by numbers from 1 on, below the next one, no number is two rows' id, and tasks are good
 pub record IsOrderly (w : World) : Type 0 where
   pub next : 1 ≤ w.tables.next_id
   pub nodes : RisesBetween node_id 1 w.tables.next_id w.tables.nodes
@@ -151,6 +154,7 @@ pub record IsOrderly (w : World) : Type 0 where
   pub watchers : RisesBetween watcher_id 1 w.tables.next_id w.watchers
   pub sent : SentRise w
   pub agents : AgentsRise w
+  pub ids : (k : ℕ) → Comes 0 w.tables.next_id k 0 (in_world k w)
   pub good : (x : Task) → Has w.tables.tasks x → IsGood x
   pub subnets : (n : Network) → Has w.tables.networks n → IsSubnet n
 
@@ -221,6 +225,7 @@ tables-same t = record {
   networks = networks-stay t.networks;
   sessions = sessions-same t.sessions t.next_id t.next_id;
   opens = rows-stay session_node t.next_id t.next_id t.sessions (omega arith);
+  ids = λ i. inl (omega arith);
 }
 
 sessions-then : (a b c : List NodeSession) (next mid high : ℕ) → next ≤ mid → mid ≤ high →
@@ -254,6 +259,7 @@ tables-then t u v h k = record {
   sessions =
       sessions-then t.sessions u.sessions v.sessions t.next_id u.next_id v.next_id h.next k.next h.sessions k.sessions;
   opens = λ rises. k.opens (h.opens rises);
+  ids = λ i. comes-then t.next_id u.next_id v.next_id i _ _ _ h.next k.next (h.ids i) (k.ids i);
 }
 
 pub moves-then : (w v u : World) → Moves w v → Moves v u → Moves w u
@@ -264,6 +270,9 @@ moves-then w v u h k = record {
       h.tables.next k.tables.next h.watchers k.watchers;
   sent = λ rises. k.sent (h.sent rises);
   agents = λ rises. k.agents (h.agents rises);
+  ids = λ i.
+      comes-then w.tables.next_id v.tables.next_id u.tables.next_id i _ _ _ h.tables.next k.tables.next
+      (h.ids i) (k.ids i);
 }
 
 pub orderly-moves : (w v : World) → IsOrderly w → Moves w v → IsOrderly v
@@ -284,6 +293,9 @@ orderly-moves w v is m = record {
   sessions = m.tables.opens is.sessions;
   sent = m.sent is.sent;
   agents = m.agents is.agents;
+  ids = λ i.
+      comes-then 0 w.tables.next_id v.tables.next_id i 0 (in_world i w) (in_world i v) (omega arith) m.tables.next
+      (is.ids i) (m.ids i);
   good = λ y h.
       elim (becomes-cases TaskMoves m.tables.tasks.more w.tables.tasks v.tables.tasks m.tables.tasks.rows y h) [
         | inl r ↦ good-moves r.0 y r.2 (is.good r.0 r.1)

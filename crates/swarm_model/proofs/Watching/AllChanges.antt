@@ -1,15 +1,15 @@
 -- The events between two worlds are exactly the changes of their rows.
 use Rattle.std.proofs.Common.{◌≡◌, ◌≢◌, ℕ, Bool, true, false, cond, List, [], ◌∷◌, ◌++◌, refl, ap, sym, ◌∙◌, subst, Option, Some, None, ◌⊎◌, inl, inr}
-use Rattle.std.specs.Prelude.{fold, map}
+use Rattle.std.specs.Prelude.{map}
 use Rattle.std.specs.Bool.{Decides}
 use Rattle.swarm_model.proofs.Watching.Changes.{in_four, network_events, node_events, service_events, task_events}
 use Rattle.swarm_model.proofs.Watching.Content.{Decides-same_network, Decides-same_node, Decides-same_service, Decides-same_task}
 use Rattle.swarm_model.specs.Changed.{changes_between, event, events_of, row_events, verb_of}
 use Rattle.swarm_model.specs.Content.{same_network, same_node, same_service, same_task}
 use Rattle.swarm_model.specs.Events.{ChangesLaw, IsChange, IsVerb}
-use Rattle.swarm_objects.proofs.Gaps.{Has-with_number_keeps, Has-with_row}
+use Rattle.swarm_objects.proofs.Rising.{rising-has}
 use Rattle.swarm_objects.proofs.RowLemmas.{Has-append_left, Has-append_right, Has-flat_map, Has-flat_map_cases, Has-from_row_at, Has-map, Has-map_cases}
-use Rattle.swarm_objects.specs.Rows.{Has, itself, network_id, node_id, rising, row_at, service_id, task_id, with_number}
+use Rattle.swarm_objects.specs.Rows.{Has, network_id, node_id, rising, row_at, service_id, task_id}
 use Rattle.swarm_objects.specs.World.{Tables}
 use Rattle.swarm_objects.specs.declared.ids.Kind.{Kind}
 use Rattle.swarm_objects.specs.declared.ids.Kind.TheVariants as kind
@@ -70,14 +70,6 @@ there (Some x) new v is = inl (x, refl)
 
 -- All rows of a kind.
 
-rising-has : (ks acc : List ℕ) (k : ℕ) → Has acc k ⊎ Has ks k → Has (fold (λ js j. with_number j js) acc ks) k
-rising-has [] acc k (inl h) = h
-rising-has [] acc k (inr h) = absurd h
-rising-has (j ∷ ks) acc k (inl h) = rising-has ks (with_number j acc) k (inl (Has-with_number_keeps j k acc h))
-rising-has (j ∷ ks) acc k (inr (inl e)) =
-    rising-has ks (with_number j acc) k (inl (subst (Has (with_number j acc)) e (Has-with_row itself j acc)))
-rising-has (j ∷ ks) acc k (inr (inr h)) = rising-has ks (with_number j acc) k (inr h)
-
 key-has : {X : Type 0} (key : X → ℕ) (id : ℕ) (rows : List X) (x : X) → row_at key id rows ≡ Some x → Has (map key rows) id
 key-has key id rows x e =
     let r = Has-from_row_at key id rows x e in
@@ -94,7 +86,7 @@ keys-append key (x ∷ old) new id (inr h) = inr (keys-append key old new id (in
 id-has : {X : Type 0} (key : X → ℕ) (old new : List X) (id : ℕ) (v : Verb) → IsVerb (row_at key id old) (row_at key id new) v →
     Has (rising (map key (old ++ new))) id
 id-has key old new id v is =
-    rising-has (map key (old ++ new)) [] id (inr (keys-append key old new id (go (there _ _ v is))))
+    rising-has (map key (old ++ new)) id (keys-append key old new id (go (there _ _ v is)))
   where
     go : ((x : _) × (row_at key id old ≡ Some x)) ⊎ ((x : _) × (row_at key id new ≡ Some x)) →
         Has (map key old) id ⊎ Has (map key new) id

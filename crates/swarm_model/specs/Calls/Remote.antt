@@ -22,7 +22,6 @@ use Rattle.swarm_objects.specs.declared.replies.Reply.TheVariants as reply
 use Rattle.swarm_objects.specs.declared.replies.Wanted.TheVariants as wanted_by
 use Rattle.swarm_objects.specs.declared.tasks.Task.{Task}
 use Rattle.swarm_objects.specs.declared.tasks.TaskState.{TaskState}
-use Rattle.swarm_objects.specs.declared.tasks.TaskState.TheVariants as state
 
 -- Remote nodes.
 

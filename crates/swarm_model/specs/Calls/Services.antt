@@ -1,6 +1,6 @@
 -- The operations on services.
 use Rattle.swarm_objects.specs.NewRows.{first_service, respecified, same_mode}
-use Rattle.std.specs.Prelude.{ℕ, List, Option, Some, [], ◌∷◌, ◌+◌, not, flat_map, option_to_list, find, None, false, ◌++◌, length, Bool, Err, Ok, true, ◌==◌, filter}
+use Rattle.std.specs.Prelude.{ℕ, List, Option, Some, [], ◌∷◌, not, flat_map, option_to_list, find, None, false, ◌++◌, length, Bool, Err, Ok, true, ◌==◌, filter}
 use Rattle.swarm_model.specs.Calls.Refusals.{conflict, missing_network, port_taken, network_by, bad_spec, name_taken, service_by, too_many, Done}
 use Rattle.swarm_objects.specs.Refusals.{first_refusal, refuse, unless}
 use Rattle.swarm_objects.specs.World.{Tables, World}
@@ -15,7 +15,6 @@ use Rattle.swarm_objects.specs.Limits.{most_services}
 use Rattle.swarm_objects.specs.Rows.{network_id, service_id, drop_row}
 use Rattle.swarm_objects.specs.Rules.Services.{service_breaks, service_rules}
 use Rattle.swarm_objects.specs.declared.ids.Kind.TheVariants as kind
-use Rattle.swarm_objects.specs.declared.services.Mode.TheVariants as mode
 use Rattle.swarm_objects.specs.declared.services.ServiceSpec.{ServiceSpec}
 use Rattle.swarm_objects.specs.declared.tasks.Attempt.{Attempt}
 

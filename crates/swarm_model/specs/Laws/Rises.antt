@@ -1,5 +1,5 @@
--- Tasks rise, and no id comes back.
-use Rattle.std.specs.Prelude.{◌≡◌, None, Option, Some, ℕ, ⊤, ◌≤◌, ◌<◌, List, All, true, ◌⊎◌}
+-- Tasks rise, no id comes back, and none is shared.
+use Rattle.std.specs.Prelude.{AllPairs, map, ◌++◌, ◌≢◌, ◌≡◌, None, Option, Some, ℕ, ⊤, ◌≤◌, ◌<◌, List, All, true, ◌⊎◌}
 use Rattle.swarm_model.specs.History.{IsLegal}
 use Rattle.swarm_model.specs.Laws.Steps.{EachStep}
 use Rattle.swarm_objects.specs.Rows.{Has, has_row, watcher_id, network_id, node_id, service_id, task_id}
@@ -44,6 +44,16 @@ ComeAbove key next end old new = All (λ row. (has_row key (key row) old ≡ tru
 abbrev pub session_id : NodeSession → ℕ
 session_id s = s.session.id
 
+-- the ids of all that has one
+abbrev pub ids_of : World → List ℕ
+ids_of w =
+    map node_id w.tables.nodes ++ map service_id w.tables.services ++ map task_id w.tables.tasks
+    ++ map network_id w.tables.networks ++ map session_id w.tables.sessions ++ map watcher_id w.watchers
+
+-- no two things share an id, be they of one kind or of two
+abbrev pub NoIdIsShared : World → Type 0
+NoIdIsShared w = AllPairs (λ x y. x ≢ y) (ids_of w)
+
 pub record NoIdComesBack (old new : World) : Type 0 where
   pub nodes : ComeAbove node_id old.tables.next_id new.tables.next_id old.tables.nodes new.tables.nodes
   pub services : ComeAbove service_id old.tables.next_id new.tables.next_id old.tables.services new.tables.services
@@ -52,6 +62,7 @@ pub record NoIdComesBack (old new : World) : Type 0 where
   pub sessions : ComeAbove session_id old.tables.next_id new.tables.next_id old.tables.sessions new.tables.sessions
   pub watchers : ComeAbove watcher_id old.tables.next_id new.tables.next_id old.watchers new.watchers
   pub next_id : old.tables.next_id ≤ new.tables.next_id
+  pub apart : NoIdIsShared new
 
 pub record Rises (old new : World) : Type 0 where
   pub tasks : EachTaskRises old.tables.tasks new.tables.tasks

@@ -1,4 +1,4 @@
--- Facts that every world of a legal history keeps, on the way from the settle test to a match; each is a test.
+-- Tests that each world of the example histories passes. They are no laws: nothing says that every legal history passes them.
 use Rattle.std.specs.Prelude.{Bool, not, true, ◌||◌, nat_lt, ◌&&◌, ◌==◌, List, is_none, ℕ, nat_le, None, Option, Some, [], if◌then◌else◌, ◌∷◌, false}
 use Rattle.std.specs.List.{list_any, list_all}
 use Rattle.swarm_objects.specs.Agents.Messages.{names, sent_of, assigned_task}
