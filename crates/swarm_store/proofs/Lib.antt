@@ -4,11 +4,11 @@ pub mod Tracking
 pub mod Told
 pub mod Lookups
 pub mod Queries
-pub mod Rooms
 pub mod Standing
 pub mod Ops
 pub mod Orphans
 pub mod Ports
+pub mod Counting
 pub mod Least
 pub mod Transacting
 pub mod Usable

@@ -1,5 +1,5 @@
 -- Tasks that a node leaves behind, found one after the other.
-use Rattle.std.proofs.Common.{◌≡◌, ℕ, ◌<◌, ◌≤◌, Bool, true, false, cond, eqb, ltb, ◌⊎◌, inl, inr, List, [], ◌∷◌, Option, Some, None, refl, sym, ap, ◌∙◌, subst, arith}
+use Rattle.std.proofs.Common.{◌≡◌, ℕ, ◌<◌, ◌≤◌, Bool, true, false, cond, eqb, ltb, ◌⊎◌, inl, inr, List, [], ◌∷◌, Option, Some, None, refl, sym, ap, ◌∙◌, subst, arith, length}
 use Rattle.std.specs.Prelude.{◌&&◌, filter, is_some, map}
 use Rattle.std.specs.Option.{option_map}
 use Rattle.std.proofs.lemmas.Bool.Decides.{nat_tests}
@@ -12,7 +12,7 @@ use Rattle.swarm_objects.specs.declared.tasks.Task.{Task}
 use Rattle.swarm_objects.specs.declared.tasks.TaskState.TheVariants as state
 use Rattle.swarm_objects.specs.World.{Tables}
 use Rattle.swarm_store.proofs.ByKey.{at-with, rises-with, same-rows, with-put}
-use Rattle.swarm_store.proofs.Standing.{below-put, new-tasks, rises-put}
+use Rattle.swarm_store.proofs.Standing.{below-put, new-tasks, rises-put, same-count}
 use Rattle.swarm_store.specs.Inside.State.{Stands, with_changed}
 
 abbrev pub orphaned : ℕ → ℕ → ℕ → Task → Task
@@ -250,7 +250,8 @@ going-next version node after t0 t u x row is e changed next =
           left = left-put version t0.clock node after t.tasks new x (in_state version t0.clock state.Orphaned x) r (sym e) over refl
               (ap (λ k. with_row task_id (in_state version k state.Orphaned x) t.tasks) clock) ∙ is.left;
           stands = new-tasks t new (subst (RisesFrom task_id 0) (sym same) (rises-put task_id 0 put t.tasks r))
-              (subst (IsBelow task_id t.next_id) (sym same) (below-put task_id t.next_id put t.tasks is.stands.below.tasks)) is.stands;
+              (subst (IsBelow task_id t.next_id) (sym same) (below-put task_id t.next_id put t.tasks is.stands.below.tasks))
+              (omega (arith, ap length same, same-count task_id put t.tasks)) is.stands;
           rest = ap (λ (v : Tables). record v { tasks = new }) is.rest;
         }
     go false over = record {

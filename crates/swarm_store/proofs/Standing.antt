@@ -1,7 +1,9 @@
 -- Rows that stand in order stand so after every change.
-use Rattle.std.proofs.Common.{◌≡◌, ℕ, ◌+◌, ◌<◌, Bool, true, false, cond, eqb, ◌⊎◌, inl, inr, List, [], ◌∷◌, ◌++◌, Option, Some, None, refl, sym, ap, ◌∙◌, subst, arith}
+use Rattle.std.proofs.Common.{◌≡◌, ℕ, ◌+◌, ◌<◌, ◌≤◌, Bool, true, false, cond, eqb, ◌⊎◌, inl, inr, List, [], ◌∷◌, ◌++◌, length, Option, Some, None, refl, sym, ap, ◌∙◌, subst, arith}
 use Rattle.std.specs.Prelude.{is_some, filter}
 use Rattle.std.proofs.lemmas.Bool.Decides.{nat_tests}
+use Rattle.std.proofs.lemmas.List.{length-append, length-map}
+use Rattle.std.proofs.lemmas.List.Sums.{count_by-le-length, length-filter}
 use Rattle.swarm_objects.proofs.RowLemmas.{Has-from_row_at, IsBelow-map, IsBelow-more, RisesFrom-filter, RisesFrom-map, RisesFrom-push, number_above}
 use Rattle.swarm_objects.specs.Rows.{IsBelow, RisesFrom, drop_row, has_row, network_id, node_id, put_row, row_at, service_id, task_id, with_row}
 use Rattle.swarm_objects.specs.Sound.{IsBelowNext, IsOrdered}
@@ -22,12 +24,18 @@ use Rattle.swarm_store.specs.Inside.State.{Stands}
 
 -- One table.
 
-key-put : {X : Type 0} (key : X → ℕ) (new x : X) → key (cond (eqb (key x) (key new)) new x) ≡ key x
+pub key-put : {X : Type 0} (key : X → ℕ) (new x : X) → key (cond (eqb (key x) (key new)) new x) ≡ key x
 key-put key new x = go (eqb (key x) (key new)) refl
   where
     go : (b : Bool) → eqb (key x) (key new) ≡ b → key (cond b new x) ≡ key x
     go true e = grind (arith, nat_tests)
     go false e = refl
+
+pub same-count : {X : Type 0} (key : X → ℕ) (new : X) (rows : List X) → length (put_row key new rows) ≡ length rows
+same-count key new rows = length-map rows (λ x. cond (eqb (key x) (key new)) new x)
+
+pub few-left : {X : Type 0} (p : X → Bool) (rows : List X) → length (filter p rows) ≤ length rows
+few-left p rows = rw (length-filter p rows) (count_by-le-length p rows)
 
 pub rises-put : {X : Type 0} (key : X → ℕ) (n : ℕ) (new : X) (rows : List X) → RisesFrom key n rows →
     RisesFrom key n (put_row key new rows)
@@ -87,6 +95,7 @@ put-nodes t n is = record {
     networks = is.below.networks;
   };
   ids = is.ids;
+  few = (let was = is.few in omega (arith, was, same-count node_id n t.nodes));
 }
 
 put-services : (t : Tables) (s : Service) → Stands t → Stands (record t { services = put_row service_id s t.services })
@@ -105,11 +114,12 @@ put-services t s is = record {
     networks = is.below.networks;
   };
   ids = is.ids;
+  few = (let was = is.few in omega (arith, was, same-count service_id s t.services));
 }
 
-pub new-tasks : (t : Tables) (tasks : List Task) → RisesFrom task_id 0 tasks → IsBelow task_id t.next_id tasks → Stands t →
-    Stands (record t { tasks = tasks })
-new-tasks t tasks r b is = record {
+pub new-tasks : (t : Tables) (tasks : List Task) → RisesFrom task_id 0 tasks → IsBelow task_id t.next_id tasks →
+    length tasks ≤ length t.tasks → Stands t → Stands (record t { tasks = tasks })
+new-tasks t tasks r b le is = record {
   ordered = record {
     nodes = is.ordered.nodes;
     services = is.ordered.services;
@@ -124,6 +134,7 @@ new-tasks t tasks r b is = record {
     networks = is.below.networks;
   };
   ids = is.ids;
+  few = (let was = is.few in omega (arith, was, le));
 }
 
 task-comes : (t : Tables) (x : Task) → x.id ≡ t.next_id → Stands t → Stands (with_task t x)
@@ -145,6 +156,7 @@ task-comes t x e is =
         networks = more.networks;
       };
       ids = omega arith;
+      few = (let was = is.few in omega (arith, was, length-append t.tasks (x ∷ [])));
     }
 
 task-put : (t : Tables) (x : Task) → (has_row task_id x.id t.tasks ≡ true) ⊎ (x.id ≡ t.next_id) → Stands t → Stands (put_task t x)
@@ -154,7 +166,7 @@ task-put t x can is = go (has_row task_id x.id t.tasks) refl can
         Stands (cond b (record t { tasks = put_row task_id x t.tasks }) (with_task t x))
     go true e c =
         new-tasks t (put_row task_id x t.tasks) (rises-put task_id 0 x t.tasks is.ordered.tasks)
-        (below-put task_id t.next_id x t.tasks is.below.tasks) is
+        (below-put task_id t.next_id x t.tasks is.below.tasks) (omega (arith, same-count task_id x t.tasks)) is
     go false e (inl no') = absurd cc
     go false e (inr same) = task-comes t x same is
 
@@ -164,8 +176,9 @@ stands-change t (change.PutService s) is can = put-services t s is
 stands-change t (change.PutTask x) is can = task-put t x can is
 stands-change t (change.DropTask id) is can =
     new-tasks t (drop_row task_id id t.tasks) (RisesFrom-filter task_id 0 _ t.tasks is.ordered.tasks)
-    (below-filter task_id t.next_id _ t.tasks is.below.tasks) is
-stands-change t (change.Keep a) is can = record { ordered = again-ordered t.attempts; below = again-below; ids = is.ids }
+    (below-filter task_id t.next_id _ t.tasks is.below.tasks) (few-left _ t.tasks) is
+stands-change t (change.Keep a) is can =
+    record { ordered = again-ordered t.attempts; below = again-below; ids = is.ids; few = is.few }
   where
     again-ordered : {A : Type 0} → A → IsOrdered (apply_change t (change.Keep a))
     again-ordered _ = record {
@@ -257,18 +270,17 @@ changes-beside [] t = refl
 changes-beside (c ∷ cs) t = ap (λ u. apply_changes u cs) (change-beside t c) ∙ changes-beside cs (apply_change t c)
 
 pub applied-any : {A B : Type 0} (version : ℕ) (cs : List Change) (w : World) (before : Stored) (t u : Tables) (old events : List Event)
-    (n m : ℕ) (r : Result A B) → record { tables = t; changes = old; room = n } ≡ before → StandsFor before w →
+    (r : Result A B) → record { tables = t; changes = old } ≡ before → StandsFor before w →
     OnOk r ((u ≡ apply_changes t cs) × (events ≡ changes_between version t u)) → OnErr r ((u ≡ t) × (events ≡ old)) →
-    AppliesChanges version cs w before r (record { tables = u; changes = events; room = m })
-applied-any version cs w before t u old events n m (Ok x) view stands ok err =
+    AppliesChanges version cs w before r (record { tables = u; changes = events })
+applied-any version cs w before t u old events (Ok x) view stands ok err =
     let same : t ≡ without_sessions w.tables = ap (λ (s : Stored). s.tables) view ∙ stands in
     let made : u ≡ without_sessions (apply_changes w.tables cs) =
     ok.0 ∙ ap (λ v. apply_changes v cs) same ∙ changes-beside cs w.tables in
     (made, ok.1 ∙ ap (λ v. changes_between version v u) same ∙ ap (λ v. changes_between version (without_sessions w.tables) v) made)
-applied-any version cs w before t u old events n m (Err e) view stands ok err =
-    ap (λ v. record { tables = v; changes = events; room = m }) err.0
-    ∙ ap (λ es. record { tables = t; changes = es; room = m }) err.1
-    ∙ ap (λ (s : Stored). record s { room = m }) view
+applied-any version cs w before t u old events (Err e) view stands ok err =
+    ap (λ v. record { tables = v; changes = events }) err.0
+    ∙ ap (λ es. record { tables = t; changes = es }) err.1 ∙ view
 
 -- What changes besides rows.
 
@@ -283,6 +295,7 @@ stands-next t is = record {
   };
   below = more-below t is.below;
   ids = omega arith;
+  few = (let was = is.few in omega (arith, was));
 }
 
 pub stands-clock : (t : Tables) (clock : ℕ) → Stands t → Stands (record t { clock = clock })
@@ -301,6 +314,7 @@ stands-clock t clock is = record {
     networks = is.below.networks;
   };
   ids = is.ids;
+  few = is.few;
 }
 
 pub stands-empty : Stands empty_tables
@@ -308,4 +322,5 @@ stands-empty = record {
   ordered = record { nodes = tt; services = tt; tasks = tt; networks = tt; sessions = tt };
   below = record { nodes = tt; services = tt; tasks = tt; networks = tt };
   ids = omega arith;
+  few = omega arith;
 }

@@ -1,13 +1,13 @@
 -- Rows are put back as they were.
-use Rattle.std.proofs.Common.{◌≡◌, ℕ, ◌+◌, ◌-◌, ◌*◌, ◌<◌, ◌≤◌, Bool, true, false, cond, eqb, ltb, inl, inr, List, [], ◌∷◌, ◌++◌, length, Option, Some, None, refl, sym, ap, ◌∙◌, subst, arith}
+use Rattle.std.proofs.Common.{◌≡◌, ℕ, ◌+◌, ◌-◌, ◌<◌, ◌≤◌, Bool, true, false, cond, eqb, ltb, inl, inr, List, [], ◌∷◌, ◌++◌, length, Option, Some, None, refl, sym, ap, ◌∙◌, subst, arith}
 use Rattle.std.specs.Prelude.{drop, is_some, not, slice_get, suc, take}
 use Rattle.std.proofs.lemmas.Bool.Decides.{nat_tests}
 use Rattle.swarm_index.specs.Index.{RowsWithRoom}
 use Rattle.swarm_objects.proofs.Orders.{before-le, put_before}
 use Rattle.swarm_objects.proofs.RowLemmas.{Has-from_row_at, RisesFrom-filter, row_at-None_below}
-use Rattle.swarm_objects.specs.Rows.{Has, IsBelow, RisesFrom, drop_row, has_row, is_some_and, row_at, rows_before, with_row}
+use Rattle.swarm_objects.specs.Rows.{Has, IsRising, RisesFrom, drop_row, has_row, is_some_and, row_at, rows_before, with_number, with_row}
 use Rattle.swarm_store.proofs.ByKey.{at-drop, at-with, rises-with, same-rows}
-use Rattle.swarm_store.specs.Inside.Tracking.{AreImages, IsCounted, IsImage, IsTracked, Kept, before_id, put_back, remembered, restored}
+use Rattle.swarm_store.specs.Inside.Tracking.{AreImages, GoBackAsBefore, IsCounted, IsImage, IsTracked, before_id, put_back, remembered, restored}
 use Rattle.swarm_store.specs.declared.tracked.Before.{Before}
 
 abbrev before_row : {X : Type 0} → Before X → Option X
@@ -160,16 +160,10 @@ length-remembered b before = go (has_row before_id b.id before)
     go true = omega arith
     go false = length-with b before
 
--- so the places that were made are there still
 pub remembered-most : {X : Type 0} (b : Before X) (old made now : List (Before X)) → now ≡ remembered b made → made ≡ old →
     length now ≤ length old + 1
 remembered-most b old made now next same =
     let most = length-remembered b made in omega (arith, most, ap length next, ap length same)
-
-pub remembered-places : {X : Type 0} (b : Before X) (old made now : List (Before X)) (room before after : ℕ) →
-    now ≡ remembered b made → made ≡ old → length old + (room + 1) ≤ before → before ≤ after → length now + room ≤ after
-remembered-places b old made now room before after next same spare kept =
-    let most = remembered-most b old made now next same in omega (arith, most, spare, kept)
 
 is-image : {X : Type 0} (key : X → ℕ) (id : ℕ) (rows : List X) → IsImage key id (row_at key id rows)
 is-image key id [] = tt
@@ -284,23 +278,11 @@ at-most b before = before-le before_id b.id before
 
 -- One change.
 
-pub kept-room : {X : Type 0} (key : X → ℕ) (b0 b1 : List (Before X)) (r0 r1 : RowsWithRoom X) (n : ℕ) → IsTracked key b0 r0 n →
-    r1.rows ≡ r0.rows → b1 ≡ b0 → r0.room ≤ r1.room → Kept key b0 r0 b1 r1 n
-kept-room key b0 b1 r0 r1 n is rows before room = (
-  record {
-    rising = subst (RisesFrom key 0) (sym rows) is.rising;
-    ids = subst (RisesFrom before_id 0) (sym before) is.ids;
-    images = subst (AreImages key) (sym before) is.images;
-    room = (let was = is.room in omega (arith, was, room, ap length before));
-  },
-  ap (λ xs. restored key xs r1.rows) before ∙ ap (restored key b0) rows,
-)
-
-kept-step : {X : Type 0} (key : X → ℕ) (b : Before X) (b0 b1 b2 : List (Before X)) (r0 r1 r2 : RowsWithRoom X) (n : ℕ) →
-    IsTracked key b0 r0 n → r1.rows ≡ r0.rows → b1 ≡ b0 → length b0 + 2 * (n + 1) ≤ r1.room → 0 < b.id → b.row ≡ row_at key b.id r1.rows →
+kept-step : {X : Type 0} (key : X → ℕ) (b : Before X) (b0 b1 b2 : List (Before X)) (r0 r1 r2 : RowsWithRoom X) →
+    IsTracked key b0 r0 → r1.rows ≡ r0.rows → b1 ≡ b0 → length b0 + 2 ≤ r1.room → 0 < b.id → b.row ≡ row_at key b.id r1.rows →
     b2 ≡ remembered b b1 → r1.room ≤ r2.room + 1 → RisesFrom key 0 r2.rows →
-    ((i : ℕ) → eqb b.id i ≡ false → row_at key i r2.rows ≡ row_at key i r1.rows) → Kept key b0 r0 b2 r2 n
-kept-step key b b0 b1 b2 r0 r1 r2 n is rows before room lt was next left rising other =
+    ((i : ℕ) → eqb b.id i ≡ false → row_at key i r2.rows ≡ row_at key i r1.rows) → GoBackAsBefore key b0 r0 b2 r2
+kept-step key b b0 b1 b2 r0 r1 r2 is rows before room lt was next left rising other =
     let now : b2 ≡ remembered b b0 = next ∙ ap (remembered b) before in
     let was' : b.row ≡ row_at key b.id r0.rows = was ∙ ap (row_at key b.id) rows in (
       record {
@@ -314,23 +296,23 @@ kept-step key b b0 b1 b2 r0 r1 r2 n is rows before room lt was next left rising 
           (λ i e. other i e ∙ ap (row_at key i) rows),
     )
 
-pub kept-put : {X : Type 0} (key : X → ℕ) (row : X) (b : Before X) (b0 b1 b2 : List (Before X)) (r0 r1 r2 : RowsWithRoom X) (n : ℕ) →
-    IsTracked key b0 r0 n → r1.rows ≡ r0.rows → b1 ≡ b0 → length b0 + 2 * (n + 1) ≤ r1.room → 0 < key row → b.id ≡ key row →
+pub kept-put : {X : Type 0} (key : X → ℕ) (row : X) (b : Before X) (b0 b1 b2 : List (Before X)) (r0 r1 r2 : RowsWithRoom X) →
+    IsTracked key b0 r0 → r1.rows ≡ r0.rows → b1 ≡ b0 → length b0 + 2 ≤ r1.room → 0 < key row → b.id ≡ key row →
     b.row ≡ row_at key (key row) r1.rows → b2 ≡ remembered b b1 → r1.room ≤ r2.room + 1 → r2.rows ≡ with_row key row r1.rows →
-    Kept key b0 r0 b2 r2 n
-kept-put key row b b0 b1 b2 r0 r1 r2 n is rows before room lt id was next left put =
+    GoBackAsBefore key b0 r0 b2 r2
+kept-put key row b b0 b1 b2 r0 r1 r2 is rows before room lt id was next left put =
     let rises : RisesFrom key 0 r1.rows = subst (RisesFrom key 0) (sym rows) is.rising in
-    kept-step key b b0 b1 b2 r0 r1 r2 n is rows before room (omega (arith, lt, id)) (was ∙ ap (λ k. row_at key k r1.rows) (sym id))
+    kept-step key b b0 b1 b2 r0 r1 r2 is rows before room (omega (arith, lt, id)) (was ∙ ap (λ k. row_at key k r1.rows) (sym id))
     next left (subst (RisesFrom key 0) (sym put) (rises-with key 0 row r1.rows lt rises))
     (λ i e. ap (row_at key i) put ∙ put-other key row r1.rows i (ap (λ k. eqb k i) (sym id) ∙ e))
 
-pub kept-drop : {X : Type 0} (key : X → ℕ) (b : Before X) (b0 b1 b2 : List (Before X)) (r0 r1 r2 : RowsWithRoom X) (n : ℕ) →
-    IsTracked key b0 r0 n → r1.rows ≡ r0.rows → b1 ≡ b0 → length b0 + 2 * (n + 1) ≤ r1.room → 0 < b.id →
+pub kept-drop : {X : Type 0} (key : X → ℕ) (b : Before X) (b0 b1 b2 : List (Before X)) (r0 r1 r2 : RowsWithRoom X) →
+    IsTracked key b0 r0 → r1.rows ≡ r0.rows → b1 ≡ b0 → length b0 + 2 ≤ r1.room → 0 < b.id →
     b.row ≡ row_at key b.id r1.rows → b2 ≡ remembered b b1 → r1.room ≤ r2.room → r2.rows ≡ drop_row key b.id r1.rows →
-    Kept key b0 r0 b2 r2 n
-kept-drop key b b0 b1 b2 r0 r1 r2 n is rows before room lt was next left put =
+    GoBackAsBefore key b0 r0 b2 r2
+kept-drop key b b0 b1 b2 r0 r1 r2 is rows before room lt was next left put =
     let rises : RisesFrom key 0 r1.rows = subst (RisesFrom key 0) (sym rows) is.rising in
-    kept-step key b b0 b1 b2 r0 r1 r2 n is rows before room lt was next (omega (arith, left))
+    kept-step key b b0 b1 b2 r0 r1 r2 is rows before room lt was next (omega (arith, left))
     (subst (RisesFrom key 0) (sym put) (RisesFrom-filter key 0 _ r1.rows rises))
     (λ i e. ap (row_at key i) put ∙ drop-other key b.id r1.rows i e)
 
@@ -354,37 +336,26 @@ length-last [] x = refl
 length-last (y ∷ xs) x = (let more = length-last xs x in omega (arith, more))
 
 -- where all is put back
-pub tracked-none : {X : Type 0} (key : X → ℕ) (before now : List (Before X)) (rows : RowsWithRoom X) (n : ℕ) → now ≡ [] →
-    IsTracked key before rows n → IsTracked key now rows n
-tracked-none key before [] rows n none is =
-    record { rising = is.rising; ids = tt; images = tt; room = (let was = is.room in omega (arith, was)) }
-tracked-none key before (b ∷ now) rows n none is = absurd cc
+pub tracked-none : {X : Type 0} (key : X → ℕ) (before now : List (Before X)) (rows : RowsWithRoom X) → now ≡ [] →
+    IsTracked key before rows → IsTracked key now rows
+tracked-none key before [] rows none is =
+    record { rising = is.rising; ids = tt; images = tt; room = omega arith }
+tracked-none key before (b ∷ now) rows none is = absurd cc
 
 pub counted-back : {X : Type 0} (key : X → ℕ) (before now : List (Before X)) (rows new : RowsWithRoom X)
-    (count started places more n : ℕ) → IsCounted key before rows count started places n → new.rows ≡ restored key before rows.rows →
-    now ≡ [] → more ≡ places → IsTracked key now new n → IsCounted key now new started started more n
-counted-back key before [] rows new count started places more n is put none same tracked = record {
+    (count started : ℕ) → IsCounted key before rows count started → new.rows ≡ restored key before rows.rows →
+    now ≡ [] → IsTracked key now new → IsCounted key now new started started
+counted-back key before [] rows new count started is put none tracked = record {
   tracked = tracked;
   now = is.start ∙ sym (ap length put);
   start = is.start ∙ sym (ap length put);
-  places = (let was = is.places in omega (arith, was, same));
 }
-counted-back key before (b ∷ now) rows new count started places more n is put none same tracked = absurd cc
+counted-back key before (b ∷ now) rows new count started is put none tracked = absurd cc
 
--- with less room
-pub tracked-less : {X : Type 0} (key : X → ℕ) (before : List (Before X)) (rows : RowsWithRoom X) (m n : ℕ) → m ≤ n →
-    IsTracked key before rows n → IsTracked key before rows m
-tracked-less key before rows m n le is = record {
-  rising = is.rising;
-  ids = is.ids;
-  images = is.images;
-  room = (let was = is.room in omega (arith, was, le));
-}
-
-pub popped-tracked : {X : Type 0} (key : X → ℕ) (all left : List (Before X)) (b : Before X) (rows now : RowsWithRoom X) (n : ℕ) →
-    IsTracked key all rows n → all ≡ left ++ b ∷ [] → now.rows ≡ put_back key b rows.rows → rows.room ≤ now.room + 1 →
-    IsTracked key left now n
-popped-tracked key all left b rows now n is same put room =
+pub popped-tracked : {X : Type 0} (key : X → ℕ) (all left : List (Before X)) (b : Before X) (rows now : RowsWithRoom X) →
+    IsTracked key all rows → all ≡ left ++ b ∷ [] → now.rows ≡ put_back key b rows.rows → rows.room ≤ now.room + 1 →
+    IsTracked key left now
+popped-tracked key all left b rows now is same put room =
     let are : AreImages key (left ++ b ∷ []) = subst (AreImages key) same is.images in
     record {
       rising =
@@ -412,11 +383,16 @@ image-at key (c ∷ before) b (inr h) are = image-at key before b h are.2
 
 -- Counts.
 
-pub length-put : {X : Type 0} (key : X → ℕ) (n : ℕ) (new : X) (rows : List X) → RisesFrom key n rows →
+rising-rest : {X : Type 0} (key : X → ℕ) (n : ℕ) (rows : List X) → RisesFrom key n rows → IsRising key rows
+rising-rest key n [] r = tt
+rising-rest key n (x ∷ rows) r = r.1
+
+pub length-put-rising : {X : Type 0} (key : X → ℕ) (new : X) (rows : List X) → IsRising key rows →
     length (with_row key new rows) ≡ cond (has_row key (key new) rows) (length rows) (length rows + 1)
-length-put key n new [] r = refl
-length-put key n new (x ∷ rows) r =
-    go (ltb (key new) (key x)) refl (eqb (key new) (key x)) refl (eqb (key x) (key new)) refl (length-put key (key x) new rows r.1)
+length-put-rising key new [] r = refl
+length-put-rising key new (x ∷ rows) r =
+    go (ltb (key new) (key x)) refl (eqb (key new) (key x)) refl (eqb (key x) (key new)) refl
+    (length-put-rising key new rows (rising-rest key (key x) rows r))
   where
     go : (a : Bool) → ltb (key new) (key x) ≡ a → (b : Bool) → eqb (key new) (key x) ≡ b → (c : Bool) → eqb (key x) (key new) ≡ c →
         length (with_row key new rows) ≡ cond (has_row key (key new) rows) (length rows) (length rows + 1) →
@@ -425,7 +401,7 @@ length-put key n new (x ∷ rows) r =
     go true p b q true s below = absurd (grind (arith, nat_tests))
     go true p b q false s below =
         let lt : key new < key x = grind (arith, nat_tests) in
-        let none = row_at-None_below key (key x) (key new) rows r.1 (omega (arith, lt)) in
+        let none = row_at-None_below key (key x) (key new) rows r (omega (arith, lt)) in
         sym (ap (λ o. cond (is_some o) (length (x ∷ rows)) (length (x ∷ rows) + 1)) none ∙ omega arith)
     go false p true q true s below = refl
     go false p true q false s below = absurd (grind (arith, nat_tests))
@@ -436,6 +412,30 @@ length-put key n new (x ∷ rows) r =
             length (x ∷ with_row key new rows) ≡ cond h (length (x ∷ rows)) (length (x ∷ rows) + 1)
         last true e = omega (arith, e)
         last false e = omega (arith, e)
+
+pub length-put : {X : Type 0} (key : X → ℕ) (n : ℕ) (new : X) (rows : List X) → RisesFrom key n rows →
+    length (with_row key new rows) ≡ cond (has_row key (key new) rows) (length rows) (length rows + 1)
+length-put key n new rows r = length-put-rising key new rows (rising-rest key n rows r)
+
+pub length-with_number : (k : ℕ) (ks : List ℕ) → length (with_number k ks) ≤ length ks + 1
+length-with_number k [] = omega arith
+length-with_number k (j ∷ ks) = go (ltb k j) (eqb k j) (length-with_number k ks)
+  where
+    go : (a b : Bool) → length (with_number k ks) ≤ length ks + 1 →
+        length (cond a (k ∷ j ∷ ks) (cond b (k ∷ ks) (j ∷ with_number k ks))) ≤ length (j ∷ ks) + 1
+    go true b le = omega arith
+    go false true le = omega arith
+    go false false le = omega (arith, le)
+
+pub has-there : {X : Type 0} (key : X → ℕ) (rows : List X) (x : X) → Has rows x → has_row key (key x) rows ≡ true
+has-there key [] x h = absurd h
+has-there key (y ∷ rows) x h = go (eqb (key y) (key x)) refl h (has-there key rows x)
+  where
+    go : (b : Bool) → eqb (key y) (key x) ≡ b → Has (y ∷ rows) x → (Has rows x → has_row key (key x) rows ≡ true) →
+        is_some (cond b (Some y) (row_at key (key x) rows)) ≡ true
+    go true e h below = refl
+    go false e (inl same) below = absurd (grind (arith, nat_tests, ap key same))
+    go false e (inr there) below = below there
 
 has-length : {X : Type 0} (rows : List X) (x : X) → Has rows x → 0 < length rows
 has-length [] x h = absurd h
@@ -478,33 +478,7 @@ counted-put key row id count next rows new r same is counted put =
     ∙ ap (λ n. cond (has_row key (key row) rows) n (n + 1)) counted
     ∙ sym (ap length put ∙ length-put key 0 row rows r)
 
--- a row more can't be counted
-pub uncounted : {X : Type 0} (key : X → ℕ) (row : X) (id count most : ℕ) (rows : List X) → RisesFrom key 0 rows → id ≡ key row →
-    count ≡ length rows → has_row key id rows ≡ false → most ≤ count + 1 → most ≤ length (with_row key row rows)
-uncounted key row id count most rows r same counted new le =
-    let put : length (with_row key row rows) ≡ length rows + 1 =
-    length-put key 0 row rows r
-    ∙ ap (λ b. cond b (length rows) (length rows + 1)) (ap (λ k. has_row key k rows) (sym same) ∙ new) in
-    omega (arith, le, put, counted)
-
 pub counted-drop : {X : Type 0} (key : X → ℕ) (id count next : ℕ) (rows new : List X) → RisesFrom key 0 rows →
     next ≡ cond (has_row key id rows) (count - 1) count → count ≡ length rows → new ≡ drop_row key id rows → next ≡ length new
 counted-drop key id count next rows new r is counted put =
     is ∙ ap (λ n. cond (has_row key id rows) (n - 1) n) counted ∙ sym (ap length put ∙ length-drop_row key 0 id rows r)
-
-few-rows : {X : Type 0} (key : X → ℕ) (n bound : ℕ) (rows : List X) → RisesFrom key n rows → IsBelow key bound rows → n ≤ bound →
-    length rows + n ≤ bound
-few-rows key n bound [] r b le = omega (arith, le)
-few-rows key n bound (x ∷ rows) r b le =
-    let rest = few-rows key (key x) bound rows r.1 b.1 (omega (arith, b.0)) in omega (arith, rest, r.0)
-
--- ids run out before rows do
-pub too-long : {X : Type 0} (key : X → ℕ) (next most : ℕ) (row : X) (rows : List X) → RisesFrom key 0 rows → IsBelow key next rows →
-    most ≤ length (with_row key row rows) → most ≤ next + 1
-too-long key next most row rows r b le =
-    let few = few-rows key 0 next rows r b (omega arith) in
-    go (has_row key (key row) rows) few (length-put key 0 row rows r)
-  where
-    go : (h : Bool) → length rows + 0 ≤ next → length (with_row key row rows) ≡ cond h (length rows) (length rows + 1) → most ≤ next + 1
-    go true few e = omega (arith, few, e, le)
-    go false few e = omega (arith, few, e, le)

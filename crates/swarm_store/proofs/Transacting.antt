@@ -1,7 +1,8 @@
 -- Operations one after the other, and what a transaction makes of every world that a store stands for.
 use Rattle.std.proofs.Common.{◌≡◌, ℕ, ◌+◌, ◌<◌, ◌≤◌, Bool, true, false, cond, ◌⊎◌, inl, inr, List, [], ◌∷◌, ◌++◌, length, drop, get_or, Option, Some, None, Result, Ok, Err, OnOk, OnErr, refl, sym, ap, ◌∙◌, subst, arith}
-use Rattle.std.specs.Prelude.{filter, map, nat_lt}
+use Rattle.std.specs.Prelude.{filter, map, nat_lt, not, ◌==◌}
 use Rattle.std.proofs.lemmas.Bool.Decides.{nat_tests}
+use Rattle.std.proofs.lemmas.List.{length-append, length-map}
 use Rattle.swarm_model.proofs.Base.Answers.{OnDone, given-found, given-is, given-unless, given-unless_some}
 use Rattle.swarm_model.specs.Calls.{txn, txn_answer}
 use Rattle.swarm_model.specs.Calls.Networks.{new_network, remove_network}
@@ -31,11 +32,11 @@ use Rattle.swarm_model.proofs.Base.Updates.{next-done}
 use Rattle.swarm_objects.specs.Effects.{world_with}
 use Rattle.swarm_store.proofs.Beside.{same-ops}
 use Rattle.swarm_store.proofs.Orphans.{orphaned, orphaned-id}
-use Rattle.swarm_store.proofs.Standing.{below-filter, below-push, below-put, rises-put}
+use Rattle.swarm_store.proofs.Standing.{below-filter, below-push, below-put, few-left, rises-put, same-count}
 use Rattle.swarm_store.specs.Inside.Done.{made, made_all}
 use Rattle.swarm_store.specs.Inside.Ops.{Reached}
 use Rattle.swarm_store.specs.Inside.State.{Stands}
-use Rattle.swarm_store.specs.Stored.{StandsFor, Stored, Transacts, without_sessions}
+use Rattle.swarm_store.specs.Stored.{StandsFor, Stored, Transacts, row_count, without_sessions}
 
 -- Rows stand in order after each operation.
 
@@ -43,11 +44,13 @@ abbrev InRow : {X : Type 0} → (X → ℕ) → ℕ → List X → Type 0
 InRow key next rows = RisesFrom key 0 rows × IsBelow key next rows
 
 stand : (u : Tables) → InRow node_id u.next_id u.nodes → InRow service_id u.next_id u.services → InRow task_id u.next_id u.tasks →
-    InRow network_id u.next_id u.networks → RisesFrom session_node 0 u.sessions → 0 < u.next_id → Stands u
-stand u n s x k sessions ids = record {
+    InRow network_id u.next_id u.networks → RisesFrom session_node 0 u.sessions → 0 < u.next_id → row_count u < u.next_id →
+    Stands u
+stand u n s x k sessions ids few = record {
   ordered = record { nodes = n.0; services = s.0; tasks = x.0; networks = k.0; sessions = sessions };
   below = record { nodes = n.1; services = s.1; tasks = x.1; networks = k.1 };
   ids = ids;
+  few = few;
 }
 
 of-nodes : (t : Tables) → Stands t → InRow node_id t.next_id t.nodes
@@ -92,6 +95,7 @@ service-puts : (t : Tables) (s : Service) → Stands t → Stands (record t { se
 service-puts t s is =
     stand (record t { services = put_row service_id s t.services }) (of-nodes t is)
     (put-in service_id t.next_id s t.services (of-services t is)) (of-tasks t is) (of-networks t is) is.ordered.sessions is.ids
+    (let was = is.few in omega (arith, was, same-count service_id s t.services))
 
 back-stands : (version : ℕ) (w : World) (s : Service) (spec : Option ServiceSpec) → Standing w →
     OnDone Standing (go_back version w s spec)
@@ -105,13 +109,15 @@ op-stands version w (op.CreateNode name draft) is =
     (push-in node_id w.tables.next_id w.tables.nodes (new_node version w.tables.next_id name draft) refl is.ids (of-nodes w.tables is))
     (more-in service_id w.tables.next_id w.tables.services (of-services w.tables is))
     (more-in task_id w.tables.next_id w.tables.tasks (of-tasks w.tables is))
-    (more-in network_id w.tables.next_id w.tables.networks (of-networks w.tables is)) is.ordered.sessions (omega arith))
+    (more-in network_id w.tables.next_id w.tables.networks (of-networks w.tables is)) is.ordered.sessions (omega arith)
+    (let was = is.few in omega (arith, was, length-append w.tables.nodes (new_node version w.tables.next_id name draft ∷ []))))
 op-stands version w (op.UpdateNode name asked labels r a) is =
     given-found OpStands kind.Node (wanted_by.Name name) (node_by w.tables name)
     (λ n. update_node w asked n (respecified_node version labels r a n))
     (λ (n : Node) e. given-unless OpStands _ _
     (λ ok. stand _ (put-in node_id w.tables.next_id (respecified_node version labels r a n) w.tables.nodes (of-nodes w.tables is))
-    (of-services w.tables is) (of-tasks w.tables is) (of-networks w.tables is) is.ordered.sessions is.ids))
+    (of-services w.tables is) (of-tasks w.tables is) (of-networks w.tables is) is.ordered.sessions is.ids
+    (let was = is.few in omega (arith, was, same-count node_id (respecified_node version labels r a n) w.tables.nodes))))
 op-stands version w (op.RemoveNode name force) is =
     given-found OpStands kind.Node (wanted_by.Name name) (node_by w.tables name) (remove_node version w force)
     (λ (n : Node) e. given-unless OpStands _ _
@@ -119,13 +125,15 @@ op-stands version w (op.RemoveNode name force) is =
     (filter-in node_id w.tables.next_id _ w.tables.nodes (of-nodes w.tables is)) (of-services w.tables is)
     (map-in task_id w.tables.next_id (orphaned version w.tables.clock n.id) w.tables.tasks
     (orphaned-id version w.tables.clock n.id) (of-tasks w.tables is))
-    (of-networks w.tables is) (RisesFrom-filter session_node 0 _ w.tables.sessions is.ordered.sessions) is.ids))
+    (of-networks w.tables is) (RisesFrom-filter session_node 0 _ w.tables.sessions is.ordered.sessions) is.ids
+    (let was = is.few in omega (arith, was, few-left (λ (row : Node). not (node_id row == n.id)) w.tables.nodes, length-map w.tables.tasks (orphaned version w.tables.clock n.id)))))
 op-stands version w (op.CreateService name d) is =
     given-unless OpStands _ _
     (λ e. stand _ (more-in node_id w.tables.next_id w.tables.nodes (of-nodes w.tables is))
     (push-in service_id w.tables.next_id w.tables.services (new_service version w.tables name d) refl is.ids (of-services w.tables is))
     (more-in task_id w.tables.next_id w.tables.tasks (of-tasks w.tables is))
-    (more-in network_id w.tables.next_id w.tables.networks (of-networks w.tables is)) is.ordered.sessions (omega arith))
+    (more-in network_id w.tables.next_id w.tables.networks (of-networks w.tables is)) is.ordered.sessions (omega arith)
+    (let was = is.few in omega (arith, was, length-append w.tables.services (new_service version w.tables name d ∷ []))))
 op-stands version w (op.UpdateService name asked d) is =
     given-found OpStands kind.Service (wanted_by.Name name) (service_by w.tables name) (update_service version w asked d)
     (λ (s : Service) e. given-unless OpStands _ _
@@ -134,7 +142,8 @@ op-stands version w (op.RemoveService name) is =
     given-found OpStands kind.Service (wanted_by.Name name) (service_by w.tables name) (remove_service w)
     (λ (s : Service) e.
     stand _ (of-nodes w.tables is) (filter-in service_id w.tables.next_id _ w.tables.services (of-services w.tables is))
-    (of-tasks w.tables is) (of-networks w.tables is) is.ordered.sessions is.ids)
+    (of-tasks w.tables is) (of-networks w.tables is) is.ordered.sessions is.ids
+    (let was = is.few in omega (arith, was, few-left (λ (row : Service). not (service_id row == s.id)) w.tables.services)))
 op-stands version w (op.RollbackService name asked) is =
     given-found OpStands kind.Service (wanted_by.Name name) (service_by w.tables name) (rollback_service version w asked)
     (λ (s : Service) e. given-unless_some OpStands (conflict asked s.version) _ (λ ok. back-stands version w s s.previous is))
@@ -144,16 +153,18 @@ op-stands version w (op.CreateNetwork name base bits) is =
     (more-in service_id w.tables.next_id w.tables.services (of-services w.tables is))
     (more-in task_id w.tables.next_id w.tables.tasks (of-tasks w.tables is))
     (push-in network_id w.tables.next_id w.tables.networks (new_network version w.tables.next_id name base bits) refl is.ids
-    (of-networks w.tables is)) is.ordered.sessions (omega arith))
+    (of-networks w.tables is)) is.ordered.sessions (omega arith)
+    (let was = is.few in omega (arith, was, length-append w.tables.networks (new_network version w.tables.next_id name base bits ∷ []))))
 op-stands version w (op.RemoveNetwork name) is =
     given-found OpStands kind.Network (wanted_by.Name name) (network_by w.tables name) (remove_network w)
     (λ (n : Network) e. given-unless OpStands _ _
     (λ ok. stand _ (of-nodes w.tables is) (of-services w.tables is) (of-tasks w.tables is)
-    (filter-in network_id w.tables.next_id _ w.tables.networks (of-networks w.tables is)) is.ordered.sessions is.ids))
+    (filter-in network_id w.tables.next_id _ w.tables.networks (of-networks w.tables is)) is.ordered.sessions is.ids
+    (let was = is.few in omega (arith, was, few-left (λ (row : Network). not (network_id row == n.id)) w.tables.networks))))
 op-stands version w (op.SetCluster settings) is =
     given-unless OpStands _ _
     (λ e. stand _ (of-nodes w.tables is) (of-services w.tables is) (of-tasks w.tables is) (of-networks w.tables is)
-    is.ordered.sessions is.ids)
+    is.ordered.sessions is.ids is.few)
 
 -- One operation.
 
@@ -184,7 +195,7 @@ next-stands version t u o id is done =
     given-is OpStands (apply_op version (world_with t) o) (gave.after, id) (op-stands version (world_with t) o is) gave.done in
     subst Stands gave.same
     (stand (without_sessions gave.after.tables) (of-nodes gave.after.tables stands) (of-services gave.after.tables stands)
-    (of-tasks gave.after.tables stands) (of-networks gave.after.tables stands) tt stands.ids)
+    (of-tasks gave.after.tables stands) (of-networks gave.after.tables stands) tt stands.ids stands.few)
 
 -- All of them.
 
@@ -248,11 +259,11 @@ too-many version w ops before many = (
 )
 
 pub transacted-any : (version : ℕ) (ops : List Op) (w : World) (before : Stored) (t u : Tables) (old events : List Event)
-    (n : ℕ) (r : Result (List ℕ) Refusal) → record { tables = t; changes = old; room = n } ≡ before → StandsFor before w →
+    (r : Result (List ℕ) Refusal) → record { tables = t; changes = old } ≡ before → StandsFor before w →
     nat_lt most_ops (length ops) ≡ false → Reached (made_all (apply_ops version ops (world_with t) [])) r u →
     OnOk r (events ≡ changes_between version t u) → OnErr r ((u ≡ t) × (events ≡ old)) →
-    Transacts version ops w before r (record { tables = u; changes = events; room = n })
-transacted-any version ops w before t u old events n (Ok ids) view stands few done ok err =
+    Transacts version ops w before r (record { tables = u; changes = events })
+transacted-any version ops w before t u old events (Ok ids) view stands few done ok err =
     let same : t ≡ without_sessions w.tables = ap (λ (s : Stored). s.tables) view ∙ stands in
     let here = same-ops version ops w (world_with t) [] (sym (ap without_sessions same)) ∙ done in
     let gave = inv-made_all (apply_ops version ops w []) u ids here in (
@@ -261,12 +272,11 @@ transacted-any version ops w before t u old events n (Ok ids) view stands few do
       sym gave.same,
       ok ∙ ap (λ v. changes_between version v u) same
           ∙ ap (λ v. changes_between version (without_sessions w.tables) v) (sym gave.same),
-      ap (λ (s : Stored). s.room) view,
     )
-transacted-any version ops w before t u old events n (Err r) view stands few done ok err = (
+transacted-any version ops w before t u old events (Err r) view stands few done ok err = (
   why done,
-  ap (λ v. record { tables = v; changes = events; room = n }) err.0
-      ∙ ap (λ es. record { tables = t; changes = es; room = n }) err.1 ∙ view,
+  ap (λ v. record { tables = v; changes = events }) err.0
+      ∙ ap (λ es. record { tables = t; changes = es }) err.1 ∙ view,
 )
   where
     why : (r ≡ refusal.NoMemory) ⊎ (made_all (apply_ops version ops (world_with t) []) ≡ Err r) →

@@ -21,7 +21,7 @@ use Rattle.swarm_objects.specs.declared.calls.What.TheVariants as what
 use Rattle.swarm_objects.specs.declared.replies.Refusal.{Refusal}
 use Rattle.swarm_objects.specs.declared.replies.Reply.TheVariants as reply
 use Rattle.swarm_objects.specs.Usable.{IsUsable}
-use Rattle.swarm_store.specs.Followed.{Follows, UsableStoreLaw}
+use Rattle.swarm_store.specs.Followed.{StandsAfter, UsableStoreLaw}
 use Rattle.swarm_store.specs.Stored.{HasNearTasks, StandsFor, Stored, Transacts, without_sessions}
 
 pub usable_store : UsableStoreLaw
@@ -59,21 +59,21 @@ usable_store h s legal stands =
     } in
     subst IsUsable (sym stands) usable
 
-pub usable_follows : (n : ℕ) (s : Stored) → Follows n s → IsUsable s.tables
+pub usable_follows : (n : ℕ) (s : Stored) → StandsAfter n s → IsUsable s.tables
 usable_follows n s is = usable_store is.history s is.legal is.stands
 
-pub near_follows : (n : ℕ) (s : Stored) → Follows n s → HasNearTasks s.tables
+pub near_follows : (n : ℕ) (s : Stored) → StandsAfter n s → HasNearTasks s.tables
 near_follows n s is =
     let usable = usable_follows n s is in
     record { next_id = usable.next_id; times = usable.times.tasks }
 
-pub new_follows : (s : Stored) → s.tables ≡ empty_tables → Follows 0 s
+pub new_follows : (s : Stored) → s.tables ≡ empty_tables → StandsAfter 0 s
 new_follows s new = record { history = []; legal = tt; count = refl; running = refl; stands = new }
 
 -- A further entry.
 
-follow : (n : ℕ) (s u : Stored) (c : Call) (is : Follows n s) → n < 1000 → is_halt c ≡ false →
-    StandsFor u (call_outcome (replay is.history) c).after → Follows (n + 1) u
+follow : (n : ℕ) (s u : Stored) (c : Call) (is : StandsAfter n s) → n < 1000 → is_halt c ≡ false →
+    StandsFor u (call_outcome (replay is.history) c).after → StandsAfter (n + 1) u
 follow n s u c is few halts stands =
     let e : Entry = record { by = 0; what = what.Call c } in
     let w = replay is.history in
@@ -87,8 +87,8 @@ follow n s u c is few halts stands =
       stands = stands ∙ ap (λ (v : World). without_sessions v.tables) (sym next);
     }
 
-pub txn_follows : (n : ℕ) (ops : List Op) (s u : Stored) (r : Result (List ℕ) Refusal) → Follows n s → n < 1000 →
-    ((w : World) → StandsFor s w → Transacts (n + 1) ops w s r u) → Follows (n + 1) u
+pub txn_follows : (n : ℕ) (ops : List Op) (s u : Stored) (r : Result (List ℕ) Refusal) → StandsAfter n s → n < 1000 →
+    ((w : World) → StandsFor s w → Transacts (n + 1) ops w s r u) → StandsAfter (n + 1) u
 txn_follows n ops s u (Ok ids) is few did =
     let w = replay is.history in
     let made = did w is.stands in

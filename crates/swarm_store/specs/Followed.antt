@@ -10,7 +10,7 @@ abbrev pub UsableStoreLaw : Type 0
 UsableStoreLaw = (h : List Entry) (s : Stored) → IsLegal h → StandsFor s (replay h) → IsUsable s.tables
 
 -- it stands for the world of a legal history of so many entries, and more may follow
-pub record Follows (n : ℕ) (s : Stored) : Type 0 where
+pub record StandsAfter (n : ℕ) (s : Stored) : Type 0 where
   pub history : List Entry
   pub legal : IsLegal history
   pub count : length history ≡ n

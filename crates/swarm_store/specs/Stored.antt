@@ -1,5 +1,5 @@
 -- What a store holds, and the worlds that it stands for.
-use Rattle.std.specs.Prelude.{◌≡◌, ◌⊎◌, ◌<◌, ℕ, true, List, [], Result, Ok, Err}
+use Rattle.std.specs.Prelude.{◌≡◌, ◌⊎◌, ◌<◌, ◌+◌, ℕ, true, List, [], length, Result, Ok, Err}
 use Rattle.std.specs.List.{list_all}
 use Rattle.swarm_model.specs.Calls.{txn}
 use Rattle.swarm_model.specs.Calls.Views.{shows}
@@ -22,12 +22,14 @@ pub record Stored : Type 0 where
   pub tables : Tables
   -- the events of the last accepted change
   pub changes : List Event
-  -- how many changes of duties more can't want memory
-  pub room : ℕ
 
 -- the tables but for the sessions, of which a store knows nothing
 abbrev pub without_sessions : Tables → Tables
 without_sessions t = record t { sessions = [] }
+
+-- how many objects there are
+abbrev pub row_count : Tables → ℕ
+row_count t = length t.nodes + length t.services + length t.tasks + length t.networks
 
 -- the next id and the times of tasks are below 2^60, as every call may take for granted
 pub record HasNearTasks (t : Tables) : Type 0 where
@@ -42,7 +44,7 @@ StandsFor s w = s.tables ≡ without_sessions w.tables
 abbrev pub Transacts : ℕ → List Op → World → Stored → Result (List ℕ) Refusal → Stored → Type 0
 Transacts version ops w before (Ok ids) after =
     (v : World) × (txn version w ops ≡ Ok (reply.Txn ids, v)) × StandsFor after v
-    × (after.changes ≡ changes_between version w.tables v.tables) × (after.room ≡ before.room)
+    × (after.changes ≡ changes_between version w.tables v.tables)
 Transacts version ops w before (Err r) after =
     ((r ≡ refusal.NoMemory) ⊎ (txn version w ops ≡ Err r)) × (after ≡ before)
 
@@ -56,4 +58,4 @@ abbrev pub AppliesChanges : {A B : Type 0} → ℕ → List Change → World →
 AppliesChanges version cs w before (Ok done) after =
     StandsFor after (with_tables w (apply_changes w.tables cs))
     × (after.changes ≡ changes_between version w.tables (apply_changes w.tables cs))
-AppliesChanges version cs w before (Err e) after = after ≡ record before { room = after.room }
+AppliesChanges version cs w before (Err e) after = after ≡ before

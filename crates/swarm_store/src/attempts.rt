@@ -1,72 +1,44 @@
 // The attempts to restart tasks, under change.
-ghost use Rattle.std.specs.Prelude.{◌≡◌, ◌≤◌, ◌+◌, ◌++◌, ◌∷◌, IfOk, OnErr, OnOk, [], count_by, filter, not};
+ghost use Rattle.std.specs.Prelude.{◌≡◌, ◌++◌, ◌∷◌, IfOk, OnErr, OnOk, [], count_by, filter, not};
 ghost use Rattle.swarm_model.specs.Calls.Services.{is_attempt_of};
 ghost use Rattle.swarm_objects.specs.Tasks.Attempts.{is_kept_attempt};
-ghost use Rattle.swarm_store.specs.Inside.Attempts.{HasPlaces};
 
 use std::alloc::Global;
 use std::marker::Model;
 use std::mem::replace;
 use swarm_objects::{Attempt, Id, Ms, NoMemory, Place, Version};
 
-// The attempts; and what they were when the changes under way began: their first so many, unless some went. There are
-// places for as many more as `room` says.
+// The attempts; and what they were when the changes under way began: their first so many, unless some went.
 #[derive(Drop)]
 pub(crate) struct Attempts {
     rows: Vec<Attempt>,
     count: usize,
     before: Option<Vec<Attempt>>,
-    room: u64,
 }
 
 impl Model for Attempts {
+    ghost use Rattle.std.specs.Prelude.{◌≤◌, length};
     ghost use Rattle.swarm_objects.specs.declared.tasks.Attempt.{Attempt as Row};
     ghost use Rattle.swarm_store.specs.Inside.Span.{Span};
-    ghost use Rattle.swarm_store.specs.Inside.Attempts.{AreAttempts, started};
+    ghost use Rattle.swarm_store.specs.Inside.Attempts.{started};
 
     ghost Value = { Span Row };
 
-    ghost view = { λ a. record {
-      start = started a.before a.count a.rows.items;
-      rows = a.rows.items;
-      room = a.room;
-    } };
+    ghost view = { λ a. record { start = started a.before a.count a.rows.items; rows = a.rows.items } };
 
-    ghost invariant = { λ a. AreAttempts a.rows a.count a.before a.room };
+    ghost invariant = { λ a. a.count ≤ length a.rows.items };
 }
 
 impl Attempts {
     pub(crate) fn new(alloc: Global) -> Attempts
         ensures start { result.start ≡ [] }
         ensures rows { result.rows ≡ [] }
-        ensures room { result.room ≡ 0 }
     {
         Attempts {
             rows: Vec::new(alloc),
             count: 0,
             before: None,
-            room: 0,
         }
-    }
-
-    // Makes the room at least `n`, unless memory is wanting; it isn't made while the changes under way took some out.
-    pub(crate) fn reserve(&mut self, n: u64) -> Result<(), NoMemory>
-        ensures ok { OnOk result (n ≤ self.new.room) }
-        ensures room { self.old.room ≤ self.new.room }
-        ensures rows { self.new.rows ≡ self.old.rows }
-        ensures start { self.new.start ≡ self.old.start }
-    {
-        if n <= self.room {
-            return Ok(());
-        }
-        if self.before.is_some() {
-            return Err(NoMemory);
-        }
-        let Ok(()) = self.rows.reserve(n as usize) else {
-            return Err(NoMemory);
-        };
-        self.room = n;
-        Ok(())
     }
 
     // How many there were of this place and version of the service within the window.
@@ -95,10 +67,7 @@ impl Attempts {
         ensures ok { OnOk result (self.new.rows ≡ self.old.rows ++ attempt ∷ []) }
         ensures err { OnErr result (self.new.rows ≡ self.old.rows) }
         ensures start { self.new.start ≡ self.old.start }
-        ensures room { self.old.room ≤ self.new.room + 1 }
-        ensures full { OnErr result (self.old.room ≡ 0) }
     {
-        self.room = self.room.saturating_sub(1);
         match self.rows.push(attempt) {
             Ok(()) => Ok(()),
             Err(_) => Err(NoMemory),
@@ -109,9 +78,8 @@ impl Attempts {
     pub(crate) fn forget(&mut self, alloc: Global, service: Id) -> Result<(), NoMemory>
         ensures ok { OnOk result (self.new.rows ≡ filter (λ a. not (is_attempt_of service a)) self.old.rows) }
         ensures start { self.new.start ≡ self.old.start }
-        ensures room { self.new.room ≡ self.old.room }
     {
-        let left = without_service(alloc, self.rows.as_slice(), service, self.room)?;
+        let left = without_service(alloc, self.rows.as_slice(), service)?;
         let mut all = replace(&mut self.rows, left);
         if self.before.is_none() {
             all.truncate(self.count);
@@ -124,7 +92,6 @@ impl Attempts {
     pub(crate) fn settle(&mut self)
         ensures rows { self.new.rows ≡ self.old.rows }
         ensures start { self.new.start ≡ self.old.rows }
-        ensures room { self.new.room ≡ self.old.room }
     {
         self.count = self.rows.len();
         self.before = None;
@@ -133,7 +100,6 @@ impl Attempts {
     pub(crate) fn take_back(&mut self)
         ensures rows { self.new.rows ≡ self.old.start }
         ensures start { self.new.start ≡ self.old.start }
-        ensures room { self.new.room ≡ self.old.room }
     {
         match replace(&mut self.before, None) {
             Some(before) => self.rows = before,
@@ -143,20 +109,15 @@ impl Attempts {
     }
 }
 
-// The attempts that aren't of this service, with places for so many more.
+// The attempts that aren't of this service.
 fn without_service(
     alloc: Global,
     attempts: &[Attempt],
     service: Id,
-    room: u64,
 ) -> Result<Vec<Attempt>, NoMemory>
-    ensures left { IfOk result (λ left. left.items ≡ filter (λ a. not (is_attempt_of service a)) attempts.now) }
-    ensures places { IfOk result (λ left. HasPlaces room left) }
+    ensures { IfOk result (λ left. left.items ≡ filter (λ a. not (is_attempt_of service a)) attempts.now) }
 {
-    let Some(places) = attempts.len().checked_add(room as usize) else {
-        return Err(NoMemory);
-    };
-    let Ok(mut left) = Vec::with_capacity(alloc, places) else {
+    let Ok(mut left) = Vec::with_capacity(alloc, attempts.len()) else {
         return Err(NoMemory);
     };
     for attempt in attempts {

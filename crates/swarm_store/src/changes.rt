@@ -1,12 +1,10 @@
 // Changes of duties, one after the other.
-ghost use Rattle.std.specs.Prelude.{◌≡◌, ◌<◌, ◌≤◌, ◌+◌, ◌^◌, ℕ, OnErr, OnOk, length, true};
-ghost use Rattle.std.specs.Vec.{vec_capacity};
+ghost use Rattle.std.specs.Prelude.{◌≡◌, ◌≤◌, ◌+◌, OnErr, OnOk, length, true};
 ghost use Rattle.swarm_model.specs.Changed.{changes_between};
 ghost use Rattle.swarm_objects.specs.Rows.{has_row, node_id, service_id, task_id};
 ghost use Rattle.swarm_objects.specs.Tasks.New.{with_task};
 ghost use Rattle.swarm_objects.specs.ChangeLists.{CanApply, CanApplyAll, apply_change, apply_changes, put_task};
-ghost use Rattle.swarm_store.specs.Inside.State.{Draws, DrawsAll, HasRooms, IsSettled, Stands, changed_rows};
-ghost use Rattle.swarm_store.specs.Inside.State.{origin, tables_now, tables_start};
+ghost use Rattle.swarm_store.specs.Inside.State.{IsUntouched, Stands, changed_rows, tables_now, tables_start};
 
 use crate::state::State;
 use std::collections::VecDeque;
@@ -20,10 +18,10 @@ impl State {
         requires stands { Stands (tables_now self.old) }
         requires there { has_row node_id node.id self.old.nodes.rows ≡ true }
         ensures ok { OnOk result (tables_now self.new ≡ apply_change (tables_now self.old) (Change.PutNode node)) }
-        ensures draws { Draws self.old self.new }
-        ensures full { OnErr result (HasRooms 1 self.old → 2 ^ 64 ≤ self.old.next_id + 1) }
+        ensures start { tables_start self.new ≡ tables_start self.old }
+        ensures changed { changed_rows self.new ≤ changed_rows self.old + 1 }
     {
-        self.nodes.put_within(node)
+        self.nodes.put(node)
     }
 
     // A service takes the place of the one with its id.
@@ -32,10 +30,10 @@ impl State {
         requires there { has_row service_id service.id self.old.services.rows ≡ true }
         ensures ok { OnOk result (
             tables_now self.new ≡ apply_change (tables_now self.old) (Change.PutService service)) }
-        ensures draws { Draws self.old self.new }
-        ensures full { OnErr result (HasRooms 1 self.old → 2 ^ 64 ≤ self.old.next_id + 1) }
+        ensures start { tables_start self.new ≡ tables_start self.old }
+        ensures changed { changed_rows self.new ≤ changed_rows self.old + 1 }
     {
-        self.services.put_within(service)
+        self.services.put(service)
     }
 
     fn has_task(&self, id: Id) -> bool
@@ -52,10 +50,10 @@ impl State {
         requires stands { Stands (tables_now self.old) }
         requires there { has_row task_id task.id self.old.tasks.rows ≡ true }
         ensures ok { OnOk result (tables_now self.new ≡ put_task (tables_now self.old) task) }
-        ensures draws { Draws self.old self.new }
-        ensures full { OnErr result (HasRooms 1 self.old → 2 ^ 64 ≤ self.old.next_id + 1) }
+        ensures start { tables_start self.new ≡ tables_start self.old }
+        ensures changed { changed_rows self.new ≤ changed_rows self.old + 1 }
     {
-        self.tasks.put_within(task)
+        self.tasks.put(task)
     }
 
     // A task comes, with the next id.
@@ -63,13 +61,13 @@ impl State {
         requires stands { Stands (tables_now self.old) }
         requires id { task.id ≡ self.old.next_id }
         ensures ok { OnOk result (tables_now self.new ≡ with_task (tables_now self.old) task) }
-        ensures draws { Draws self.old self.new }
-        ensures full { OnErr result (HasRooms 1 self.old → 2 ^ 64 ≤ self.old.next_id + 1) }
+        ensures start { tables_start self.new ≡ tables_start self.old }
+        ensures changed { changed_rows self.new ≤ changed_rows self.old + 1 }
     {
         let Ok(next_id) = self.later_id() else {
             return Err(NoMemory);
         };
-        let Ok(()) = self.tasks.put_within(task) else {
+        let Ok(()) = self.tasks.put(task) else {
             return Err(NoMemory);
         };
         self.next_id = next_id;
@@ -80,8 +78,8 @@ impl State {
         requires stands { Stands (tables_now self.old) }
         requires can { CanApply (tables_now self.old) (Change.PutTask task) }
         ensures ok { OnOk result (tables_now self.new ≡ put_task (tables_now self.old) task) }
-        ensures draws { Draws self.old self.new }
-        ensures full { OnErr result (HasRooms 1 self.old → 2 ^ 64 ≤ self.old.next_id + 1) }
+        ensures start { tables_start self.new ≡ tables_start self.old }
+        ensures changed { changed_rows self.new ≤ changed_rows self.old + 1 }
     {
         if self.has_task(task.id) {
             self.replace_task(task)
@@ -95,17 +93,17 @@ impl State {
         requires stands { Stands (tables_now self.old) }
         requires there { has_row task_id id self.old.tasks.rows ≡ true }
         ensures ok { OnOk result (tables_now self.new ≡ apply_change (tables_now self.old) (Change.DropTask id)) }
-        ensures draws { Draws self.old self.new }
-        ensures full { OnErr result (HasRooms 1 self.old → 2 ^ 64 ≤ self.old.next_id + 1) }
+        ensures start { tables_start self.new ≡ tables_start self.old }
+        ensures changed { changed_rows self.new ≤ changed_rows self.old + 1 }
     {
-        self.tasks.remove_within(id)
+        self.tasks.remove(id)
     }
 
     // An attempt is kept.
     fn keep(&mut self, attempt: Attempt) -> Result<(), NoMemory>
         ensures ok { OnOk result (tables_now self.new ≡ apply_change (tables_now self.old) (Change.Keep attempt)) }
-        ensures draws { Draws self.old self.new }
-        ensures full { OnErr result (HasRooms 1 self.old → 2 ^ 64 ≤ self.old.next_id + 1) }
+        ensures start { tables_start self.new ≡ tables_start self.old }
+        ensures changed { changed_rows self.new ≤ changed_rows self.old + 1 }
     {
         self.attempts.keep(attempt)
     }
@@ -114,8 +112,8 @@ impl State {
         requires stands { Stands (tables_now self.old) }
         requires can { CanApply (tables_now self.old) change }
         ensures ok { OnOk result (tables_now self.new ≡ apply_change (tables_now self.old) change) }
-        ensures draws { Draws self.old self.new }
-        ensures full { OnErr result (HasRooms 1 self.old → 2 ^ 64 ≤ self.old.next_id + 1) }
+        ensures start { tables_start self.new ≡ tables_start self.old }
+        ensures changed { changed_rows self.new ≤ changed_rows self.old + 1 }
     {
         match change {
             Change::PutNode(node) => self.put_node(node),
@@ -132,8 +130,8 @@ impl State {
         requires can { CanApplyAll (tables_now self.old) changes }
         ensures ok { OnOk result (tables_now self.new ≡ apply_changes (tables_now self.old) changes) }
         ensures stands { OnOk result (Stands (tables_now self.new)) }
-        ensures draws { DrawsAll (length changes) self.old self.new }
-        ensures full { OnErr result (HasRooms (length changes) self.old → 2 ^ 64 ≤ self.old.next_id + length changes) }
+        ensures start { tables_start self.new ≡ tables_start self.old }
+        ensures changed { OnOk result (changed_rows self.new ≤ changed_rows self.old + length changes) }
     {
         let mut left = VecDeque::from_vec(changes.into_vec());
         while let Some(change) = left.pop_front() {
@@ -151,17 +149,15 @@ impl State {
         version: Version,
     ) -> Result<(), NoMemory>
         ensures ok { OnOk result (
-            (tables_now self.new ≡ tables_now self.old)
-            × (origin self.new ≡ record (origin self.old) { tables = tables_now self.old })
+            (tables_now self.new ≡ tables_now self.old) × (tables_start self.new ≡ tables_now self.old)
             × (events.new.items ≡ changes_between version (tables_start self.old) (tables_now self.old))
             ) }
         ensures err { OnErr result (
-            (tables_now self.new ≡ tables_start self.old) × (origin self.new ≡ origin self.old)
+            (tables_now self.new ≡ tables_start self.old) × (tables_start self.new ≡ tables_start self.old)
             × (events.new.items ≡ events.old.items)
             ) }
         ensures changed { changed_rows self.new ≡ 0 }
-        ensures places { vec_capacity events.old ≤ vec_capacity events.new }
-        ensures full { OnErr result (vec_capacity events.old < changed_rows self.old) }
+        ensures few { OnOk result (length events.new.items ≤ changed_rows self.old) }
     {
         let Ok(()) = self.make_places(events) else {
             self.take_back();
@@ -180,9 +176,9 @@ impl State {
         version: Version,
         changes: List<Change>,
     ) -> Result<(), NoMemory>
-        requires settled { IsSettled self.old }
+        requires untouched { IsUntouched self.old }
         requires can { CanApplyAll (tables_now self.old) changes }
-        ensures settled { IsSettled self.new }
+        ensures untouched { IsUntouched self.new }
         ensures ok { OnOk result (
             (tables_now self.new ≡ apply_changes (tables_now self.old) changes)
             × (events.new.items ≡ changes_between version (tables_now self.old) (tables_now self.new))
@@ -190,10 +186,7 @@ impl State {
         ensures err { OnErr result (
             (tables_now self.new ≡ tables_now self.old) × (events.new.items ≡ events.old.items)
             ) }
-        ensures rooms { (n : ℕ) → HasRooms (n + length changes) self.old → HasRooms n self.new }
-        ensures places { vec_capacity events.old ≤ vec_capacity events.new }
-        ensures full { OnErr result (HasRooms (length changes) self.old → length changes ≤ vec_capacity events.old
-            → 2 ^ 64 ≤ self.old.next_id + length changes) }
+        ensures few { OnOk result (length events.new.items ≤ length changes) }
     {
         let Ok(()) = self.apply_changes(changes) else {
             self.take_back();

@@ -9,8 +9,8 @@ ghost use Rattle.swarm_store.specs.Inside.State.{Stands, tables_now};
 ghost use Rattle.swarm_store.specs.Stored.{HasNearTasks};
 ghost use Rattle.swarm_model.specs.Outcome.{Gets};
 
-use crate::names::not_found;
 use crate::state::State;
+use swarm_check::not_found;
 use swarm_objects::details::{detail_counted, network_detail, node_detail};
 use swarm_objects::shown::task_detail;
 use swarm_objects::views::ServiceDetail;

@@ -1,15 +1,14 @@
 // Rows by name, found by their keys.
-ghost use Rattle.std.specs.Prelude.{◌≡◌, ◌⊎◌};
+ghost use Rattle.std.specs.Prelude.{◌≡◌};
 ghost use Rattle.std.specs.Option.{option_copied};
 ghost use Rattle.swarm_model.specs.Calls.Refusals.{network_by, node_by, service_by};
 ghost use Rattle.swarm_objects.specs.Sound.{IsOrdered};
 ghost use Rattle.swarm_store.specs.Inside.State.{tables_now};
 
 use crate::state::State;
-use std::alloc::Global;
 use swarm_index::IndexKey;
 use swarm_index::keys::NAME;
-use swarm_objects::{Duplicate, Kind, Name, Network, NoMemory, Node, Refusal, Service, Wanted};
+use swarm_objects::{Name, Network, Node, Service};
 
 impl State {
     #[tactic(auto, using(crate::proofs::Lookups::named_node))]
@@ -36,15 +35,5 @@ impl State {
         ensures { option_copied result ≡ network_by (tables_now self.now) name.now }
     {
         self.networks.next_by_key(NAME, &IndexKey::Text(name), 0)
-    }
-}
-
-// That nothing of this kind has the name; or memory is wanting for the name.
-pub(crate) fn not_found(alloc: Global, kind: Kind, name: &Name) -> Refusal
-    ensures { (result ≡ Refusal.NoMemory) ⊎ (result ≡ Refusal.NotFound kind (Wanted.Name name.now)) }
-{
-    match name.duplicate(alloc) {
-        Ok(name) => Refusal::NotFound(kind, Wanted::Name(name)),
-        Err(NoMemory) => Refusal::NoMemory,
     }
 }

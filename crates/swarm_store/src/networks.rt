@@ -11,11 +11,10 @@ ghost use Rattle.swarm_objects.specs.Limits.{most_networks};
 ghost use Rattle.swarm_objects.specs.Rows.{keep_least, least_by, network_id};
 ghost use Rattle.swarm_objects.specs.Rules.Networks.{subnet_breaks, subnet_rules};
 ghost use Rattle.swarm_store.specs.Inside.Ops.{Does};
-ghost use Rattle.swarm_store.specs.Inside.State.{Stands, origin, tables_now};
+ghost use Rattle.swarm_store.specs.Inside.State.{Stands, tables_now, tables_start};
 
-use crate::names::not_found;
 use crate::state::State;
-use swarm_check::{check_network, check_settings, service_uses, task_uses};
+use swarm_check::{check_network, check_settings, not_found, service_uses, task_uses};
 use swarm_objects::limits::MOST_NETWORKS;
 use swarm_objects::{Duplicate, Id, Kind, Name, Network, Op, Refusal, Rows, Settings, Version};
 
@@ -84,7 +83,7 @@ impl State {
     ) -> Result<Id, Refusal>
         requires { Stands (tables_now self.old) }
         ensures done { Does version (Op.CreateNetwork name.now base bits) self.old result self.new }
-        ensures start { origin self.new ≡ origin self.old }
+        ensures start { tables_start self.new ≡ tables_start self.old }
     {
         self.check_new_network(name, base, bits)?;
         let id = self.next_id;
@@ -106,7 +105,7 @@ impl State {
     pub(crate) fn remove_network(&mut self, version: Version, name: &Name) -> Result<Id, Refusal>
         requires { Stands (tables_now self.old) }
         ensures done { Does version (Op.RemoveNetwork name.now) self.old result self.new }
-        ensures start { origin self.new ≡ origin self.old }
+        ensures start { tables_start self.new ≡ tables_start self.old }
     {
         let Some(network) = self.network_named(name) else {
             return Err(not_found(self.alloc, Kind::Network, name));
@@ -126,7 +125,7 @@ impl State {
         settings: Settings,
     ) -> Result<Id, Refusal>
         ensures done { Does version (Op.SetCluster settings) self.old result self.new }
-        ensures start { origin self.new ≡ origin self.old }
+        ensures start { tables_start self.new ≡ tables_start self.old }
     {
         if let Err(rule) = check_settings(&settings) {
             return Err(Refusal::BadSpec(rule));

@@ -14,13 +14,12 @@ ghost use Rattle.swarm_objects.specs.Changes.{change_where, in_state};
 ghost use Rattle.swarm_objects.specs.Limits.{most_nodes};
 ghost use Rattle.swarm_objects.specs.Rows.{node_id};
 ghost use Rattle.swarm_store.specs.Inside.Ops.{Does};
-ghost use Rattle.swarm_store.specs.Inside.State.{Stands, origin, tables_now, with_changed};
+ghost use Rattle.swarm_store.specs.Inside.State.{Stands, tables_now, tables_start, with_changed};
 
-use crate::names::not_found;
 use crate::state::State;
 use crate::transactions::check_version;
 use std::alloc::Global;
-use swarm_check::{check_node, new_node, respecified_node};
+use swarm_check::{check_node, new_node, not_found, respecified_node};
 use swarm_objects::effects::in_state;
 use swarm_objects::limits::MOST_NODES;
 use swarm_objects::{
@@ -109,7 +108,7 @@ impl State {
     ) -> Result<Id, Refusal>
         requires { Stands (tables_now self.old) }
         ensures done { Does version (Op.CreateNode name.now draft.now) self.old result self.new }
-        ensures start { origin self.new ≡ origin self.old }
+        ensures start { tables_start self.new ≡ tables_start self.old }
     {
         let id = self.next_id;
         let next_id = self.later_id()?;
@@ -133,7 +132,7 @@ impl State {
         requires { Stands (tables_now self.old) }
         ensures done { Does version (Op.UpdateNode name.now asked labels.now role availability)
             self.old result self.new }
-        ensures start { origin self.new ≡ origin self.old }
+        ensures start { tables_start self.new ≡ tables_start self.old }
     {
         let Some(node) = self.node_named(name) else {
             return Err(not_found(self.alloc, Kind::Node, name));
@@ -151,7 +150,7 @@ impl State {
         ensures done { OnOk result (tables_now self.new ≡
             change_where (is_left_behind node) (in_state version self.old.clock TaskState.Orphaned)
             (tables_now self.old)) }
-        ensures start { origin self.new ≡ origin self.old }
+        ensures start { tables_start self.new ≡ tables_start self.old }
     {
         let mut after = 0;
         while let Some(task) = self.next_task_on(node, after) {
@@ -167,7 +166,7 @@ impl State {
         requires { (x : Row) → task ≡ Some x → 0 < x.id }
         ensures ok { OnOk result (tables_now self.new ≡
             record (tables_now self.old) { tasks = with_changed task self.old.tasks.rows }) }
-        ensures start { origin self.new ≡ origin self.old }
+        ensures start { tables_start self.new ≡ tables_start self.old }
     {
         match task {
             Some(task) => self.tasks.put(task),
@@ -184,7 +183,7 @@ impl State {
     ) -> Result<Id, Refusal>
         requires { Stands (tables_now self.old) }
         ensures done { Does version (Op.RemoveNode name.now force) self.old result self.new }
-        ensures start { origin self.new ≡ origin self.old }
+        ensures start { tables_start self.new ≡ tables_start self.old }
     {
         let Some(node) = self.node_named(name) else {
             return Err(not_found(self.alloc, Kind::Node, name));

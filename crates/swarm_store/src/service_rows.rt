@@ -1,5 +1,5 @@
 // The services under change, with a count of the port numbers that they hold.
-ghost use Rattle.std.specs.Prelude.{◌≡◌, ◌⊎◌, ◌<◌, ◌≤◌, ◌+◌, ◌^◌, IfOk, OnErr, OnOk, [], false, length, true};
+ghost use Rattle.std.specs.Prelude.{◌≡◌, ◌<◌, ◌≤◌, ◌+◌, IfOk, OnErr, OnOk, [], false, true};
 ghost use Rattle.std.specs.List.{list_any};
 ghost use Rattle.swarm_objects.specs.Rows.{drop_row, row_at, service_id, with_row};
 ghost use Rattle.store_ports.specs.Counts.{AreTimes, MovesAll, is_other, own_times, times_of};
@@ -74,7 +74,7 @@ fn own_times(rows: &Tracked<Service>, own: Option<Id>, udp: bool, number: u16) -
 impl Services {
     #[tactic(auto, using(store_ports::proofs::Rows::none_named))]
     pub(crate) fn new(alloc: Global) -> Result<Services, NoMemory>
-        ensures { IfOk result (λ s. (s.start ≡ []) × (s.rows ≡ []) × (s.changed ≡ 0) × (s.room ≡ 0)) }
+        ensures { IfOk result (λ s. (s.start ≡ []) × (s.rows ≡ []) × (s.changed ≡ 0)) }
     {
         Ok(Services {
             rows: Tracked::new(alloc),
@@ -86,17 +86,6 @@ impl Services {
         ensures { result.now ≡ self.now }
     {
         &self.rows
-    }
-
-    // Makes the room at least `n`, unless memory is wanting.
-    pub(crate) fn reserve(&mut self, n: u64) -> Result<(), NoMemory>
-        ensures ok { OnOk result (n ≤ self.new.room) }
-        ensures room { self.old.room ≤ self.new.room }
-        ensures rows { self.new.rows ≡ self.old.rows }
-        ensures start { self.new.start ≡ self.old.start }
-        ensures changed { self.new.changed ≡ self.old.changed }
-    {
-        self.rows.reserve(n)
     }
 
     // Whether another service may hold the number: it is false only where none does.
@@ -116,32 +105,12 @@ impl Services {
         ensures ok { OnOk result (self.new.rows ≡ with_row service_id row self.old.rows) }
         ensures err { OnErr result (self.new.rows ≡ self.old.rows) }
         ensures start { self.new.start ≡ self.old.start }
-        ensures room { self.new.room ≡ self.old.room }
+        ensures changed { self.new.changed ≤ self.old.changed + 1 }
     {
         let id = row.id;
         self.rows.rise();
         leave(&self.rows, &mut self.ports, id);
         let done = self.rows.put(row);
-        self.rows.rise();
-        enter(&self.rows, &mut self.ports, id);
-        done
-    }
-
-    // The same within the room, if there is any.
-    pub(crate) fn put_within(&mut self, row: Service) -> Result<(), NoMemory>
-        requires { 0 < row.id }
-        ensures ok { OnOk result (self.new.rows ≡ with_row service_id row self.old.rows) }
-        ensures err { OnErr result (self.new.rows ≡ self.old.rows) }
-        ensures start { self.new.start ≡ self.old.start }
-        ensures room { self.old.room ≤ self.new.room + 1 }
-        ensures changed { self.new.changed ≤ self.old.changed + 1 }
-        ensures full { OnErr result (
-            (self.old.room ≡ 0) ⊎ (2 ^ 64 ≤ length (with_row service_id row self.old.rows))) }
-    {
-        let id = row.id;
-        self.rows.rise();
-        leave(&self.rows, &mut self.ports, id);
-        let done = self.rows.put_within(row);
         self.rows.rise();
         enter(&self.rows, &mut self.ports, id);
         done
@@ -153,7 +122,7 @@ impl Services {
         ensures ok { OnOk result (self.new.rows ≡ drop_row service_id id self.old.rows) }
         ensures err { OnErr result (self.new.rows ≡ self.old.rows) }
         ensures start { self.new.start ≡ self.old.start }
-        ensures room { self.new.room ≡ self.old.room }
+        ensures changed { self.new.changed ≤ self.old.changed + 1 }
     {
         self.rows.rise();
         leave(&self.rows, &mut self.ports, id);
@@ -168,7 +137,6 @@ impl Services {
         ensures rows { self.new.rows ≡ self.old.start }
         ensures start { self.new.start ≡ self.old.start }
         ensures changed { self.new.changed ≡ 0 }
-        ensures room { self.new.room ≡ self.old.room }
     {
         let is_same = self.rows.changed() == 0;
         self.rows.take_back();
@@ -182,7 +150,6 @@ impl Services {
         ensures rows { self.new.rows ≡ self.old.rows }
         ensures start { self.new.start ≡ self.old.rows }
         ensures changed { self.new.changed ≡ 0 }
-        ensures room { self.new.room ≡ self.old.room }
     {
         self.rows.settle();
     }

@@ -11,12 +11,11 @@ ghost use Rattle.swarm_objects.specs.Limits.{most_services};
 ghost use Rattle.swarm_objects.specs.Rows.{first_of, network_id, service_id};
 ghost use Rattle.swarm_model.specs.Calls.Services.{update_refusal};
 ghost use Rattle.swarm_store.specs.Inside.Ops.{Does};
-ghost use Rattle.swarm_store.specs.Inside.State.{Stands, origin, tables_now};
+ghost use Rattle.swarm_store.specs.Inside.State.{Stands, tables_now, tables_start};
 
-use crate::names::not_found;
 use crate::state::State;
 use crate::transactions::check_version;
-use swarm_check::{check_service, first_service, respecified, same_mode};
+use swarm_check::{check_service, first_service, not_found, respecified, same_mode};
 use swarm_objects::limits::MOST_SERVICES;
 use swarm_objects::ports::is_other_holder;
 use swarm_objects::{
@@ -211,7 +210,7 @@ impl State {
     ) -> Result<Id, Refusal>
         requires { Stands (tables_now self.old) }
         ensures done { Does version (Op.CreateService name.now draft.now) self.old result self.new }
-        ensures start { origin self.new ≡ origin self.old }
+        ensures start { tables_start self.new ≡ tables_start self.old }
     {
         self.check_new_service(name, draft)?;
         let id = self.next_id;
@@ -232,7 +231,7 @@ impl State {
     ) -> Result<Id, Refusal>
         requires { Stands (tables_now self.old) }
         ensures done { Does version (Op.UpdateService name.now asked draft.now) self.old result self.new }
-        ensures start { origin self.new ≡ origin self.old }
+        ensures start { tables_start self.new ≡ tables_start self.old }
     {
         let Some(service) = self.service_named(name) else {
             return Err(not_found(self.alloc, Kind::Service, name));
@@ -254,7 +253,7 @@ impl State {
     ) -> Result<Id, Refusal>
         requires { Stands (tables_now self.old) }
         ensures done { Does version (Op.RollbackService name.now asked) self.old result self.new }
-        ensures start { origin self.new ≡ origin self.old }
+        ensures start { tables_start self.new ≡ tables_start self.old }
     {
         let Some(service) = self.service_named(name) else {
             return Err(not_found(self.alloc, Kind::Service, name));
@@ -274,7 +273,7 @@ impl State {
     pub(crate) fn remove_service(&mut self, version: Version, name: &Name) -> Result<Id, Refusal>
         requires { Stands (tables_now self.old) }
         ensures done { Does version (Op.RemoveService name.now) self.old result self.new }
-        ensures start { origin self.new ≡ origin self.old }
+        ensures start { tables_start self.new ≡ tables_start self.old }
     {
         let Some(service) = self.service_named(name) else {
             return Err(not_found(self.alloc, Kind::Service, name));

@@ -1,9 +1,10 @@
 // What a store holds, now and when the changes under way began.
-ghost use Rattle.std.specs.Prelude.{◌≡◌, ◌<◌, ◌≤◌, ◌+◌, ◌^◌, ℕ, IfNone, IfOk, IfSome, OnErr, OnOk, []};
+ghost use Rattle.std.specs.Prelude.{◌≡◌, ◌<◌, ◌≤◌, ◌+◌, IfOk, IfSome, OnOk, [], length};
 ghost use Rattle.std.specs.Vec.{vec_capacity};
 ghost use Rattle.swarm_model.specs.Changed.{changes_between};
 ghost use Rattle.swarm_objects.specs.World.{empty_tables};
-ghost use Rattle.swarm_store.specs.Inside.State.{HasRooms, IsSettled, changed_rows, origin, tables_now, tables_start};
+ghost use Rattle.swarm_store.specs.Inside.State.{IsUntouched, Stands, changed_rows, tables_now, tables_start};
+ghost use Rattle.swarm_store.specs.Stored.{row_count};
 
 use crate::attempts::Attempts;
 use crate::service_rows::Services;
@@ -34,7 +35,7 @@ pub(crate) struct State {
 impl State {
     pub(crate) fn new(alloc: Global) -> Result<State, NoMemory>
         ensures tables { IfOk result (λ state. tables_now state ≡ empty_tables) }
-        ensures settled { IfOk result (λ state. IsSettled state) }
+        ensures untouched { IfOk result (λ state. IsUntouched state) }
     {
         Ok(State {
             alloc,
@@ -54,7 +55,6 @@ impl State {
     // The id after the next one; want of memory where the numbers are at an end.
     pub(crate) fn later_id(&self) -> Result<Id, NoMemory>
         ensures id { IfOk result (λ id. id ≡ self.now.next_id + 1) }
-        ensures full { OnErr result (2 ^ 64 ≤ self.now.next_id + 1) }
     {
         match self.next_id.checked_add(1) {
             Some(id) => Ok(id),
@@ -65,7 +65,7 @@ impl State {
     // All is again what it was. It takes no memory.
     pub(crate) fn take_back(&mut self)
         ensures now { tables_now self.new ≡ tables_start self.old }
-        ensures start { origin self.new ≡ origin self.old }
+        ensures start { tables_start self.new ≡ tables_start self.old }
         ensures changed { changed_rows self.new ≡ 0 }
     {
         self.next_id = self.next_id_before;
@@ -80,7 +80,7 @@ impl State {
     // The changes stay.
     pub(crate) fn settle(&mut self)
         ensures now { tables_now self.new ≡ tables_now self.old }
-        ensures start { origin self.new ≡ record (origin self.old) { tables = tables_now self.old } }
+        ensures start { tables_start self.new ≡ tables_now self.old }
         ensures changed { changed_rows self.new ≡ 0 }
     {
         self.next_id_before = self.next_id;
@@ -92,24 +92,23 @@ impl State {
         self.attempts.settle();
     }
 
-    // Room for so many changes of duties, or want of memory; then there may be room for some of them.
-    pub(crate) fn reserve(&mut self, n: u64) -> Result<(), NoMemory>
-        ensures ok { OnOk result (HasRooms n self.new) }
-        ensures rooms { (m : ℕ) → HasRooms m self.old → HasRooms m self.new }
-        ensures now { tables_now self.new ≡ tables_now self.old }
-        ensures start { tables_start self.new ≡ tables_start self.old }
-        ensures changed { changed_rows self.new ≡ changed_rows self.old }
+    // How many rows there are.
+    pub(crate) fn rows(&self) -> u64
+        requires { Stands (tables_now self.now) }
+        ensures { result ≡ row_count (tables_now self.now) }
     {
-        self.nodes.reserve(n)?;
-        self.services.reserve(n)?;
-        self.tasks.reserve(n)?;
-        self.attempts.reserve(n)
+        sum_below(
+            self.next_id,
+            self.nodes.len(),
+            self.services.rows().len(),
+            self.tasks.len(),
+            self.networks.len(),
+        )
     }
 
     // How many rows changed, where that is a number.
     fn changed(&self) -> Option<usize>
         ensures some { IfSome result (λ n. n ≡ changed_rows self.now) }
-        ensures none { IfNone result (2 ^ 64 ≤ changed_rows self.now) }
     {
         let Some(rows) = self
             .nodes
@@ -128,14 +127,13 @@ impl State {
     pub(crate) fn make_places(&self, events: &mut Vec<Event>) -> Result<(), NoMemory>
         ensures items { events.new.items ≡ events.old.items }
         ensures ok { OnOk result (changed_rows self.now ≤ vec_capacity events.new) }
-        ensures kept { vec_capacity events.old ≤ vec_capacity events.new }
-        ensures full { OnErr result (vec_capacity events.old < changed_rows self.now) }
     {
-        let places = events.capacity();
-        match self.changed() {
-            Some(most) if most <= places => Ok(()),
-            Some(most) => widen(events, most),
-            None => Err(NoMemory),
+        let Some(most) = self.changed() else {
+            return Err(NoMemory);
+        };
+        match events.reserve(most.saturating_sub(events.len())) {
+            Ok(()) => Ok(()),
+            Err(_) => Err(NoMemory),
         }
     }
 
@@ -144,7 +142,7 @@ impl State {
         requires empty { events.old.items ≡ [] }
         requires places { changed_rows self.now ≤ vec_capacity events.old }
         ensures items { events.new.items ≡ changes_between version (tables_start self.now) (tables_now self.now) }
-        ensures places { vec_capacity events.new ≡ vec_capacity events.old }
+        ensures few { length events.new.items ≤ changed_rows self.now }
     {
         self.nodes.put_events(version, Kind::Node, events);
         self.services
@@ -155,17 +153,12 @@ impl State {
     }
 }
 
-// Makes places for so many events in all.
-pub(crate) fn widen(events: &mut Vec<Event>, most: usize) -> Result<(), NoMemory>
-    ensures items { events.new.items ≡ events.old.items }
-    ensures ok { OnOk result (most ≤ vec_capacity events.new) }
-    ensures kept { vec_capacity events.old ≤ vec_capacity events.new }
-    ensures full { OnErr result (vec_capacity events.old < most) }
+// The sum of the counts, which is less than an id.
+fn sum_below(id: Id, nodes: usize, services: usize, tasks: usize, networks: usize) -> u64
+    requires { nodes + services + tasks + networks < id }
+    ensures { result ≡ nodes + services + tasks + networks }
 {
-    match events.reserve(most.saturating_sub(events.len())) {
-        Ok(()) => Ok(()),
-        Err(_) => Err(NoMemory),
-    }
+    (nodes + services + tasks + networks) as u64
 }
 
 // Of sessions a store knows nothing.

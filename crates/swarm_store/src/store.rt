@@ -1,6 +1,7 @@
 // The store.
-ghost use Rattle.std.specs.Prelude.{◌≡◌, ◌+◌, ◌<◌, ◌≤◌, ◌^◌, IfOk, OnErr, OnOk, [], count_by, filter, length, true};
+ghost use Rattle.std.specs.Prelude.{◌≡◌, ◌+◌, ◌<◌, ◌≤◌, IfOk, OnOk, [], count_by, filter, length, true};
 ghost use Rattle.std.specs.Option.{option_copied};
+ghost use Rattle.swarm_model.specs.Calls.Refusals.{node_by};
 ghost use Rattle.swarm_objects.specs.Bounds.{far_end};
 ghost use Rattle.swarm_objects.specs.Changes.{id_taken};
 ghost use Rattle.swarm_objects.specs.Limits.{is_tick};
@@ -9,15 +10,15 @@ ghost use Rattle.swarm_objects.specs.Tasks.Attempts.{is_kept_attempt};
 ghost use Rattle.swarm_objects.specs.Tasks.Words.{is_of, is_on};
 ghost use Rattle.swarm_objects.specs.World.{World, empty_tables};
 ghost use Rattle.swarm_objects.specs.ChangeLists.{CanApplyAll};
-ghost use Rattle.swarm_store.specs.Stored.{AppliesChanges, HasNearTasks, Shows, StandsFor, Transacts};
+ghost use Rattle.swarm_store.specs.Stored.{AppliesChanges, HasNearTasks, Shows, StandsFor, Transacts, row_count};
 
-use crate::state::{State, widen};
+use crate::state::State;
 use std::alloc::Global;
 use std::marker::Model;
 use swarm_objects::limits::MOST_OPS;
 use swarm_objects::{
-    Change, Event, Id, List, Ms, Network, NoMemory, Node, Op, Place, Query, Refusal, Rows, Service,
-    Settings, Task, Version, ViewReply,
+    Change, Event, Id, List, Ms, Name, Network, NoMemory, Node, Op, Place, Query, Refusal, Rows,
+    Service, Settings, Task, Version, ViewReply,
 };
 
 /// The rows of a cluster with the clock, the next id, the kept attempts and the settings; and the events of the last
@@ -26,8 +27,6 @@ use swarm_objects::{
 pub struct Store {
     state: State,
     changes: Vec<Event>,
-    // How many changes of duties more can't want memory.
-    room: u64,
 }
 
 impl Model for Store {
@@ -35,23 +34,21 @@ impl Model for Store {
 
     ghost Value = { Stored };
 
-    ghost use Rattle.std.specs.Vec.{vec_capacity};
-    ghost use Rattle.swarm_store.specs.Inside.State.{IsReady, tables_now};
+    ghost use Rattle.swarm_store.specs.Inside.State.{IsUntouched, tables_now};
 
-    ghost view = { λ s. record { tables = tables_now s.state; changes = s.changes.items; room = s.room } };
+    ghost view = { λ s. record { tables = tables_now s.state; changes = s.changes.items } };
 
-    ghost invariant = { λ s. IsReady s.state (vec_capacity s.changes) s.room };
+    ghost invariant = { λ s. IsUntouched s.state };
 }
 
 impl Store {
     /// The store of the empty cluster at time 0.
     pub fn new(alloc: Global) -> Result<Store, NoMemory>
-        ensures { IfOk result (λ store. (store.tables ≡ empty_tables) × (store.changes ≡ []) × (store.room ≡ 0)) }
+        ensures { IfOk result (λ store. (store.tables ≡ empty_tables) × (store.changes ≡ [])) }
     {
         Ok(Store {
             state: State::new(alloc)?,
             changes: Vec::new(alloc),
-            room: 0,
         })
     }
 
@@ -85,9 +82,11 @@ impl Store {
     }
 
     /// Does all of the operations as the entry with this number and gives the ids of their objects in order, 0 for
-    /// settings; or none of them: then the refusal is that of the first that is refused, TooManyOps or NoMemory.
+    /// settings; or none of them: then the refusal is that of the first that is refused, TooManyOps or NoMemory. There is
+    /// at most an event of each row before and of each new one.
     pub fn txn(&mut self, version: Version, ops: &[Op]) -> Result<List<Id>, Refusal>
-        ensures { (w : World) → StandsFor self.old w → Transacts version ops.now w self.old result self.new }
+        ensures done { (w : World) → StandsFor self.old w → Transacts version ops.now w self.old result self.new }
+        ensures few { OnOk result (length self.new.changes ≤ row_count self.old.tables + length ops.now) }
     {
         let count = ops.len();
         if count > MOST_OPS {
@@ -96,41 +95,15 @@ impl Store {
         self.state.transact(&mut self.changes, version, ops)
     }
 
-    /// Makes the room at least `n`, or leaves all as it is for want of memory.
-    pub fn reserve(&mut self, n: u64) -> Result<(), NoMemory>
-        ensures ok { OnOk result (n ≤ self.new.room) }
-        ensures room { self.old.room ≤ self.new.room }
-        ensures same { self.new ≡ record self.old { room = self.new.room } }
-        ensures err { OnErr result (self.new ≡ self.old) }
-    {
-        if n <= self.room {
-            return Ok(());
-        }
-        let Ok(()) = self.state.reserve(n) else {
-            return Err(NoMemory);
-        };
-        let Ok(()) = widen(&mut self.changes, n as usize) else {
-            return Err(NoMemory);
-        };
-        self.room = n;
-        Ok(())
-    }
-
     /// Applies the changes that a duty makes, as the entry with this number: each puts or drops a row that is there at
-    /// its place in the list, or puts a task with the next id. All are applied, or none for want of memory; there is
-    /// none within the room.
+    /// its place in the list, or puts a task with the next id. All are applied, or none for want of memory.
     pub fn apply(&mut self, version: Version, changes: List<Change>) -> Result<(), NoMemory>
         requires { CanApplyAll self.old.tables changes }
         ensures applied { (w : World) → StandsFor self.old w
             → AppliesChanges version changes w self.old result self.new }
-        ensures room { self.old.room ≤ self.new.room + length changes }
-        ensures full { self.old.tables.next_id + length changes < 2 ^ 64
-            → OnErr result (self.old.room < length changes) }
+        ensures few { OnOk result (length self.new.changes ≤ length changes) }
     {
-        let count = changes.len() as u64;
-        let done = self.state.apply(&mut self.changes, version, changes);
-        self.room = self.room.saturating_sub(count);
-        done
+        self.state.apply(&mut self.changes, version, changes)
     }
 
     /// What the query shows: NotFound where the object isn't there, or NoMemory.
@@ -139,6 +112,14 @@ impl Store {
         ensures { (w : World) → StandsFor self.now w → Shows query.now w result }
     {
         self.state.shows(query)
+    }
+
+    /// How many nodes, services, tasks and networks there are.
+    pub fn rows(&self) -> u64
+        ensures count { result ≡ row_count self.now.tables }
+        ensures few { result < self.now.tables.next_id }
+    {
+        self.state.rows()
     }
 
     /// The time of the cluster.
@@ -167,6 +148,13 @@ impl Store {
         ensures { option_copied result ≡ row_at node_id id self.now.tables.nodes }
     {
         self.state.node(id)
+    }
+
+    /// The node with this name.
+    pub fn node_named(&self, name: &Name) -> Option<&Node>
+        ensures { option_copied result ≡ node_by self.now.tables name.now }
+    {
+        self.state.node_named(name)
     }
 
     /// The service with this id.

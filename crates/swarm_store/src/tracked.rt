@@ -10,7 +10,7 @@ ghost use Rattle.swarm_model.specs.Changed.{event, events_of, verb_of};
 ghost use Rattle.swarm_objects.specs.Rows.{RisesFrom, drop_row, has_row, is_some_and, put_row, row_above, row_at};
 ghost use Rattle.swarm_objects.specs.Rows.{rows_before, with_row};
 ghost use Rattle.swarm_store.specs.Inside.Tracking.{DecidesRows, IsImage, IsTracked, before_id, image_events, put_back, remembered, restored};
-ghost use Rattle.swarm_store.specs.Inside.Tracking.{Kept};
+ghost use Rattle.swarm_store.specs.Inside.Tracking.{GoBackAsBefore};
 
 use std::alloc::Global;
 use std::marker::Model;
@@ -24,8 +24,7 @@ pub(crate) struct Before<R> {
     row: Option<R>,
 }
 
-// Rows, and what each changed one was, by rising id. There is room in the index to put all of them back, and for so
-// many changes more as `room` says.
+// Rows, and what each changed one was, by rising id. There is room in the index to put all of them back.
 #[derive(Drop)]
 pub(crate) struct Tracked<R: Row + Drop> {
     rows: Indexed<R>,
@@ -33,12 +32,10 @@ pub(crate) struct Tracked<R: Row + Drop> {
     // How many rows there are, and were.
     count: usize,
     started: usize,
-    room: u64,
 }
 
 impl<R: Row + Drop> Model for Tracked<R> {
     ghost use Rattle.std.specs.Prelude.{length};
-    ghost use Rattle.std.specs.Vec.{vec_capacity};
     ghost use Rattle.swarm_store.specs.Inside.Span.{Track};
     ghost use Rattle.swarm_store.specs.Inside.Tracking.{IsCounted, restored};
 
@@ -48,10 +45,9 @@ impl<R: Row + Drop> Model for Tracked<R> {
       start = restored R.id_of t.before.items t.rows.rows;
       rows = t.rows.rows;
       changed = length t.before.items;
-      room = t.room;
     } };
 
-    ghost invariant = { λ t. IsCounted R.id_of t.before.items t.rows t.count t.started (vec_capacity t.before) t.room };
+    ghost invariant = { λ t. IsCounted R.id_of t.before.items t.rows t.count t.started };
 }
 
 impl<R: Row + Drop> Tracked<R> {
@@ -59,36 +55,13 @@ impl<R: Row + Drop> Tracked<R> {
         ensures start { result.start ≡ [] }
         ensures rows { result.rows ≡ [] }
         ensures changed { result.changed ≡ 0 }
-        ensures room { result.room ≡ 0 }
     {
         Tracked {
             rows: Indexed::new(alloc),
             before: Vec::new(alloc),
             count: 0,
             started: 0,
-            room: 0,
         }
-    }
-
-    // Makes the room at least `n`, unless memory is wanting.
-    pub(crate) fn reserve(&mut self, n: u64) -> Result<(), NoMemory>
-        ensures ok { OnOk result (n ≤ self.new.room) }
-        ensures room { self.old.room ≤ self.new.room }
-        ensures rows { self.new.rows ≡ self.old.rows }
-        ensures start { self.new.start ≡ self.old.start }
-        ensures changed { self.new.changed ≡ self.old.changed }
-    {
-        if n <= self.room {
-            return Ok(());
-        }
-        let Ok(()) = reserve_places(&mut self.before, n) else {
-            return Err(NoMemory);
-        };
-        let Ok(()) = reserve_rows(&mut self.rows, self.before.len() as u64, n) else {
-            return Err(NoMemory);
-        };
-        self.room = n;
-        Ok(())
     }
 
     // How many rows changed; where none did, all are what they were.
@@ -146,35 +119,9 @@ impl<R: Row + Drop> Tracked<R> {
         ensures ok { OnOk result (self.new.rows ≡ with_row R.id_of row self.old.rows) }
         ensures err { OnErr result (self.new.rows ≡ self.old.rows) }
         ensures start { self.new.start ≡ self.old.start }
-        ensures room { self.new.room ≡ self.old.room }
-    {
-        put_counted(
-            &mut self.rows,
-            &mut self.before,
-            &mut self.count,
-            row,
-            self.room,
-        )
-    }
-
-    // The same within the room, if there is any.
-    pub(crate) fn put_within(&mut self, row: R) -> Result<(), NoMemory>
-        requires { 0 < R.id_of row }
-        ensures ok { OnOk result (self.new.rows ≡ with_row R.id_of row self.old.rows) }
-        ensures err { OnErr result (self.new.rows ≡ self.old.rows) }
-        ensures start { self.new.start ≡ self.old.start }
-        ensures room { self.old.room ≤ self.new.room + 1 }
         ensures changed { self.new.changed ≤ self.old.changed + 1 }
-        ensures full { OnErr result ((self.old.room ≡ 0) ⊎ (2 ^ 64 ≤ length (with_row R.id_of row self.old.rows))) }
     {
-        self.room = self.room.saturating_sub(1);
-        put_counted(
-            &mut self.rows,
-            &mut self.before,
-            &mut self.count,
-            row,
-            self.room,
-        )
+        put_counted(&mut self.rows, &mut self.before, &mut self.count, row)
     }
 
     // The row with this id goes.
@@ -183,35 +130,9 @@ impl<R: Row + Drop> Tracked<R> {
         ensures ok { OnOk result (self.new.rows ≡ drop_row R.id_of id self.old.rows) }
         ensures err { OnErr result (self.new.rows ≡ self.old.rows) }
         ensures start { self.new.start ≡ self.old.start }
-        ensures room { self.new.room ≡ self.old.room }
-    {
-        remove_counted(
-            &mut self.rows,
-            &mut self.before,
-            &mut self.count,
-            id,
-            self.room,
-        )
-    }
-
-    // The same within the room, if there is any.
-    pub(crate) fn remove_within(&mut self, id: Id) -> Result<(), NoMemory>
-        requires { 0 < id }
-        ensures ok { OnOk result (self.new.rows ≡ drop_row R.id_of id self.old.rows) }
-        ensures err { OnErr result (self.new.rows ≡ self.old.rows) }
-        ensures start { self.new.start ≡ self.old.start }
-        ensures room { self.old.room ≤ self.new.room + 1 }
         ensures changed { self.new.changed ≤ self.old.changed + 1 }
-        ensures full { OnErr result (self.old.room ≡ 0) }
     {
-        self.room = self.room.saturating_sub(1);
-        remove_counted(
-            &mut self.rows,
-            &mut self.before,
-            &mut self.count,
-            id,
-            self.room,
-        )
+        remove_counted(&mut self.rows, &mut self.before, &mut self.count, id)
     }
 
     // The rows are again what they were. It takes no memory.
@@ -219,7 +140,6 @@ impl<R: Row + Drop> Tracked<R> {
         ensures rows { self.new.rows ≡ self.old.start }
         ensures start { self.new.start ≡ self.old.start }
         ensures changed { self.new.changed ≡ 0 }
-        ensures room { self.new.room ≡ self.old.room }
     {
         put_all_back(&mut self.rows, &mut self.before);
         self.count = self.started;
@@ -230,90 +150,30 @@ impl<R: Row + Drop> Tracked<R> {
         ensures rows { self.new.rows ≡ self.old.rows }
         ensures start { self.new.start ≡ self.old.rows }
         ensures changed { self.new.changed ≡ 0 }
-        ensures room { self.new.room ≡ self.old.room }
     {
         self.before.clear();
         self.started = self.count;
     }
 }
 
-// Makes places to remember so many changes more.
-fn reserve_places<R: Drop>(before: &mut Vec<Before<R>>, more: u64) -> Result<(), NoMemory>
-    ensures items { before.new.items ≡ before.old.items }
-    ensures kept { vec_capacity before.old ≤ vec_capacity before.new }
-    ensures ok { OnOk result (length before.old.items + more ≤ vec_capacity before.new) }
-    ensures full { OnErr result (vec_capacity before.old < length before.old.items + more) }
-{
-    match before.reserve(more as usize) {
-        Ok(()) => Ok(()),
-        Err(_) => Err(NoMemory),
-    }
-}
-
-// How much room in the index so many changes more take, with those that there are: one for the change and one for
-// putting back.
-fn room_of(changed: u64, more: u64) -> Option<u64>
-    ensures some { IfSome result (λ room. room ≡ changed + 2 * more) }
-    ensures none { IfNone result (2 ^ 64 ≤ changed + 2 * more) }
-{
-    let Some(twice) = more.checked_mul(2) else {
-        return None;
-    };
-    changed.checked_add(twice)
-}
-
-// Makes room in the index for so many changes more, and for putting all back.
-fn reserve_rows<R: Row + Drop>(
-    rows: &mut Indexed<R>,
-    changed: u64,
-    more: u64,
-) -> Result<(), NoMemory>
-    ensures rows { rows.new.rows ≡ rows.old.rows }
-    ensures kept { rows.old.room ≤ rows.new.room }
-    ensures ok { OnOk result (changed + 2 * more ≤ rows.new.room) }
-    ensures full { OnErr result (rows.old.room < changed + 2 * more) }
-{
-    let there = rows.room();
-    match room_of(changed, more) {
-        Some(room) if room <= there => Ok(()),
-        Some(room) => rows.reserve(room),
-        None => Err(NoMemory),
-    }
-}
-
-// One more than so many, unless that is beyond all places.
-fn one_more<R>(before: &Vec<Before<R>>, room: u64) -> Option<u64>
-    ensures some { IfSome result (λ more. more ≡ room + 1) }
-    ensures none { IfNone result (vec_capacity before.now < room + 1) }
-{
-    if before.capacity() as u64 <= room {
-        return room.checked_add(1);
-    }
-    Some(room + 1)
-}
-
-// Makes room for one change more and so many after it, and for putting back all rows.
+// Makes a place to remember one change more, and room in the index for it and for putting back all rows.
 fn make_room<R: Row + Drop>(
     rows: &mut Indexed<R>,
     before: &mut Vec<Before<R>>,
-    room: u64,
 ) -> Result<(), NoMemory>
     ensures rows { rows.new.rows ≡ rows.old.rows }
     ensures before { before.new.items ≡ before.old.items }
     ensures kept { rows.old.room ≤ rows.new.room }
-    ensures places { vec_capacity before.old ≤ vec_capacity before.new }
-    ensures room { OnOk result (length before.old.items + 2 * (room + 1) ≤ rows.new.room) }
-    ensures spare { OnOk result (length before.old.items + (room + 1) ≤ vec_capacity before.new) }
-    ensures full { OnErr result ((vec_capacity before.old < length before.old.items + (room + 1))
-        ⊎ (rows.old.room < length before.old.items + 2 * (room + 1))) }
+    ensures room { OnOk result (length before.old.items + 2 ≤ rows.new.room) }
+    ensures spare { OnOk result (length before.old.items < vec_capacity before.new) }
 {
-    let Some(more) = one_more(before, room) else {
+    let Ok(()) = before.reserve(1) else {
         return Err(NoMemory);
     };
-    let Ok(()) = reserve_places(before, more) else {
+    let Some(room) = (before.len() as u64).checked_add(2) else {
         return Err(NoMemory);
     };
-    reserve_rows(rows, before.len() as u64, more)
+    rows.reserve(room)
 }
 
 // Puts a new row where there is room for it.
@@ -421,20 +281,15 @@ fn put_tracked<R: Row + Drop>(
     rows: &mut Indexed<R>,
     before: &mut Vec<Before<R>>,
     row: R,
-    room: u64,
 ) -> Result<(), NoMemory>
     requires id { 0 < R.id_of row }
-    requires tracked { IsTracked R.id_of before.old.items rows.old room }
-    requires places { length before.old.items + room ≤ vec_capacity before.old }
+    requires tracked { IsTracked R.id_of before.old.items rows.old }
     ensures ok { OnOk result (rows.new.rows ≡ with_row R.id_of row rows.old.rows) }
     ensures err { OnErr result (rows.new.rows ≡ rows.old.rows) }
-    ensures kept { Kept R.id_of before.old.items rows.old before.new.items rows.new room }
-    ensures places { length before.new.items + room ≤ vec_capacity before.new }
+    ensures kept { GoBackAsBefore R.id_of before.old.items rows.old before.new.items rows.new }
     ensures changed { length before.new.items ≤ length before.old.items + 1 }
-    ensures full { OnErr result ((vec_capacity before.old < length before.old.items + (room + 1))
-        ⊎ (rows.old.room < length before.old.items + 2 * (room + 1))) }
 {
-    let Ok(()) = make_room(rows, before, room) else {
+    let Ok(()) = make_room(rows, before) else {
         return Err(NoMemory);
     };
     let id = row.id();
@@ -447,20 +302,15 @@ fn remove_tracked<R: Row + Drop>(
     rows: &mut Indexed<R>,
     before: &mut Vec<Before<R>>,
     id: Id,
-    room: u64,
 ) -> Result<(), NoMemory>
     requires id { 0 < id }
-    requires tracked { IsTracked R.id_of before.old.items rows.old room }
-    requires places { length before.old.items + room ≤ vec_capacity before.old }
+    requires tracked { IsTracked R.id_of before.old.items rows.old }
     ensures ok { OnOk result (rows.new.rows ≡ drop_row R.id_of id rows.old.rows) }
     ensures err { OnErr result (rows.new.rows ≡ rows.old.rows) }
-    ensures kept { Kept R.id_of before.old.items rows.old before.new.items rows.new room }
-    ensures places { length before.new.items + room ≤ vec_capacity before.new }
+    ensures kept { GoBackAsBefore R.id_of before.old.items rows.old before.new.items rows.new }
     ensures changed { length before.new.items ≤ length before.old.items + 1 }
-    ensures full { OnErr result ((vec_capacity before.old < length before.old.items + (room + 1))
-        ⊎ (rows.old.room < length before.old.items + 2 * (room + 1))) }
 {
-    let Ok(()) = make_room(rows, before, room) else {
+    let Ok(()) = make_room(rows, before) else {
         return Err(NoMemory);
     };
     let old = rows.remove(id);
@@ -471,7 +321,6 @@ fn remove_tracked<R: Row + Drop>(
 // How many rows there are with one of this id.
 fn count_with<R: Row + Drop>(rows: &Indexed<R>, count: usize, id: Id) -> Result<usize, NoMemory>
     ensures ok { IfOk result (λ n. n ≡ (if has_row R.id_of id rows.now.rows then count else count + 1)) }
-    ensures full { OnErr result ((has_row R.id_of id rows.now.rows ≡ false) × (2 ^ 64 ≤ count + 1)) }
 {
     if rows.get(id).is_some() {
         return Ok(count);
@@ -497,26 +346,20 @@ fn put_counted<R: Row + Drop>(
     before: &mut Vec<Before<R>>,
     count: &mut usize,
     row: R,
-    room: u64,
 ) -> Result<(), NoMemory>
     requires id { 0 < R.id_of row }
-    requires tracked { IsTracked R.id_of before.old.items rows.old room }
-    requires places { length before.old.items + room ≤ vec_capacity before.old }
+    requires tracked { IsTracked R.id_of before.old.items rows.old }
     requires counted { count.old ≡ length rows.old.rows }
     ensures ok { OnOk result (rows.new.rows ≡ with_row R.id_of row rows.old.rows) }
     ensures err { OnErr result (rows.new.rows ≡ rows.old.rows) }
-    ensures kept { Kept R.id_of before.old.items rows.old before.new.items rows.new room }
+    ensures kept { GoBackAsBefore R.id_of before.old.items rows.old before.new.items rows.new }
     ensures counted { count.new ≡ length rows.new.rows }
-    ensures places { length before.new.items + room ≤ vec_capacity before.new }
     ensures changed { length before.new.items ≤ length before.old.items + 1 }
-    ensures full { OnErr result ((2 ^ 64 ≤ length (with_row R.id_of row rows.old.rows))
-        ⊎ (vec_capacity before.old < length before.old.items + (room + 1))
-        ⊎ (rows.old.room < length before.old.items + 2 * (room + 1))) }
 {
     let Ok(next) = count_with(rows, *count, row.id()) else {
         return Err(NoMemory);
     };
-    let Ok(()) = put_tracked(rows, before, row, room) else {
+    let Ok(()) = put_tracked(rows, before, row) else {
         return Err(NoMemory);
     };
     *count = next;
@@ -528,23 +371,18 @@ fn remove_counted<R: Row + Drop>(
     before: &mut Vec<Before<R>>,
     count: &mut usize,
     id: Id,
-    room: u64,
 ) -> Result<(), NoMemory>
     requires id { 0 < id }
-    requires tracked { IsTracked R.id_of before.old.items rows.old room }
-    requires places { length before.old.items + room ≤ vec_capacity before.old }
+    requires tracked { IsTracked R.id_of before.old.items rows.old }
     requires counted { count.old ≡ length rows.old.rows }
     ensures ok { OnOk result (rows.new.rows ≡ drop_row R.id_of id rows.old.rows) }
     ensures err { OnErr result (rows.new.rows ≡ rows.old.rows) }
-    ensures kept { Kept R.id_of before.old.items rows.old before.new.items rows.new room }
+    ensures kept { GoBackAsBefore R.id_of before.old.items rows.old before.new.items rows.new }
     ensures counted { count.new ≡ length rows.new.rows }
-    ensures places { length before.new.items + room ≤ vec_capacity before.new }
     ensures changed { length before.new.items ≤ length before.old.items + 1 }
-    ensures full { OnErr result ((vec_capacity before.old < length before.old.items + (room + 1))
-        ⊎ (rows.old.room < length before.old.items + 2 * (room + 1))) }
 {
     let next = count_without(rows, *count, id);
-    let Ok(()) = remove_tracked(rows, before, id, room) else {
+    let Ok(()) = remove_tracked(rows, before, id) else {
         return Err(NoMemory);
     };
     *count = next;
@@ -568,12 +406,10 @@ fn put_back<R: Row + Drop>(rows: &mut Indexed<R>, image: Before<R>)
 
 // Puts back all rows that changed.
 fn put_all_back<R: Row + Drop>(rows: &mut Indexed<R>, before: &mut Vec<Before<R>>)
-    requires { IsTracked R.id_of before.old.items rows.old 0 }
+    requires { IsTracked R.id_of before.old.items rows.old }
     ensures rows { rows.new.rows ≡ restored R.id_of before.old.items rows.old.rows }
     ensures before { before.new.items ≡ [] }
-    ensures places { vec_capacity before.new ≡ vec_capacity before.old }
-    ensures tracked { (room : ℕ) → IsTracked R.id_of before.old.items rows.old room
-        → IsTracked R.id_of before.new.items rows.new room }
+    ensures tracked { IsTracked R.id_of before.new.items rows.new }
 {
     while let Some(image) = before.pop() {
         put_back(rows, image);
@@ -632,7 +468,7 @@ fn put_all_events<R: Row + Same + Drop>(
     kind: Kind,
     events: &mut Vec<Event>,
 )
-    requires tracked { IsTracked R.id_of before.now rows.now 0 }
+    requires tracked { IsTracked R.id_of before.now rows.now }
     requires places { length events.old.items + length before.now ≤ vec_capacity events.old }
     ensures items { (same : R → R → Bool) → DecidesRows R.id_of same →
         events.new.items

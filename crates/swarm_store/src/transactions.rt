@@ -1,13 +1,12 @@
 // Transactions: operations one after the other, of which all are done or none.
-ghost use Rattle.std.specs.Prelude.{◌≡◌, ◌≤◌, ℕ, [], OnErr, OnOk};
-ghost use Rattle.std.specs.Vec.{vec_capacity};
+ghost use Rattle.std.specs.Prelude.{◌≡◌, [], OnErr, OnOk};
 ghost use Rattle.swarm_model.specs.Changed.{changes_between};
 ghost use Rattle.std.specs.Result.{result_err};
 ghost use Rattle.swarm_model.specs.Calls.Operations.{apply_ops};
 ghost use Rattle.swarm_model.specs.Calls.Refusals.{conflict};
 ghost use Rattle.swarm_store.specs.Inside.Done.{made_all};
 ghost use Rattle.swarm_store.specs.Inside.Ops.{Does, Reached};
-ghost use Rattle.swarm_store.specs.Inside.State.{HasRooms, IsSettled, Stands, origin, tables_now, world_now};
+ghost use Rattle.swarm_store.specs.Inside.State.{IsUntouched, Stands, tables_now, tables_start, world_now};
 
 use crate::state::State;
 use swarm_objects::{Event, Id, List, NoMemory, Op, Refusal, Version};
@@ -28,7 +27,7 @@ impl State {
     fn apply_op(&mut self, version: Version, op: &Op) -> Result<Id, Refusal>
         requires { Stands (tables_now self.old) }
         ensures done { Does version op.now self.old result self.new }
-        ensures start { origin self.new ≡ origin self.old }
+        ensures start { tables_start self.new ≡ tables_start self.old }
     {
         match op {
             Op::CreateNode(name, draft) => self.create_node(version, name, draft),
@@ -57,7 +56,7 @@ impl State {
         ensures done { Reached
             (made_all (apply_ops version ops.now (world_now self.old) [])) result (tables_now self.new) }
         ensures stands { OnOk result (Stands (tables_now self.new)) }
-        ensures start { origin self.new ≡ origin self.old }
+        ensures start { tables_start self.new ≡ tables_start self.old }
     {
         let mut ids = List::new(self.alloc);
         for op in ops {
@@ -76,8 +75,8 @@ impl State {
         version: Version,
         ops: &[Op],
     ) -> Result<List<Id>, Refusal>
-        requires settled { IsSettled self.old }
-        ensures settled { IsSettled self.new }
+        requires untouched { IsUntouched self.old }
+        ensures untouched { IsUntouched self.new }
         ensures done { Reached
             (made_all (apply_ops version ops.now (world_now self.old) [])) result (tables_now self.new) }
         ensures ok { OnOk result (
@@ -85,8 +84,6 @@ impl State {
         ensures err { OnErr result (
             (tables_now self.new ≡ tables_now self.old) × (events.new.items ≡ events.old.items)
             ) }
-        ensures rooms { (n : ℕ) → HasRooms n self.old → HasRooms n self.new }
-        ensures places { vec_capacity events.old ≤ vec_capacity events.new }
     {
         match self.apply_ops(version, ops) {
             Ok(ids) => match self.commit(events, version) {

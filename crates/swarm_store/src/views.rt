@@ -10,9 +10,9 @@ ghost use Rattle.swarm_store.specs.Stored.{HasNearTasks};
 ghost use Rattle.swarm_model.specs.Outcome.{Gets};
 
 use crate::held::held_count;
-use crate::names::not_found;
 use crate::state::State;
 use crate::walks::{all, service_tasks};
+use swarm_check::not_found;
 use swarm_objects::details::{is_shown_running, service_counted};
 use swarm_objects::shown::task_shown;
 use swarm_objects::views::{NetworkShown, NodeShown, ServiceShown, TaskShown};

@@ -10,7 +10,7 @@ use Rattle.swarm_objects.specs.declared.replies.Refusal.TheVariants as refusal
 use Rattle.swarm_objects.specs.declared.watches.Event.{Event}
 use Rattle.swarm_watch.proofs.Noting.{all_hear, awaited_is, tidy_more}
 use Rattle.swarm_watch.proofs.Places.{found_is, tidy_begun}
-use Rattle.swarm_watch.specs.Calls.{Gives, Meets, finish_answer, hears, is_awaited, poll_answer, polled, told}
+use Rattle.swarm_watch.specs.Calls.{AnswersAs, MayAnswerAs, finish_answer, hears, is_awaited, poll_answer, poll_waiting, without_waiting}
 use Rattle.swarm_watch.specs.Inside.Cursors.{IsTidy, cursor_id, is_admitted, watching_at, watchings}
 use Rattle.swarm_watch.specs.Watchings.{Few, Many, Watching, Watchings, waiting_of, watching_id}
 use Rattle.swarm_watch.specs.declared.cursors.Cursor.{Cursor}
@@ -36,48 +36,48 @@ some_copied kept None false e t = absurd cc
 
 -- Answers.
 
-pub poll_unknown : (v : Watchings) (id : ℕ) (row : Option Watching) → row ≡ None → Meets (poll_answer v.watchers id row) v (Err (refusal.UnknownWatcher id)) v
+pub poll_unknown : (v : Watchings) (id : ℕ) (row : Option Watching) → row ≡ None → MayAnswerAs (poll_answer v.watchers id row) v (Err (refusal.UnknownWatcher id)) v
 poll_unknown v id None e = inl (refl, refl, omega arith)
 poll_unknown v id (Some x) e = absurd cc
 
 lags : (v after : Watchings) (id : ℕ) (events : List Event) (many : Bool) → many ≡ true → after.watchers ≡ drop_row watching_id id v.watchers →
     v.room ≤ after.room →
-    Meets (polled v.watchers id (cond many (Many (length events)) (Few events))) v (Err (refusal.Lagged (length events))) after
+    MayAnswerAs (poll_waiting v.watchers id (cond many (Many (length events)) (Few events))) v (Err (refusal.Lagged (length events))) after
 lags v after id events true t gone room = inl (refl, gone, room)
 lags v after id events false t gone room = absurd cc
 
-tells : (v after : Watchings) (id : ℕ) (events : List Event) (many : Bool) → many ≡ false → after.watchers ≡ change_row watching_id id told v.watchers →
+tells : (v after : Watchings) (id : ℕ) (events : List Event) (many : Bool) → many ≡ false → after.watchers ≡ change_row watching_id id without_waiting v.watchers →
     v.room ≤ after.room →
-    Meets (polled v.watchers id (cond many (Many (length events)) (Few events))) v (Ok events) after
+    MayAnswerAs (poll_waiting v.watchers id (cond many (Many (length events)) (Few events))) v (Ok events) after
 tells v after id events true t told_is room = absurd cc
 tells v after id events false t told_is room = inl (refl, told_is, room)
 
 pub poll_lags : (v after : Watchings) (id count : ℕ) (row : Option Watching) (x : Watching) (events : List Event) → row ≡ Some x → x.waiting ≡ waiting_of events →
     count ≡ length events → most_events < count → after.watchers ≡ drop_row watching_id id v.watchers → v.room ≤ after.room →
-    Meets (poll_answer v.watchers id row) v (Err (refusal.Lagged count)) after
+    MayAnswerAs (poll_answer v.watchers id row) v (Err (refusal.Lagged count)) after
 poll_lags v after id count row x events e waits n more gone room =
     let test : nat_lt most_events (length events) ≡ true = grind (arith, nat_tests) in
-    subst (λ o. Meets (poll_answer v.watchers id o) v (Err (refusal.Lagged count)) after) (sym e)
-    (subst (λ waiting. Meets (polled v.watchers id waiting) v (Err (refusal.Lagged count)) after) (sym waits)
-    (subst (λ k. Meets (polled v.watchers id (waiting_of events)) v (Err (refusal.Lagged k)) after) (sym n)
+    subst (λ o. MayAnswerAs (poll_answer v.watchers id o) v (Err (refusal.Lagged count)) after) (sym e)
+    (subst (λ waiting. MayAnswerAs (poll_waiting v.watchers id waiting) v (Err (refusal.Lagged count)) after) (sym waits)
+    (subst (λ k. MayAnswerAs (poll_waiting v.watchers id (waiting_of events)) v (Err (refusal.Lagged k)) after) (sym n)
     (lags v after id events (nat_lt most_events (length events)) test gone room)))
 
 pub poll_tells : (v after : Watchings) (id count : ℕ) (row : Option Watching) (x : Watching) (events given : List Event) → row ≡ Some x →
     x.waiting ≡ waiting_of events → count ≡ length events → count ≤ most_events → given ≡ events →
-    after.watchers ≡ change_row watching_id id told v.watchers → v.room ≤ after.room → Meets (poll_answer v.watchers id row) v (Ok given) after
+    after.watchers ≡ change_row watching_id id without_waiting v.watchers → v.room ≤ after.room → MayAnswerAs (poll_answer v.watchers id row) v (Ok given) after
 poll_tells v after id count row x events given e waits n few all told_is room =
     let test : nat_lt most_events (length events) ≡ false = grind (arith, nat_tests) in
-    subst (λ o. Meets (poll_answer v.watchers id o) v (Ok given) after) (sym e)
-    (subst (λ waiting. Meets (polled v.watchers id waiting) v (Ok given) after) (sym waits)
-    (subst (λ es. Meets (polled v.watchers id (waiting_of events)) v (Ok es) after) (sym all)
+    subst (λ o. MayAnswerAs (poll_answer v.watchers id o) v (Ok given) after) (sym e)
+    (subst (λ waiting. MayAnswerAs (poll_waiting v.watchers id waiting) v (Ok given) after) (sym waits)
+    (subst (λ es. MayAnswerAs (poll_waiting v.watchers id (waiting_of events)) v (Ok es) after) (sym all)
     (tells v after id events (nat_lt most_events (length events)) test told_is room)))
 
-pub finish_unknown : (v : Watchings) (id : ℕ) (row : Option Watching) → row ≡ None → Gives (finish_answer v.watchers id row) v (Err (refusal.UnknownWatcher id)) v
+pub finish_unknown : (v : Watchings) (id : ℕ) (row : Option Watching) → row ≡ None → AnswersAs (finish_answer v.watchers id row) v (Err (refusal.UnknownWatcher id)) v
 finish_unknown v id None e = (refl, refl, omega arith)
 finish_unknown v id (Some x) e = absurd cc
 
 pub finish_done : (v after : Watchings) (id : ℕ) (row : Option Watching) → is_some row ≡ true → after.watchers ≡ drop_row watching_id id v.watchers →
-    v.room ≤ after.room → Gives (finish_answer v.watchers id row) v (Ok tt) after
+    v.room ≤ after.room → AnswersAs (finish_answer v.watchers id row) v (Ok tt) after
 finish_done v after id None e gone room = absurd cc
 finish_done v after id (Some x) e gone room = (refl, gone, room)
 

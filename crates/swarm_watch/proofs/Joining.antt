@@ -34,9 +34,9 @@ use Rattle.swarm_objects.specs.declared.watches.Filter.{Filter}
 use Rattle.swarm_objects.specs.declared.watches.Watcher.{Watcher}
 use Rattle.swarm_watch.proofs.Missing.{row_at-seen, seen_at}
 use Rattle.swarm_watch.proofs.Noting.{waits_again}
-use Rattle.swarm_watch.specs.Calls.{Answer, Gives, Meets, begin_answer, begin_unless, begun, finish_answer, hears, poll_answer, polled, told}
+use Rattle.swarm_watch.specs.Calls.{Answer, AnswersAs, MayAnswerAs, begin_answer, begin_unless, finish_answer, hears, new_watching, poll_answer, poll_waiting, without_waiting}
 use Rattle.swarm_watch.specs.Watchings.{Few, Many, Watching, Watchings, waiting_of, watching_id}
-use Rattle.swarm_watch.specs.Worlds.{BeginLaw, FinishLaw, Follows, FreeLaw, MayFollow, NotesLaw, PollsLaw, reply_with, watching_in, watchings_of}
+use Rattle.swarm_watch.specs.Worlds.{AnswersAsWorld, BeginLaw, FinishLaw, FreeLaw, MayAnswerAsWorld, NotesLaw, PollsLaw, reply_with, watching_in, watchings_of}
 
 -- the answer is the one that the world gives, and so are the watchers after it
 abbrev IsAnswerOf : {X : Type 0} → (X → Reply) → Answer X → Outcome → Type 0
@@ -44,11 +44,11 @@ IsAnswerOf say answer outcome =
     (reply_with say answer.given ≡ outcome.reply) × (answer.after ≡ watchings_of outcome.after)
 
 follows : {X : Type 0} (say : X → Reply) (answer : Answer X) (outcome : Outcome) (before after : Watchings) (result : Result X Refusal) →
-    IsAnswerOf say answer outcome → Gives answer before result after → Follows say outcome result after
+    IsAnswerOf say answer outcome → AnswersAs answer before result after → AnswersAsWorld say outcome result after
 follows say answer outcome before after result is gives = (ap (reply_with say) gives.0 ∙ is.0, gives.1 ∙ is.1)
 
 may_follow : {X : Type 0} (say : X → Reply) (answer : Answer X) (outcome : Outcome) (before after : Watchings) (result : Result X Refusal) →
-    IsAnswerOf say answer outcome → Meets answer before result after → MayFollow say outcome before result after
+    IsAnswerOf say answer outcome → MayAnswerAs answer before result after → MayAnswerAsWorld say outcome before result after
 may_follow say answer outcome before after result is (inl gives) = inl (follows say answer outcome before after result is gives)
 may_follow say answer outcome before after result is (inr wanting) = inr wanting
 
@@ -161,12 +161,12 @@ nothing_seen : (w new : World) (x : Watcher) → IsWatched w → changes_between
 nothing_seen w new x is none h at = ap (seen x) (sym (waits_still w new x none h ∙ told_before w x is at))
 
 begun_world : (w : World) (f : Filter) → IsWatched w →
-    watchings_of w ++ begun w.tables.next_id f ∷ [] ≡ watchings_of (entered w (with_watcher (w.entries + 1) w f))
+    watchings_of w ++ new_watching w.tables.next_id f ∷ [] ≡ watchings_of (entered w (with_watcher (w.entries + 1) w f))
 begun_world w f is =
     let new = with_watcher (w.entries + 1) w f in
     let x = new_watcher (w.entries + 1) w.tables.next_id f in
     let none : changes_between (w.entries + 1) w.tables new.tables ≡ [] = changes-none (w.entries + 1) w.tables in
-    ap (λ ys. ys ++ begun w.tables.next_id f ∷ [])
+    ap (λ ys. ys ++ new_watching w.tables.next_id f ∷ [])
     (seen_same (watching_in w) (watching_in (entered w new)) w.watchers (λ y h. same_seen w new y none (Has-append_left w.watchers (x ∷ []) y h)))
     ∙ ap (λ y. map (watching_in (entered w new)) w.watchers ++ y ∷ [])
     (nothing_seen w new x is none (Has-append_right w.watchers (x ∷ []) x (inl refl)) refl)
@@ -210,16 +210,16 @@ gone_world w id =
     (λ x h. same_seen w (without_watcher id w) x (changes-none (w.entries + 1) w.tables) h)
 
 told_one : (w : World) (id : ℕ) (x : Watcher) (b : Bool) → IsWatched w → Has (told_at (w.entries + 1) id w).watchers (cond b (told_all (w.entries + 1) x) x) →
-    cond b (told (watching_in w x)) (watching_in w x) ≡ watching_in (entered w (told_at (w.entries + 1) id w)) (cond b (told_all (w.entries + 1) x) x)
+    cond b (without_waiting (watching_in w x)) (watching_in w x) ≡ watching_in (entered w (told_at (w.entries + 1) id w)) (cond b (told_all (w.entries + 1) x) x)
 told_one w id x true is h = nothing_seen w (told_at (w.entries + 1) id w) (told_all (w.entries + 1) x) is (changes-none (w.entries + 1) w.tables) h refl
 told_one w id x false is h = same_seen w (told_at (w.entries + 1) id w) x (changes-none (w.entries + 1) w.tables) h
 
-told_world : (w : World) (id : ℕ) → IsWatched w → change_row watching_id id told (watchings_of w) ≡ watchings_of (entered w (told_at (w.entries + 1) id w))
+told_world : (w : World) (id : ℕ) → IsWatched w → change_row watching_id id without_waiting (watchings_of w) ≡ watchings_of (entered w (told_at (w.entries + 1) id w))
 told_world w id is =
     let change : Watcher → Watcher = λ x. cond (watcher_id x == id) (told_all (w.entries + 1) x) x in
     let after = entered w (told_at (w.entries + 1) id w) in
-    map_twice (λ y. cond (watching_id y == id) (told y) y) (watching_in w) w.watchers
-    ∙ seen_same (λ x. cond (watcher_id x == id) (told (watching_in w x)) (watching_in w x)) (λ x. watching_in after (change x)) w.watchers
+    map_twice (λ y. cond (watching_id y == id) (without_waiting y) y) (watching_in w) w.watchers
+    ∙ seen_same (λ x. cond (watcher_id x == id) (without_waiting (watching_in w x)) (watching_in w x)) (λ x. watching_in after (change x)) w.watchers
     (λ x h. told_one w id x (watcher_id x == id) is (Has-map change w.watchers x h))
     ∙ sym (map_after (watching_in after) change w.watchers)
 
@@ -236,7 +236,7 @@ poll_row w id (Some x) is = go (nat_lt most_events (length (waiting_events w x))
 
     go : (b : Bool) →
         IsAnswerOf reply.Events
-        (polled (watchings_of w) id (cond b (Many (length events)) (Few events)))
+        (poll_waiting (watchings_of w) id (cond b (Many (length events)) (Few events)))
         (record { reply = (told_so b).0; after = entered w (told_so b).1 })
     go true = (refl, gone_world w id)
     go false = (refl, told_world w id is)

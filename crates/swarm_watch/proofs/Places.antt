@@ -15,7 +15,7 @@ use Rattle.swarm_objects.specs.declared.watches.Event.{Event}
 use Rattle.swarm_objects.specs.declared.watches.Filter.{Filter}
 use Rattle.swarm_watch.proofs.Missing.{change_split, drop_split, no_place, none_cases, row_at-seen, seen_at}
 use Rattle.swarm_watch.proofs.Moving.{distinct_join, distinct_split, waited_before, waited_more, within_join, within_split}
-use Rattle.swarm_watch.specs.Calls.{begun, told}
+use Rattle.swarm_watch.specs.Calls.{new_watching, without_waiting}
 use Rattle.swarm_watch.specs.Inside.Cursors.{AreDistinct, AreWaited, AreWithin, IsSwept, IsTidy, cursor_id, watching_at, watchings}
 use Rattle.swarm_watch.specs.Watchings.{Watching, waiting_of, watching_id}
 use Rattle.swarm_watch.specs.declared.cursors.Cursor.{Cursor}
@@ -108,13 +108,13 @@ swept_at_end xs kept place id x is at =
       waited = waited_more a (at_end kept x) b 0 (take x.from kept) s.waited;
     })
 
-nothing_waits : (kept : List Event) (x : Cursor) → watching_at kept (at_end kept x) ≡ told (watching_at kept x)
+nothing_waits : (kept : List Event) (x : Cursor) → watching_at kept (at_end kept x) ≡ without_waiting (watching_at kept x)
 nothing_waits kept x =
     let seen : List Event → Watching = λ es. record { id = x.id; filter = x.filter; waiting = waiting_of es } in
     ap (λ es. seen (filter (filter_admits x.filter) es)) (drop-length kept)
 
 pub told_is : (xs : List Cursor) (kept : List Event) (place id : ℕ) (x : Cursor) → IsTidy xs kept → StandsAt xs place id x →
-    watchings kept (set xs place (at_end kept x)) ≡ change_row watching_id id told (watchings kept xs)
+    watchings kept (set xs place (at_end kept x)) ≡ change_row watching_id id without_waiting (watchings kept xs)
 told_is xs kept place id x is at =
     let a = take place xs in
     let b = drop (suc place) xs in
@@ -122,9 +122,9 @@ told_is xs kept place id x is at =
     ap (watchings kept) (set_split xs place (at_end kept x) at.inside)
     ∙ watchings_split kept a (at_end kept x) b
     ∙ ap (λ w. watchings kept a ++ w ∷ watchings kept b) (nothing_waits kept x)
-    ∙ sym (change_split watching_id id told (watchings kept a) (watching_at kept x) (watchings kept b) (none_seen kept id a d.1) (none_seen kept id b d.2)
+    ∙ sym (change_split watching_id id without_waiting (watchings kept a) (watching_at kept x) (watchings kept b) (none_seen kept id a d.1) (none_seen kept id b d.2)
     at.has_id)
-    ∙ ap (change_row watching_id id told) (sym (ap (watchings kept) at.among ∙ watchings_split kept a x b))
+    ∙ ap (change_row watching_id id without_waiting) (sym (ap (watchings kept) at.among ∙ watchings_split kept a x b))
 
 pub place_within : (xs : List Cursor) (kept : List Event) (place id : ℕ) (x : Cursor) → IsTidy xs kept → StandsAt xs place id x → x.from ≤ length kept
 place_within xs kept place id x is at =
@@ -144,16 +144,16 @@ tell_swept xs kept place id n d is found end =
 
 pub tell_told : (xs : List Cursor) (kept : List Event) (place id n : ℕ) (d : Cursor) → IsTidy xs kept →
     position (λ y. cursor_id y == id) xs ≡ Some place → n ≡ length kept →
-    watchings kept (set xs place (record (get_or xs place d) { from = n })) ≡ change_row watching_id id told (watchings kept xs)
+    watchings kept (set xs place (record (get_or xs place d) { from = n })) ≡ change_row watching_id id without_waiting (watchings kept xs)
 tell_told xs kept place id n d is found end =
     ap (λ m. watchings kept (set xs place (record (get_or xs place d) { from = m }))) end
     ∙ told_is xs kept place id (get_or xs place d) is (stands_here xs place id d found)
 
 -- nobody has the id
 pub nobody_told : (xs : List Cursor) (kept : List Event) (id : ℕ) → position (λ y. cursor_id y == id) xs ≡ None →
-    watchings kept xs ≡ change_row watching_id id told (watchings kept xs)
+    watchings kept xs ≡ change_row watching_id id without_waiting (watchings kept xs)
 nobody_told xs kept id none =
-    sym (change_row-None watching_id id told (watchings kept xs) (none_seen kept id xs (no_place cursor_id id xs none)))
+    sym (change_row-None watching_id id without_waiting (watchings kept xs) (none_seen kept id xs (no_place cursor_id id xs none)))
 
 pub nobody_gone : (xs : List Cursor) (kept : List Event) (id : ℕ) → position (λ y. cursor_id y == id) xs ≡ None →
     watchings kept xs ≡ drop_row watching_id id (watchings kept xs)
@@ -180,7 +180,7 @@ tidy_begun xs kept x is free le =
     }
 
 pub begun_is : (xs : List Cursor) (kept : List Event) (id : ℕ) (f : Filter) →
-    watchings kept (xs ++ record { id = id; filter = f; from = length kept } ∷ []) ≡ watchings kept xs ++ begun id f ∷ []
+    watchings kept (xs ++ record { id = id; filter = f; from = length kept } ∷ []) ≡ watchings kept xs ++ new_watching id f ∷ []
 begun_is xs kept id f =
     map-append (watching_at kept) xs (record { id = id; filter = f; from = length kept } ∷ [])
     ∙ ap (λ es. watchings kept xs ++ record { id = id; filter = f; waiting = waiting_of (filter (filter_admits f) es) } ∷ []) (drop-length kept)

@@ -24,11 +24,11 @@ abbrev pub done : {X : Type 0} → X → List Watching → Answer X
 done x after = record { given = Ok x; after = after }
 
 -- nothing waits for a watcher that begins
-abbrev pub begun : ℕ → Filter → Watching
-begun id f = record { id = id; filter = f; waiting = Few [] }
+abbrev pub new_watching : ℕ → Filter → Watching
+new_watching id f = record { id = id; filter = f; waiting = Few [] }
 
 abbrev pub begin_unless : Option Refusal → List Watching → ℕ → Filter → Answer (Unit {0})
-begin_unless None xs id f = done tt (xs ++ begun id f ∷ [])
+begin_unless None xs id f = done tt (xs ++ new_watching id f ∷ [])
 begin_unless (Some r) xs id f = refused r xs
 
 abbrev pub begin_answer : List Watching → ℕ → Filter → Answer (Unit {0})
@@ -41,28 +41,28 @@ hears events x = record x { waiting = waits_more x.waiting (filter (filter_admit
 abbrev pub is_awaited : List Watching → Event → Bool
 is_awaited xs e = list_any (λ x. filter_admits x.filter e) xs
 
-abbrev pub told : Watching → Watching
-told x = record x { waiting = Few [] }
+abbrev pub without_waiting : Watching → Watching
+without_waiting x = record x { waiting = Few [] }
 
 -- too many events take the watcher away; else it is told them all
-abbrev pub polled : List Watching → ℕ → Waiting → Answer (List Event)
-polled xs id (Many count) = refused (refusal.Lagged count) (drop_row watching_id id xs)
-polled xs id (Few events) = done events (change_row watching_id id told xs)
+abbrev pub poll_waiting : List Watching → ℕ → Waiting → Answer (List Event)
+poll_waiting xs id (Many count) = refused (refusal.Lagged count) (drop_row watching_id id xs)
+poll_waiting xs id (Few events) = done events (change_row watching_id id without_waiting xs)
 
 abbrev pub poll_answer : List Watching → ℕ → Option Watching → Answer (List Event)
 poll_answer xs id None = refused (refusal.UnknownWatcher id) xs
-poll_answer xs id (Some x) = polled xs id x.waiting
+poll_answer xs id (Some x) = poll_waiting xs id x.waiting
 
 abbrev pub finish_answer : List Watching → ℕ → Option Watching → Answer (Unit {0})
 finish_answer xs id None = refused (refusal.UnknownWatcher id) xs
 finish_answer xs id (Some x) = done tt (drop_row watching_id id xs)
 
 -- the answer and the watchers after it are these, and the room is no less
-abbrev pub Gives : {X : Type 0} → Answer X → Watchings → Result X Refusal → Watchings → Type 0
-Gives expected before result after =
+abbrev pub AnswersAs : {X : Type 0} → Answer X → Watchings → Result X Refusal → Watchings → Type 0
+AnswersAs expected before result after =
     (result ≡ expected.given) × (after.watchers ≡ expected.after) × (before.room ≤ after.room)
 
 -- they are these, or memory was wanting and nothing changed
-abbrev pub Meets : {X : Type 0} → Answer X → Watchings → Result X Refusal → Watchings → Type 0
-Meets expected before result after =
-    Gives expected before result after ⊎ ((result ≡ Err refusal.NoMemory) × (after ≡ before))
+abbrev pub MayAnswerAs : {X : Type 0} → Answer X → Watchings → Result X Refusal → Watchings → Type 0
+MayAnswerAs expected before result after =
+    AnswersAs expected before result after ⊎ ((result ≡ Err refusal.NoMemory) × (after ≡ before))

@@ -17,7 +17,7 @@ use Rattle.swarm_objects.specs.declared.replies.Reply.TheVariants as reply
 use Rattle.swarm_objects.specs.declared.watches.Event.{Event}
 use Rattle.swarm_objects.specs.declared.watches.Filter.{Filter}
 use Rattle.swarm_objects.specs.declared.watches.Watcher.{Watcher}
-use Rattle.swarm_watch.specs.Calls.{Gives, Meets, begin_answer, finish_answer, hears, poll_answer}
+use Rattle.swarm_watch.specs.Calls.{AnswersAs, MayAnswerAs, begin_answer, finish_answer, hears, poll_answer}
 use Rattle.swarm_watch.specs.Watchings.{Watching, Watchings, waiting_of, watching_id}
 
 abbrev pub watching_in : World → Watcher → Watching
@@ -37,13 +37,13 @@ reply_with say (Ok x) = say x
 reply_with say (Err r) = reply.Refused r
 
 -- a call on watches is answered as in the world, and they stand for the world after it
-abbrev pub Follows : {X : Type 0} → (X → Reply) → Outcome → Result X Refusal → Watchings → Type 0
-Follows say outcome result after = (reply_with say result ≡ outcome.reply) × StandsFor after outcome.after
+abbrev pub AnswersAsWorld : {X : Type 0} → (X → Reply) → Outcome → Result X Refusal → Watchings → Type 0
+AnswersAsWorld say outcome result after = (reply_with say result ≡ outcome.reply) × StandsFor after outcome.after
 
 -- it is so, or memory was wanting and nothing changed
-abbrev pub MayFollow : {X : Type 0} → (X → Reply) → Outcome → Watchings → Result X Refusal → Watchings → Type 0
-MayFollow say outcome before result after =
-    Follows say outcome result after ⊎ ((result ≡ Err refusal.NoMemory) × (after ≡ before))
+abbrev pub MayAnswerAsWorld : {X : Type 0} → (X → Reply) → Outcome → Watchings → Result X Refusal → Watchings → Type 0
+MayAnswerAsWorld say outcome before result after =
+    AnswersAsWorld say outcome result after ⊎ ((result ≡ Err refusal.NoMemory) × (after ≡ before))
 
 -- no watcher has the next id of a world
 abbrev pub FreeLaw : Type 0
@@ -56,24 +56,24 @@ abbrev pub BeginLaw : Type 0
 BeginLaw =
     (h : List Entry) (f : Filter) (before after : Watchings) (result : Result (Unit {0}) Refusal) →
     let w = replay h in
-    StandsFor before w → Meets (begin_answer before.watchers w.tables.next_id f) before result after →
-    MayFollow (λ _. reply.WatchBegun w.tables.next_id) (step w (what.Call (call.WatchBegin f))) before result after
+    StandsFor before w → MayAnswerAs (begin_answer before.watchers w.tables.next_id f) before result after →
+    MayAnswerAsWorld (λ _. reply.WatchBegun w.tables.next_id) (step w (what.Call (call.WatchBegin f))) before result after
 
 abbrev pub PollsLaw : Type 0
 PollsLaw =
     (h : List Entry) (id : ℕ) (before after : Watchings) (result : Result (List Event) Refusal) →
     let w = replay h in
     StandsFor before w →
-    Meets (poll_answer before.watchers id (row_at watching_id id before.watchers)) before result after →
-    MayFollow reply.Events (step w (what.Call (call.WatchPoll id))) before result after
+    MayAnswerAs (poll_answer before.watchers id (row_at watching_id id before.watchers)) before result after →
+    MayAnswerAsWorld reply.Events (step w (what.Call (call.WatchPoll id))) before result after
 
 abbrev pub FinishLaw : Type 0
 FinishLaw =
     (h : List Entry) (id : ℕ) (before after : Watchings) (result : Result (Unit {0}) Refusal) →
     let w = replay h in
     StandsFor before w →
-    Gives (finish_answer before.watchers id (row_at watching_id id before.watchers)) before result after →
-    Follows (λ _. reply.WatchFinished id) (step w (what.Call (call.WatchFinish id))) result after
+    AnswersAs (finish_answer before.watchers id (row_at watching_id id before.watchers)) before result after →
+    AnswersAsWorld (λ _. reply.WatchFinished id) (step w (what.Call (call.WatchFinish id))) result after
 
 -- an entry that leaves the watchers as they are has its changes noted
 abbrev pub NotesLaw : Type 0

@@ -5,7 +5,7 @@ ghost use Rattle.std.specs.Option.{option_copied};
 ghost use Rattle.std.specs.Vec.{vec_capacity, vec_len};
 ghost use Rattle.swarm_objects.specs.Watches.{filter_admits};
 ghost use Rattle.swarm_objects.specs.Rows.{change_row, drop_row, row_at};
-ghost use Rattle.swarm_watch.specs.Calls.{told};
+ghost use Rattle.swarm_watch.specs.Calls.{without_waiting};
 ghost use Rattle.swarm_watch.specs.Inside.Cursors.{IsSwept, IsTidy, cursor_id, is_admitted, is_waited_at, stepped_back};
 ghost use Rattle.swarm_watch.specs.Inside.Cursors.{waits_at, watchings};
 ghost use Rattle.swarm_watch.specs.Watchings.{watching_id};
@@ -161,7 +161,7 @@ pub fn tell_all(cursors: &mut [Cursor], kept: &mut Vec<Event>, id: Id)
     requires { IsTidy cursors.old kept.old.items }
     ensures tidy { IsTidy cursors.new kept.new.items }
     ensures told { let before = watchings kept.old.items cursors.old in
-        watchings kept.new.items cursors.new ≡ change_row watching_id id told before }
+        watchings kept.new.items cursors.new ≡ change_row watching_id id without_waiting before }
     ensures capacity { vec_capacity kept.new ≡ vec_capacity kept.old }
     ensures fewer { vec_len kept.new ≤ vec_len kept.old }
 {

@@ -1,7 +1,7 @@
 // Watchers of rows, and the events that they wait for.
 ghost use Rattle.std.specs.Prelude.{◌≡◌, ◌↔◌, ◌≤◌, ◌<◌, ◌+◌, [], List, None, filter, length, map, IsTrue, OnErr, OnOk};
 ghost use Rattle.swarm_objects.specs.Rows.{row_at};
-ghost use Rattle.swarm_watch.specs.Calls.{Gives, Meets, begin_answer, finish_answer, hears, is_awaited, poll_answer};
+ghost use Rattle.swarm_watch.specs.Calls.{AnswersAs, MayAnswerAs, begin_answer, finish_answer, hears, is_awaited, poll_answer};
 ghost use Rattle.swarm_watch.specs.Watchings.{watching_id};
 
 use crate::cursors::{
@@ -65,7 +65,7 @@ impl Watches {
     /// there are 100 watchers.
     pub fn begin(&mut self, id: Id, filter: Filter) -> Result<(), Refusal>
         requires { row_at watching_id id self.old.watchers ≡ None }
-        ensures { Meets (begin_answer self.old.watchers id filter) self.old result self.new }
+        ensures { MayAnswerAs (begin_answer self.old.watchers id filter) self.old result self.new }
     {
         let count = self.cursors.len();
         if count >= MOST_WATCHERS {
@@ -98,7 +98,7 @@ impl Watches {
     /// goes, and is answered their number as `Lagged`; one that isn't there is an `UnknownWatcher`.
     pub fn poll(&mut self, id: Id) -> Result<List<Event>, Refusal>
         ensures { let watcher = row_at watching_id id self.old.watchers in
-            Meets (poll_answer self.old.watchers id watcher) self.old result self.new }
+            MayAnswerAs (poll_answer self.old.watchers id watcher) self.old result self.new }
     {
         let Some(cursor) = cursor_at(self.cursors.as_slice(), id) else {
             return Err(Refusal::UnknownWatcher(id));
@@ -118,7 +118,7 @@ impl Watches {
     /// It takes no memory.
     pub fn finish(&mut self, id: Id) -> Result<(), Refusal>
         ensures { let watcher = row_at watching_id id self.old.watchers in
-            Gives (finish_answer self.old.watchers id watcher) self.old result self.new }
+            AnswersAs (finish_answer self.old.watchers id watcher) self.old result self.new }
     {
         if cursor_at(self.cursors.as_slice(), id).is_none() {
             return Err(Refusal::UnknownWatcher(id));

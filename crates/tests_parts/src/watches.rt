@@ -1,7 +1,7 @@
 // Watchers, and what waits for them.
 ghost use Rattle.std.specs.Prelude.{◌≡◌, [], ◌∷◌, None, IfOk};
 ghost use Rattle.swarm_objects.specs.Rows.{row_at};
-ghost use Rattle.swarm_watch.specs.Calls.{begun};
+ghost use Rattle.swarm_watch.specs.Calls.{new_watching};
 ghost use Rattle.swarm_watch.specs.Watchings.{watching_id};
 
 use std::alloc::Global;
@@ -69,7 +69,7 @@ fn done(answer: Result<(), Refusal>) -> Result<Answer, NoMemory> {
 
 // Whose one watcher is 1.
 fn watched(alloc: Global, filter: Filter) -> Result<Watches, NoMemory>
-    ensures { IfOk result (λ watches. watches.watchers ≡ begun 1 filter ∷ []) }
+    ensures { IfOk result (λ watches. watches.watchers ≡ new_watching 1 filter ∷ []) }
 {
     let mut watches = Watches::new(alloc);
     match watches.begin(1, filter) {

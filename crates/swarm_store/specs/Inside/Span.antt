@@ -4,12 +4,9 @@ use Rattle.std.specs.Prelude.{ℕ, List}
 pub record Span (X : Type 0) : Type 0 where
   pub start : List X
   pub rows : List X
-  -- how many changes more can't want memory
-  pub room : ℕ
 
 -- and how many of them changed
 pub record Track (X : Type 0) : Type 0 where
   pub start : List X
   pub rows : List X
   pub changed : ℕ
-  pub room : ℕ

@@ -1,5 +1,5 @@
 -- Rows under change, with what each changed one was before.
-use Rattle.std.specs.Prelude.{◌≡◌, ◌<◌, ◌≤◌, ◌+◌, ◌*◌, ℕ, ⊤, List, [], ◌∷◌, length, Option, Some, None, if◌then◌else◌, map}
+use Rattle.std.specs.Prelude.{◌≡◌, ◌<◌, ◌≤◌, ℕ, ⊤, List, [], ◌∷◌, length, Option, Some, None, if◌then◌else◌, map}
 use Rattle.swarm_index.specs.Index.{RowsWithRoom}
 use Rattle.swarm_model.specs.Changed.{event, verb_of}
 use Rattle.swarm_objects.specs.Rows.{RisesFrom, drop_row, has_row, row_at, with_row}
@@ -36,12 +36,12 @@ abbrev pub AreImages : {X : Type 0} → (X → ℕ) → List (Before X) → Type
 AreImages key [] = ⊤
 AreImages key (b ∷ before) = (0 < b.id) × IsImage key b.id b.row × AreImages key before
 
-pub record IsTracked {X : Type 0} (key : X → ℕ) (before : List (Before X)) (rows : RowsWithRoom X) (n : ℕ) : Type 0 where
+pub record IsTracked {X : Type 0} (key : X → ℕ) (before : List (Before X)) (rows : RowsWithRoom X) : Type 0 where
   pub rising : RisesFrom key 0 rows.rows
   pub ids : RisesFrom before_id 0 before
   pub images : AreImages key before
-  -- each row can be put back, and would be after so many changes more
-  pub room : length before + 2 * n ≤ rows.room
+  -- each can be put back
+  pub room : length before ≤ rows.room
 
 -- what became of a changed row
 abbrev pub image_events : {X : Type 0} → ℕ → Kind → (X → ℕ) → (X → X → Bool) → List X → Before X → List Event
@@ -52,14 +52,12 @@ abbrev pub DecidesRows : {X : Type 0} → (X → ℕ) → (X → X → Bool) →
 DecidesRows {X} key same = (x y : X) → key x ≡ key y → Decides (same x y) (x ≡ y)
 
 -- the rows are under change still, and can be put back as before
-abbrev pub Kept : {X : Type 0} → (X → ℕ) → List (Before X) → RowsWithRoom X → List (Before X) → RowsWithRoom X → ℕ → Type 0
-Kept key old rows new now room = IsTracked key new now room × (restored key new now.rows ≡ restored key old rows.rows)
+abbrev pub GoBackAsBefore : {X : Type 0} → (X → ℕ) → List (Before X) → RowsWithRoom X → List (Before X) → RowsWithRoom X → Type 0
+GoBackAsBefore key old rows new now = IsTracked key new now × (restored key new now.rows ≡ restored key old rows.rows)
 
 -- and they are counted, as they are and as they were
 pub record IsCounted {X : Type 0} (key : X → ℕ) (before : List (Before X)) (rows : RowsWithRoom X)
-    (count started capacity n : ℕ) : Type 0 where
-  pub tracked : IsTracked key before rows n
+    (count started : ℕ) : Type 0 where
+  pub tracked : IsTracked key before rows
   pub now : count ≡ length rows.rows
   pub start : started ≡ length (restored key before rows.rows)
-  -- there are places to remember so many changes more
-  pub places : length before + n ≤ capacity

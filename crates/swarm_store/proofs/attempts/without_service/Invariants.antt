@@ -8,5 +8,5 @@ abbrev pub invariant-loop-attempt : goal.invariant-loop-attempt
 invariant-loop-attempt l = record {
   left : l.left.items ≡ filter (λ (a : Attempt). not (is_attempt_of l.service a)) (take l.attempt-index l.attempts);
   few : length l.left.items ≤ l.attempt-index;
-  places : vec_capacity l.left ≡ l.places;
+  places : length l.attempts ≤ vec_capacity l.left;
 }

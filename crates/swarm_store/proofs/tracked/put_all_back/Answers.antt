@@ -1,4 +1,4 @@
-use Rattle.std.proofs.Common.{rules, ◌≡◌, ◌∙◌, [], subst}
+use Rattle.std.proofs.Common.{rules, ◌≡◌, [], subst}
 use Rattle.swarm_store.proofs.Tracking.{image-last, next-back, popped-tracked, tracked-none}
 use Rattle.swarm_store.proofs.tracked.put_all_back.Goals as goal
 use Rattle.swarm_store.specs.Inside.Tracking.{AreImages, restored}
@@ -17,12 +17,8 @@ loop-image-preserved g c =
     let b = c.in-Some.image in
     record {
       tracked =
-          popped-tracked key all left b c.loop-image.rows c.put_back.new.rows 0 c.loop-image.invariant.tracked c.in-Some.ensures.items
+          popped-tracked key all left b c.loop-image.rows c.put_back.new.rows c.loop-image.invariant.tracked c.in-Some.ensures.items
           c.put_back.ensures.rows c.put_back.ensures.room;
-      room = λ room was.
-          popped-tracked key all left b c.loop-image.rows c.put_back.new.rows room (c.loop-image.invariant.room room was)
-          c.in-Some.ensures.items c.put_back.ensures.rows c.put_back.ensures.room;
-      places = c.in-Some.ensures.capacity ∙ c.loop-image.invariant.places;
       left =
           next-back key all left b c.loop-image.rows.rows c.put_back.new.rows.rows
           (restored key c.args.before.now.items c.args.rows.now.rows) c.in-Some.ensures.items c.put_back.ensures.rows
@@ -30,7 +26,6 @@ loop-image-preserved g c =
     }
 
 pub returns-clause-tracked : goal.returns-clause-tracked
-returns-clause-tracked g c = λ room is.
+returns-clause-tracked g c =
     let none : c.pop.new.self.items ≡ [] = search rules in
-    tracked-none g.R.Row.id_of c.loop-image.before.items c.pop.new.self.items c.loop-image.rows room none
-    (c.loop-image.invariant.room room is)
+    tracked-none g.R.Row.id_of c.loop-image.before.items c.pop.new.self.items c.loop-image.rows none c.loop-image.invariant.tracked

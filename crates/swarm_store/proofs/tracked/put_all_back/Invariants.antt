@@ -1,15 +1,11 @@
-use Rattle.std.proofs.Common.{◌≡◌, ℕ, length}
-use Rattle.std.specs.Vec.{vec_capacity}
+use Rattle.std.proofs.Common.{◌≡◌, length}
 use Rattle.swarm_store.specs.Inside.Tracking.{IsTracked, restored}
 use Rattle.swarm_store.proofs.tracked.put_all_back.Given as goal
 
 -- what is left puts back what it all did
 abbrev pub invariant-loop-image : goal.invariant-loop-image
 invariant-loop-image g l = record {
-  tracked : IsTracked g.R.Row.id_of l.before.items l.rows 0;
-  room : (room : ℕ) → IsTracked g.R.Row.id_of l.initial.before.items l.initial.rows room
-      → IsTracked g.R.Row.id_of l.before.items l.rows room;
-  places : vec_capacity l.before ≡ vec_capacity l.initial.before;
+  tracked : IsTracked g.R.Row.id_of l.before.items l.rows;
   left : restored g.R.Row.id_of l.before.items l.rows.rows ≡ restored g.R.Row.id_of l.initial.before.items l.initial.rows.rows;
 }
 

@@ -1,13 +1,7 @@
-use Rattle.std.proofs.Common.{◌^◌, inl}
-use Rattle.swarm_store.proofs.Tracking.{counted-put, uncounted}
+use Rattle.swarm_store.proofs.Tracking.{counted-put}
 use Rattle.swarm_store.proofs.tracked.put_counted.Goals as goal
 
 pub returns-clause-counted : goal.returns-clause-counted
 returns-clause-counted g c =
     counted-put g.R.Row.id_of c.args.row c.id.result c.args.count.now c.in-Ok.next c.args.rows.now.rows c.put_tracked.new.rows.rows
     c.requires.tracked.rising c.id.ensures c.in-Ok.ensures.ok c.requires.counted c.in-Ok-put_tracked.ensures.ok
-
-pub returns-in_default-clause-full : goal.returns-in_default-clause-full
-returns-in_default-clause-full g c =
-    inl (uncounted g.R.Row.id_of c.args.row c.id.result c.args.count.now (2 ^ 64) c.args.rows.now.rows c.requires.tracked.rising
-    c.id.ensures c.requires.counted c.in_default.ensures.full.0 c.in_default.ensures.full.1)

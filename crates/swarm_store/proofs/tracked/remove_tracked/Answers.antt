@@ -1,19 +1,12 @@
-use Rattle.std.specs.Vec.{vec_capacity}
-use Rattle.swarm_store.proofs.Tracking.{kept-drop, remembered-most, remembered-places}
+use Rattle.swarm_store.proofs.Tracking.{kept-drop, remembered-most}
 use Rattle.swarm_store.proofs.tracked.remove_tracked.Goals as goal
 
 pub returns-clause-kept : goal.returns-clause-kept
 returns-clause-kept g c =
     kept-drop g.R.Row.id_of (record { id = c.args.id; row = c.remove-old.result }) c.args.before.now.items
-    c.make_room.new.before.items c.remember.new.before.items c.args.rows.now c.make_room.new.rows c.remove-old.new.self c.args.room
+    c.make_room.new.before.items c.remember.new.before.items c.args.rows.now c.make_room.new.rows c.remove-old.new.self
     c.requires.tracked c.make_room.ensures.rows c.make_room.ensures.before c.in-Ok.ensures.room c.requires.id
     c.remove-old.ensures.value c.remember.ensures.items c.remove-old.ensures.room c.remove-old.ensures.rows
-
-pub returns-clause-places : goal.returns-clause-places
-returns-clause-places g c =
-    remembered-places (record { id = c.args.id; row = c.remove-old.result }) c.args.before.now.items c.make_room.new.before.items
-    c.remember.new.before.items c.args.room (vec_capacity c.make_room.new.before) (vec_capacity c.remember.new.before)
-    c.remember.ensures.items c.make_room.ensures.before c.in-Ok.ensures.spare c.remember.ensures.kept
 
 pub returns-clause-changed : goal.returns-clause-changed
 returns-clause-changed g c =

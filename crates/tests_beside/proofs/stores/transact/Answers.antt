@@ -4,8 +4,8 @@ use Rattle.swarm_plain.specs.Plain.{world_of}
 
 pub returns-in_ok-push_reply-in-Ok : goal.returns-in_ok-push_reply-in-Ok
 returns-in_ok-push_reply-in-Ok c w stands =
-    let made = c.in-Ok.ensures w stands in
+    let made = c.in-Ok.ensures.done w stands in
     record { reply = reply.Txn c.in-Ok.ids; made = made.0; does = made.1; stands = made.2 }
 
 pub returns-in_ok-push_refusal-in-Err : goal.returns-in_ok-push_refusal-in-Err
-returns-in_ok-push_refusal-in-Err c = (c.in-Err.ensures (world_of c.args.copy.now) c.requires).1
+returns-in_ok-push_refusal-in-Err c = (c.in-Err.ensures.done (world_of c.args.copy.now) c.requires).1

@@ -4,7 +4,7 @@ use Rattle.swarm_objects.specs.Rows.{IsBelow, row_at}
 use Rattle.swarm_objects.specs.declared.replies.Refusal.{Refusal}
 use Rattle.swarm_objects.specs.declared.watches.Filter.{Filter}
 use Rattle.tests_parts.proofs.watches.crowd.Goals as goal
-use Rattle.swarm_watch.specs.Calls.{Meets, begin_unless, begun}
+use Rattle.swarm_watch.specs.Calls.{MayAnswerAs, begin_unless, new_watching}
 use Rattle.swarm_watch.specs.Watchings.{Watching, Watchings, watching_id}
 
 free : (bound id : ℕ) (xs : List Watching) → bound ≤ id → IsBelow watching_id bound xs → row_at watching_id id xs ≡ None
@@ -16,8 +16,8 @@ below_push id [] x is below = (omega arith, tt)
 below_push id (y ∷ xs) x is below = (let lt = below.0 in omega arith, below_push id xs x is below.1)
 
 begun_below : (o : Option Refusal) (v after : Watchings) (id : ℕ) (f : Filter) → IsBelow watching_id id v.watchers →
-    Meets (begin_unless o v.watchers id f) v (Ok tt) after → IsBelow watching_id (id + 1) after.watchers
-begun_below None v after id f below (inl gives) = subst (IsBelow watching_id (id + 1)) (sym gives.1) (below_push id v.watchers (begun id f) refl below)
+    MayAnswerAs (begin_unless o v.watchers id f) v (Ok tt) after → IsBelow watching_id (id + 1) after.watchers
+begun_below None v after id f below (inl gives) = subst (IsBelow watching_id (id + 1)) (sym gives.1) (below_push id v.watchers (new_watching id f) refl below)
 begun_below None v after id f below (inr wanting) = let no = wanting.0 in absurd cc
 begun_below (Some r) v after id f below (inl gives) = let no = gives.0 in absurd cc
 begun_below (Some r) v after id f below (inr wanting) = let no = wanting.0 in absurd cc

@@ -1,4 +1,4 @@
 use Rattle.trials_store.proofs.store.txn.Goals as goal
 
-pub returns : goal.returns
-returns c = c.txn-done.ensures
+pub returns-clause-done : goal.returns-clause-done
+returns-clause-done c = c.txn-done.ensures.done

@@ -9,11 +9,7 @@ invariant_of-self c =
     let t = tables_now c.self.inside.state in
     let was = c.self.invariant in
     record {
-      settled = record {
-        settled = ap (λ (u : Tables). record u { next_id = t.next_id + 1 }) was.settled.settled;
-        changed = was.settled.changed;
-        stands = stands-next t was.settled.stands;
-      };
-      rooms = record { nodes = was.rooms.nodes; services = was.rooms.services; tasks = was.rooms.tasks; attempts = was.rooms.attempts };
-      places = was.places;
+      same = ap (λ (u : Tables). record u { next_id = t.next_id + 1 }) was.same;
+      changed = was.changed;
+      stands = stands-next t was.stands;
     }

@@ -1,6 +1,5 @@
-use Rattle.std.proofs.Common.{◌≡◌, ◌++◌, ap, arith, subst, sym}
+use Rattle.std.proofs.Common.{◌≡◌, ◌++◌, ap, subst, sym}
 use Rattle.swarm_store.proofs.Told.{told-view}
-use Rattle.swarm_store.proofs.Tracking.{tracked-less}
 use Rattle.swarm_store.proofs.tracked.Tracked.put_events.Goals as goal
 use Rattle.swarm_store.specs.Inside.Span.{Track}
 use Rattle.swarm_store.specs.Inside.Tracking.{IsTracked}
@@ -8,8 +7,7 @@ use Rattle.swarm_store.specs.Inside.Tracking.{IsTracked}
 pub put_all_events-requires-clause-tracked : goal.put_all_events-requires-clause-tracked
 put_all_events-requires-clause-tracked g c =
     let key = g.R.Row.id_of in
-    subst (λ before. IsTracked key before c.self.inside.rows 0) (sym c.as_slice.ensures.value)
-    (tracked-less key c.self.inside.before.items c.self.inside.rows 0 c.self.inside.room (omega arith) c.self.invariant.tracked)
+    subst (λ before. IsTracked key before c.self.inside.rows) (sym c.as_slice.ensures.value) c.self.invariant.tracked
 
 pub returns-clause-items : goal.returns-clause-items
 returns-clause-items g c = λ same decides.

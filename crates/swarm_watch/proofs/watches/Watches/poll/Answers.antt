@@ -6,7 +6,7 @@ use Rattle.swarm_objects.specs.Watches.{filter_admits}
 use Rattle.swarm_objects.specs.Rows.{change_row, drop_row, row_at}
 use Rattle.swarm_watch.proofs.Answering.{asked_for, poll_lags, poll_tells, poll_unknown}
 use Rattle.swarm_watch.proofs.Places.{found_within, refilled}
-use Rattle.swarm_watch.specs.Calls.{told}
+use Rattle.swarm_watch.specs.Calls.{without_waiting}
 use Rattle.swarm_watch.specs.Inside.Cursors.{cursor_id, watching_at, watchings}
 use Rattle.swarm_watch.specs.Watchings.{Watchings, watching_id}
 use Rattle.swarm_watch.proofs.watches.Watches.poll.Goals as goal
@@ -63,6 +63,6 @@ returns c =
     (refilled c.self.inside.cursors.len c.self.inside.cursors.items c.tell_all.new.cursors
     (c.tell_all.auto.cursors ∙ ap length c.as_mut_slice.ensures.value) (sym c.self.inside.cursors.ok.0))
     ∙ c.tell_all.ensures.told
-    ∙ ap (λ xs. change_row watching_id c.args.id told (watchings c.self.inside.kept.items xs)) c.as_mut_slice.ensures.value
-    ∙ ap (λ (v : Watchings). change_row watching_id c.args.id told v.watchers) c.self.view_is)
+    ∙ ap (λ xs. change_row watching_id c.args.id without_waiting (watchings c.self.inside.kept.items xs)) c.as_mut_slice.ensures.value
+    ∙ ap (λ (v : Watchings). change_row watching_id c.args.id without_waiting v.watchers) c.self.view_is)
     (omega (arith, c.tell_all.ensures.capacity, c.tell_all.ensures.fewer))
