@@ -1,7 +1,7 @@
 -- Where the settle test says that all is settled, the world matches.
 use Rattle.std.proofs.Common.{◌≡◌, ℕ, sym, ◌∙◌}
-use Rattle.swarm_matching.proofs.Matched.{settled-matched}
-use Rattle.swarm_matching.specs.Matched.{IsMatched}
+use Rattle.swarm_settle.proofs.Matched.{settled-matched}
+use Rattle.swarm_settle.specs.Matched.{IsMatched}
 use Rattle.swarm_model.specs.Settle.{settle_answer}
 use Rattle.swarm_objects.specs.World.{World}
 use Rattle.swarm_objects.specs.declared.duties.Settle.{Settle}

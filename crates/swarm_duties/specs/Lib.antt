@@ -1,4 +1,3 @@
-pub mod Flights
 pub mod Quiet
 pub mod Reached
 pub mod Stepping

@@ -1,17 +1,17 @@
 // What the settle test answers where no control loop has a duty.
 ghost use Rattle.std.specs.Prelude.{◌≡◌, find, flat_map, option_to_list};
 ghost use Rattle.std.specs.Option.{option_copied};
-ghost use Rattle.swarm_model.specs.Settle.{first_wait, held_by, idle_answer, is_holding, is_paused, is_paused_status, paused_by};
+ghost use Rattle.swarm_model.specs.Settle.{first_wait, held_by, idle_answer, is_holding, is_paused, paused_by};
 ghost use Rattle.swarm_objects.specs.Bounds.{IsSmall};
 ghost use Rattle.swarm_objects.specs.Rows.{first_of};
-ghost use Rattle.swarm_objects.specs.Services.Runs.{has_open_run};
 ghost use Rattle.swarm_plain.specs.Plain.{tables_of, world_of};
 
 use crate::update_waits::update_waits;
-use crate::waits::{Wait, executor_waits, remote_waits, session_waits, start_waits};
-use role_words::{has_open_run, is_of_version};
-use swarm_objects::{RunStatus, Service, Settle, Task};
+use crate::waits::{executor_waits, remote_waits, session_waits, start_waits};
+use role_words::has_open_run;
+use swarm_objects::{Service, Settle, Task};
 use swarm_plain::Plain;
+use swarm_settle::{Wait, is_holding, is_paused};
 
 // The least of all waits.
 fn first_wait(plain: &Plain) -> Option<Wait>
@@ -23,13 +23,6 @@ fn first_wait(plain: &Plain) -> Option<Wait>
     let executed = executor_waits(plain, updated);
     let heard = session_waits(plain, executed);
     remote_waits(plain, heard)
-}
-
-// A live clean task of the service is below RUNNING.
-fn is_holding(service: &Service, task: &Task) -> bool
-    ensures { result ≡ is_holding service.now task.now }
-{
-    task.is_of(service.id) && task.is_live_clean(service) && task.is_below_running()
 }
 
 // The first live clean task of the service below RUNNING.
@@ -69,22 +62,6 @@ fn held(plain: &Plain) -> Option<Settle>
     None
 }
 
-fn is_paused_status(status: RunStatus) -> bool
-    ensures { result ≡ is_paused_status status }
-{
-    matches!(status, RunStatus::Paused | RunStatus::RollbackPaused)
-}
-
-// The run to the service's present template is paused.
-fn is_paused(service: &Service) -> bool
-    ensures { result ≡ is_paused service.now }
-{
-    match &service.run {
-        Some(run) => is_paused_status(run.status) && is_of_version(service, run),
-        None => false,
-    }
-}
-
 // The first service whose run is paused.
 fn paused_service(plain: &Plain) -> Option<&Service>
     ensures { option_copied result ≡ find is_paused plain.now.services }
@@ -97,7 +74,7 @@ fn paused_service(plain: &Plain) -> Option<&Service>
 }
 
 // Its answer.
-#[tactic(auto, using(crate::proofs::LeastWaits::first_paused))]
+#[tactic(auto, using(crate::proofs::PassedWaits::first_paused))]
 fn paused(plain: &Plain) -> Option<Settle>
     ensures { result ≡ first_of (flat_map paused_by plain.now.services) }
 {

@@ -3,7 +3,7 @@ ghost use Rattle.std.specs.Prelude.{◌≡◌, IfOk, None, Ok, flat_map};
 ghost use Rattle.std.specs.Bool.{OnTrue};
 ghost use Rattle.swarm_duties.specs.Quiet.{IsKnownQuiet, table_roles};
 ghost use Rattle.swarm_objects.specs.Usable.{IsUsableWorld};
-ghost use Rattle.swarm_matching.specs.Matched.{IsMatched};
+ghost use Rattle.swarm_settle.specs.Matched.{IsMatched};
 ghost use Rattle.swarm_model.specs.Calls.{outcome};
 ghost use Rattle.swarm_model.specs.Outcome.{Gives};
 ghost use Rattle.swarm_model.specs.Settle.{settle_answer};

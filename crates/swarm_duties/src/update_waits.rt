@@ -2,32 +2,22 @@
 ghost use Rattle.std.specs.Prelude.{◌≡◌, ◌&&◌, flat_map, true};
 ghost use Rattle.std.specs.List.{list_all};
 ghost use Rattle.std.specs.Ordering.{nat_cmp};
-ghost use Rattle.swarm_duties.specs.Flights.{item_times};
-ghost use Rattle.swarm_model.specs.Settle.{flight_times, flight_wait, least_time, run_wait, update_wait, wait_cmp, watch_times, watch_wait};
+ghost use Rattle.swarm_settle.specs.Flights.{item_times};
+ghost use Rattle.swarm_model.specs.Settle.{flight_times, flight_wait, least_time, run_wait, update_wait, wait_cmp, watch_wait};
 ghost use Rattle.swarm_objects.specs.Bounds.{HasNearTimes, is_near_run, is_near_service, is_near_task};
-ghost use Rattle.swarm_objects.specs.Rows.{keep_least, least_by};
+ghost use Rattle.swarm_objects.specs.Rows.{least_by};
 ghost use Rattle.swarm_objects.specs.Services.Runs.{is_flying};
 ghost use Rattle.swarm_objects.specs.Tasks.Places.{is_in_place};
 ghost use Rattle.swarm_objects.specs.Tasks.Words.{is_running};
 ghost use Rattle.swarm_plain.specs.Plain.{tables_of};
 
-use crate::waits::{Wait, wait_till};
-use plain_updates::runs::{has_room, is_flying, is_watched};
+use plain_updates::runs::{has_room, is_flying};
 use plain_updates::updates::has_waiting_place;
 use role_words::is_under_way;
 use swarm_objects::{Cause, Ms, Replaced, Service, Task, UpdateRun};
 use swarm_plain::Plain;
 use swarm_plain::held::has_dirty_place;
-
-// The time, where it comes before the least one so far.
-fn keep_time(least: Option<Ms>, time: Ms) -> Option<Ms>
-    ensures { result ≡ keep_least nat_cmp least time }
-{
-    match least {
-        Some(held) if held <= time => Some(held),
-        _ => Some(time),
-    }
-}
+use swarm_settle::{Wait, flight_end, keep_time, wait_till, watch_time};
 
 // Places in flight.
 
@@ -48,7 +38,7 @@ fn item_time(plain: &Plain, service: &Service, item: &Replaced, least: Option<Ms
     let mut time = least;
     for task in plain.tasks.as_slice() {
         if is_flying_there(plain, service, item, task) {
-            time = keep_time(time, task.since + service.spec.update.delay);
+            time = keep_time(time, flight_end(service, task));
         }
     }
     time
@@ -86,21 +76,6 @@ fn flight_wait(
 }
 
 // The watching of new tasks.
-
-// When the first of the new tasks that aren't watched yet for the monitor time is.
-fn watch_time(plain: &Plain, service: &Service, run: &UpdateRun) -> Option<Ms>
-    requires service { is_near_service service.now ≡ true }
-    requires run { is_near_run run.now ≡ true }
-    ensures { result ≡ least_time (watch_times (tables_of plain.now) service.now run.now) }
-{
-    let mut least = None;
-    for item in run.replaced.as_slice() {
-        if !is_watched(plain, service, item) {
-            least = keep_time(least, item.created + service.spec.update.monitor);
-        }
-    }
-    least
-}
 
 // Where no place is dirty, new tasks are watched.
 fn watch_wait(plain: &Plain, best: Option<Wait>, service: &Service, run: &UpdateRun) -> Option<Wait>

@@ -2,7 +2,7 @@
 ghost use Rattle.std.specs.Prelude.{◌≡◌, IfOk, Ok};
 ghost use Rattle.swarm_duties.specs.Reached.{IsReached};
 ghost use Rattle.swarm_duties.specs.Stepping.{DoesStep};
-ghost use Rattle.swarm_matching.specs.Matched.{IsMatched};
+ghost use Rattle.swarm_settle.specs.Matched.{IsMatched};
 ghost use Rattle.swarm_model.specs.Settle.{settle_answer};
 ghost use Rattle.swarm_objects.specs.Usable.{IsUsableWorld};
 ghost use Rattle.swarm_plain.specs.Plain.{world_of};

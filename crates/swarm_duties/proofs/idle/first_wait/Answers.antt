@@ -1,5 +1,5 @@
 use Rattle.std.specs.Prelude.{flat_map}
-use Rattle.swarm_duties.proofs.LeastWaits.{least_five}
+use Rattle.swarm_settle.proofs.LeastWaits.{least_five}
 use Rattle.swarm_model.specs.Settle.{executor_wait, remote_wait, session_wait, start_wait, update_wait, wait_cmp}
 use Rattle.swarm_plain.specs.Plain.{tables_of, world_of}
 use Rattle.swarm_duties.proofs.idle.first_wait.Goals as goal

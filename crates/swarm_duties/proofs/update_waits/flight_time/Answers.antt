@@ -1,9 +1,9 @@
 use Rattle.std.proofs.Common.{None, arith, get_or, ◌∙◌}
 use Rattle.std.specs.Ordering.{nat_cmp}
 use Rattle.std.specs.Prelude.{flat_map}
-use Rattle.swarm_duties.proofs.FlightTimes.{flight_made}
-use Rattle.swarm_duties.proofs.LeastWaits.{least_end, least_next, row_is}
-use Rattle.swarm_duties.specs.Flights.{item_times}
+use Rattle.swarm_settle.proofs.FlightTimes.{flight_made}
+use Rattle.swarm_settle.proofs.LeastWaits.{least_end, least_next, row_is}
+use Rattle.swarm_settle.specs.Flights.{item_times}
 use Rattle.swarm_objects.specs.Rows.{least_by}
 use Rattle.swarm_objects.specs.declared.services.Replaced.{Replaced}
 use Rattle.swarm_objects.specs.declared.tasks.Place.TheVariants.{Slot}

@@ -1,7 +1,7 @@
 use Rattle.std.proofs.Common.{◌≡◌, drop, None}
 use Rattle.std.specs.Prelude.{flat_map}
 use Rattle.std.specs.Ordering.{nat_cmp}
-use Rattle.swarm_duties.specs.Flights.{item_times}
+use Rattle.swarm_settle.specs.Flights.{item_times}
 use Rattle.swarm_objects.specs.Rows.{least_by}
 use Rattle.swarm_plain.specs.Plain.{tables_of}
 use Rattle.swarm_duties.proofs.update_waits.flight_time.Given as goal

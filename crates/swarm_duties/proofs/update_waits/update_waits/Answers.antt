@@ -1,6 +1,6 @@
 use Rattle.std.proofs.Common.{arith}
 use Rattle.std.specs.Prelude.{flat_map}
-use Rattle.swarm_duties.proofs.LeastWaits.{least_next}
+use Rattle.swarm_settle.proofs.LeastWaits.{least_next}
 use Rattle.swarm_model.specs.Settle.{update_wait, wait_cmp}
 use Rattle.swarm_objects.specs.Rows.{least_by}
 use Rattle.swarm_plain.specs.Plain.{tables_of}

@@ -1,5 +1,5 @@
 use Rattle.std.proofs.Common.{arith}
-use Rattle.swarm_duties.proofs.LeastWaits.{least_next}
+use Rattle.swarm_settle.proofs.LeastWaits.{least_next}
 use Rattle.swarm_model.specs.Settle.{executor_wait, wait_cmp}
 use Rattle.swarm_objects.specs.Rows.{least_by}
 use Rattle.std.specs.Prelude.{flat_map}

@@ -1,5 +1,0 @@
-use Rattle.swarm_matching.proofs.Ahead.{always-ahead}
-use Rattle.swarm_matching.proofs.theorems.executors_are_ahead_of_reports.Goals as goal
-
-pub returns : goal.returns
-returns c = always-ahead

@@ -1,5 +1,0 @@
-use Rattle.swarm_matching.proofs.SentLaws.{always-as-sent}
-use Rattle.swarm_matching.proofs.theorems.executors_are_as_sent.Goals as goal
-
-pub returns : goal.returns
-returns c = always-as-sent

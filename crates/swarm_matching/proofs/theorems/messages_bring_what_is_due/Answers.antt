@@ -1,5 +1,0 @@
-use Rattle.swarm_objects.proofs.Hearing.{message-tells}
-use Rattle.swarm_matching.proofs.theorems.messages_bring_what_is_due.Goals as goal
-
-pub returns : goal.returns
-returns c = message-tells

@@ -1,5 +1,0 @@
-use Rattle.swarm_matching.proofs.SentLaws.{always-owners}
-use Rattle.swarm_matching.proofs.theorems.modelled_nodes_have_agents.Goals as goal
-
-pub returns : goal.returns
-returns c = always-owners

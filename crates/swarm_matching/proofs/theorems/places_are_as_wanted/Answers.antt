@@ -1,5 +1,0 @@
-use Rattle.swarm_matching.proofs.GlobalPlaces.{places}
-use Rattle.swarm_matching.proofs.theorems.places_are_as_wanted.Goals as goal
-
-pub returns : goal.returns
-returns c = places

@@ -1,5 +1,0 @@
-use Rattle.swarm_matching.proofs.Served.{always-served}
-use Rattle.swarm_matching.proofs.theorems.tasks_of_ready_nodes_have_executors.Goals as goal
-
-pub returns : goal.returns
-returns c = always-served

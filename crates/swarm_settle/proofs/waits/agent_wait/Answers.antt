@@ -1,0 +1,10 @@
+use Rattle.std.proofs.Common.{rules, true, ◌≡◌}
+use Rattle.swarm_objects.specs.Loops.Agents.{is_mode_on}
+use Rattle.swarm_settle.proofs.Phases.{phase_kept}
+use Rattle.swarm_settle.proofs.waits.agent_wait.Goals as goal
+
+pub returns : goal.returns
+returns c =
+    let on : is_mode_on c.args.agent.now.mode ≡ true = search rules in
+    phase_kept c.times_that_no_step_looks_at.ensures c.args.best c.args.agent.now c.pending.result c.keep_phase.result
+    on c.pending.ensures c.keep_phase.ensures

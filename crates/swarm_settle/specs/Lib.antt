@@ -1,0 +1,11 @@
+pub mod Agents
+pub mod Aimed
+pub mod Flights
+pub mod Fresh
+pub mod Laws
+pub mod Matched
+pub mod Phases
+pub mod Rest
+pub mod Sent
+pub mod Served
+pub mod Standing

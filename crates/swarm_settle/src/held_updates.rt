@@ -1,0 +1,82 @@
+// Updates that are held up or paused.
+ghost use Rattle.std.specs.Prelude.{◌≡◌, find, flat_map, option_to_list};
+ghost use Rattle.std.specs.Option.{option_copied};
+ghost use Rattle.swarm_model.specs.Settle.{held_by, is_holding, is_paused, is_paused_status, paused_by};
+ghost use Rattle.swarm_objects.specs.Rows.{first_of};
+ghost use Rattle.swarm_objects.specs.Usable.{IsUsable};
+
+use role_words::{has_open_run, is_of_version};
+use swarm_objects::walks::{services, tasks};
+use swarm_objects::{Rows, RunStatus, Service, Settle, Task};
+
+/// A live clean task of the service is below RUNNING.
+pub fn is_holding(service: &Service, task: &Task) -> bool
+    ensures { result ≡ is_holding service.now task.now }
+{
+    task.is_of(service.id) && task.is_live_clean(service) && task.is_below_running()
+}
+
+// The first live clean task of the service below RUNNING.
+fn holding_task<'a, R: Rows>(rows: &'a R, service: &Service) -> Option<&'a Task>
+    requires { IsUsable (R.tables rows.now) }
+    ensures { option_copied result ≡ find (is_holding service.now) (R.tables rows.now).tasks }
+{
+    tasks(rows).find(|task| is_holding(service, task))
+}
+
+// Where the service has a run under way, the task that holds it up.
+fn held_by<R: Rows>(rows: &R, service: &Service) -> Option<Settle>
+    requires { IsUsable (R.tables rows.now) }
+    ensures { option_to_list result ≡ held_by (R.tables rows.now) service.now }
+{
+    if !has_open_run(service) {
+        return None;
+    }
+    match holding_task(rows, service) {
+        Some(task) => Some(Settle::Held(service.id, task.id)),
+        None => None,
+    }
+}
+
+// The first service whose run is held up, and the task that does it.
+pub fn held<R: Rows>(rows: &R) -> Option<Settle>
+    requires { IsUsable (R.tables rows.now) }
+    ensures { result ≡ first_of (flat_map (held_by (R.tables rows.now)) (R.tables rows.now).services) }
+{
+    for service in services(rows) {
+        let answer = held_by(rows, service);
+        if answer.is_some() {
+            return answer;
+        }
+    }
+    None
+}
+
+fn is_paused_status(status: RunStatus) -> bool
+    ensures { result ≡ is_paused_status status }
+{
+    matches!(status, RunStatus::Paused | RunStatus::RollbackPaused)
+}
+
+/// The run to the service's present template is paused.
+pub fn is_paused(service: &Service) -> bool
+    ensures { result ≡ is_paused service.now }
+{
+    match &service.run {
+        Some(run) => is_paused_status(run.status) && is_of_version(service, run),
+        None => false,
+    }
+}
+
+/// The first service whose run is paused, as the answer.
+pub fn paused<R: Rows>(rows: &R) -> Option<Settle>
+    requires { IsUsable (R.tables rows.now) }
+    ensures { result ≡ first_of (flat_map paused_by (R.tables rows.now).services) }
+{
+    for service in services(rows) {
+        if is_paused(service) {
+            return Some(Settle::Paused(service.id));
+        }
+    }
+    None
+}

@@ -1,0 +1,189 @@
+// What updates under way wait for: places in flight, and the watching of new tasks.
+ghost use Rattle.std.specs.Prelude.{◌≡◌, ◌&&◌, ◌+◌, flat_map, true};
+ghost use Rattle.std.specs.Ordering.{nat_cmp};
+ghost use Rattle.swarm_model.specs.Settle.{
+  flight_times,
+  flight_wait,
+  least_time,
+  run_wait,
+  update_wait,
+  wait_cmp,
+  watch_times,
+  watch_wait,
+};
+ghost use Rattle.swarm_objects.specs.Bounds.{is_near_run, is_near_service, is_near_task};
+ghost use Rattle.swarm_objects.specs.Rows.{keep_least, least_by};
+ghost use Rattle.swarm_objects.specs.Services.Runs.{is_flying};
+ghost use Rattle.swarm_objects.specs.Tasks.Words.{is_running};
+ghost use Rattle.swarm_objects.specs.Usable.{IsUsable};
+ghost use Rattle.swarm_settle.specs.Flights.{item_times, task_times};
+
+use crate::wait::{Wait, wait_till};
+use role_words::{
+    has_dirty_place, has_room, has_waiting_place, is_flying, is_under_way, is_watched,
+    tasks_of_place,
+};
+use swarm_objects::walks::services;
+use swarm_objects::{Cause, Ms, Replaced, Rows, Service, Task, UpdateRun};
+
+/// The time, where it comes before the least one so far.
+pub fn keep_time(least: Option<Ms>, time: Ms) -> Option<Ms>
+    ensures { result ≡ keep_least nat_cmp least time }
+{
+    match least {
+        Some(held) if held <= time => Some(held),
+        _ => Some(time),
+    }
+}
+
+// Places in flight.
+
+// The task is in flight, and runs.
+fn flies_running<R: Rows>(rows: &R, service: &Service, task: &Task) -> bool
+    ensures { result ≡ (is_flying (R.tables rows.now) service.now task.now && is_running task.now) }
+{
+    is_flying(rows, service, task) && task.is_running()
+}
+
+/// When a task that runs ceases to be in flight.
+pub fn flight_end(service: &Service, task: &Task) -> Ms
+    requires service { is_near_service service.now ≡ true }
+    requires task { is_near_task task.now ≡ true }
+    ensures { result ≡ task.now.since + service.now.spec.update.delay }
+{
+    task.since + service.spec.update.delay
+}
+
+// The least of the best time so far and the end of the task's flight, where it flies and runs.
+fn task_time<R: Rows>(rows: &R, service: &Service, task: &Task, least: Option<Ms>) -> Option<Ms>
+    requires service { is_near_service service.now ≡ true }
+    requires task { is_near_task task.now ≡ true }
+    ensures { result ≡ least_by nat_cmp least (task_times (R.tables rows.now) service.now task.now) }
+{
+    if flies_running(rows, service, task) {
+        keep_time(least, flight_end(service, task))
+    } else {
+        least
+    }
+}
+
+// When the first of the place's tasks in flight that run ceases to be that, or the least time so far.
+fn item_time<R: Rows>(rows: &R, service: &Service, item: &Replaced, least: Option<Ms>) -> Option<Ms>
+    requires usable { IsUsable (R.tables rows.now) }
+    requires service { is_near_service service.now ≡ true }
+    ensures { result ≡ least_by nat_cmp least (item_times (R.tables rows.now) service.now item.now) }
+{
+    let mut time = least;
+    for task in tasks_of_place(rows, service, item.place) {
+        time = task_time(rows, service, task, time);
+    }
+    time
+}
+
+// The same of all places that the run replaced.
+fn flight_time<R: Rows>(rows: &R, service: &Service, run: &UpdateRun) -> Option<Ms>
+    requires usable { IsUsable (R.tables rows.now) }
+    requires service { is_near_service service.now ≡ true }
+    ensures { result ≡ least_time (flight_times (R.tables rows.now) service.now run.now) }
+{
+    let mut least = None;
+    for item in run.replaced.as_slice() {
+        least = item_time(rows, service, item, least);
+    }
+    least
+}
+
+// A place that is to be replaced is held back by parallelism.
+fn flight_wait<R: Rows>(
+    rows: &R,
+    best: Option<Wait>,
+    service: &Service,
+    run: &UpdateRun,
+) -> Option<Wait>
+    requires usable { IsUsable (R.tables rows.now) }
+    requires service { is_near_service service.now ≡ true }
+    ensures { result ≡ least_by wait_cmp best (flight_wait (R.tables rows.now) service.now run.now) }
+{
+    if !has_waiting_place(rows, service) || has_room(rows, service, run) {
+        return best;
+    }
+    let time = flight_time(rows, service, run);
+    wait_till(best, Cause::Update, service.id, time)
+}
+
+// The watching of new tasks.
+
+/// When the first of the new tasks that aren't watched yet for the monitor time is.
+pub fn watch_time<R: Rows>(rows: &R, service: &Service, run: &UpdateRun) -> Option<Ms>
+    requires service { is_near_service service.now ≡ true }
+    requires run { is_near_run run.now ≡ true }
+    ensures { result ≡ least_time (watch_times (R.tables rows.now) service.now run.now) }
+{
+    let mut least = None;
+    for item in run.replaced.as_slice() {
+        if !is_watched(rows, service, item) {
+            least = keep_time(least, item.created + service.spec.update.monitor);
+        }
+    }
+    least
+}
+
+// Where no place is dirty, new tasks are watched.
+fn watch_wait<R: Rows>(
+    rows: &R,
+    best: Option<Wait>,
+    service: &Service,
+    run: &UpdateRun,
+) -> Option<Wait>
+    requires usable { IsUsable (R.tables rows.now) }
+    requires service { is_near_service service.now ≡ true }
+    requires run { is_near_run run.now ≡ true }
+    ensures { result ≡ least_by wait_cmp best (watch_wait (R.tables rows.now) service.now run.now) }
+{
+    if has_dirty_place(rows, service) {
+        return best;
+    }
+    let time = watch_time(rows, service, run);
+    wait_till(best, Cause::Update, service.id, time)
+}
+
+fn run_wait<R: Rows>(
+    rows: &R,
+    best: Option<Wait>,
+    service: &Service,
+    run: &UpdateRun,
+) -> Option<Wait>
+    requires usable { IsUsable (R.tables rows.now) }
+    requires service { is_near_service service.now ≡ true }
+    requires run { is_near_run run.now ≡ true }
+    ensures { result ≡ least_by wait_cmp best (run_wait (R.tables rows.now) service.now run.now) }
+{
+    if !is_under_way(run) {
+        return best;
+    }
+    let least = flight_wait(rows, best, service, run);
+    watch_wait(rows, least, service, run)
+}
+
+fn update_wait<R: Rows>(rows: &R, best: Option<Wait>, service: &Service) -> Option<Wait>
+    requires usable { IsUsable (R.tables rows.now) }
+    requires service { is_near_service service.now ≡ true }
+    ensures { result ≡ least_by wait_cmp best (update_wait (R.tables rows.now) service.now) }
+{
+    match &service.run {
+        Some(run) => run_wait(rows, best, service, run),
+        None => best,
+    }
+}
+
+/// The least of the best wait so far and those for updates.
+pub fn update_waits<R: Rows>(rows: &R, best: Option<Wait>) -> Option<Wait>
+    requires { IsUsable (R.tables rows.now) }
+    ensures { let t = R.tables rows.now in result ≡ least_by wait_cmp best (flat_map (update_wait t) t.services) }
+{
+    let mut least = best;
+    for service in services(rows) {
+        least = update_wait(rows, least, service);
+    }
+    least
+}
