@@ -1,15 +1,17 @@
 -- A line that is cut off the held bytes is the next one of the source.
-use Rattle.std.proofs.Common.{◌≡◌, ℕ, ◌+◌, List, [], ◌∷◌, ◌++◌, length, Bool, true, false, not, ◌||◌, refl, Option, Some, None, append_assoc, ◌∙◌, ap, sym, subst}
+use Rattle.std.proofs.Common.{◌≡◌, ℕ, ◌+◌, is_some, List, [], ◌∷◌, ◌++◌, length, Bool, true, false, not, ◌||◌, refl, Option, Some, None, append_assoc, ◌∙◌, ap, sym, subst}
 use Rattle.std.specs.Io.KnownBytes.{Consumes, IsAtEnd, prepend_known}
 use Rattle.swarm_input.specs.Lines.{bytes_of}
-use Rattle.swarm_input.specs.LineBuffer.{LineBuffer, has_newline_in, TakesOn, ReadsLine, IsNothingLeft, HasFound, HandsOut, Cuts}
+use Rattle.swarm_input.specs.Held.{has_newline_in}
+use Rattle.swarm_input.specs.LineBuffer.{LineBuffer, TakesOn, ReadsLine, IsNothingLeft, HasFound, HandsOut, Cuts}
 use Rattle.swarm_input.specs.declared.input.ScriptLine.{ScriptLine}
 
 nothing : (xs ys : List ℕ) → xs ++ ys ≡ [] → (xs ≡ []) × (ys ≡ [])
 nothing [] ys e = (refl, e)
 nothing (x ∷ xs) ys e = cc
 
-nothing_left : (bytes taken : List ℕ) (left left_after : Option (List ℕ)) → Consumes left left_after taken → bytes ++ taken ≡ [] → IsAtEnd left_after → IsNothingLeft (prepend_known bytes left)
+-- nothing is held and nothing is left
+pub nothing_left : (bytes taken : List ℕ) (left left_after : Option (List ℕ)) → Consumes left left_after taken → bytes ++ taken ≡ [] → IsAtEnd left_after → IsNothingLeft (prepend_known bytes left)
 nothing_left bytes taken None left_after source e end = tt
 nothing_left bytes taken (Some xs) None source e end = absurd source
 nothing_left bytes taken (Some xs) (Some ys) source e end =
@@ -30,7 +32,12 @@ reads_line old mid new taken (Some xs) (Some ys) line source bytes cut last one 
   last = λ e. ap (λ (l : List ℕ). l ++ ys) (last e).0 ∙ (last e).1;
 }
 
-or_not : (a b c : Bool) → a ≡ (b || c) → b ≡ false → a ≡ c
+-- where no newline is, it was not seen
+pub none_of : (place : Option ℕ) (b : Bool) → b ≡ is_some place → b ≡ false → place ≡ None
+none_of None b e h = refl
+none_of (Some at) b e h = cc
+
+pub or_not : (a b c : Bool) → a ≡ (b || c) → b ≡ false → a ≡ c
 or_not a true c e h = cc
 or_not a false c e h = e
 

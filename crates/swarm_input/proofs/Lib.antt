@@ -1,5 +1,7 @@
 pub mod LinesOf
 pub mod Sights
 pub mod Cutting
+pub mod HeldLines
 pub mod Prefixes
 pub mod WholeLines
+pub mod Counts

@@ -6,17 +6,17 @@ use Rattle.script_grammar.specs.Lines.{meaning_of, is_long}
 use Rattle.script_grammar.specs.declared.lines.LineFault.TheVariants.{Long}
 use Rattle.swarm_input.specs.Lines.{is_newline, lines_of, onto_line, bytes_of}
 use Rattle.swarm_input.specs.Script.{meaning_at, is_long_at, is_beyond, most_bytes, in_text}
-use Rattle.swarm_input.specs.LineBuffer.{has_newline_in}
+use Rattle.swarm_input.specs.Held.{has_newline_in}
 use Rattle.swarm_input.specs.declared.faults.Fault.TheVariants.{Size, Text}
 use Rattle.swarm_input.specs.declared.input.ScriptLine.{ScriptLine}
 
 -- A text without newline.
 
-or_left : (a b : Bool) → (a || b) ≡ false → a ≡ false
+pub or_left : (a b : Bool) → (a || b) ≡ false → a ≡ false
 or_left true b e = cc
 or_left false b e = refl
 
-or_right : (a b : Bool) → (a || b) ≡ false → b ≡ false
+pub or_right : (a b : Bool) → (a || b) ≡ false → b ≡ false
 or_right true b e = cc
 or_right false b e = e
 

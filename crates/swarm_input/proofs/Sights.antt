@@ -7,7 +7,8 @@ use Rattle.std.proofs.lemmas.List.{take_all, take-append-drop, length-take, leng
 use Rattle.script_grammar.specs.declared.lines.LineFault.TheVariants.{Long}
 use Rattle.swarm_input.specs.Lines.{is_newline, lines_of, bytes_of}
 use Rattle.swarm_input.specs.Script.{meaning_at}
-use Rattle.swarm_input.specs.LineBuffer.{has_newline_in, BeginsBad, IsBadNext, IsLineAt}
+use Rattle.swarm_input.specs.Held.{IsNewlineAt, has_newline_in}
+use Rattle.swarm_input.specs.LineBuffer.{BeginsBad, IsBadNext, IsLineAt}
 use Rattle.swarm_input.specs.declared.faults.Fault.{Fault}
 use Rattle.swarm_input.specs.declared.faults.Fault.TheVariants.{Size, Text}
 use Rattle.swarm_input.proofs.LinesOf.{lines_closed, begins_long, BeginsLong, meaning_long, meaning_beyond, text_in_bytes}
@@ -21,7 +22,7 @@ none_after_one : (b n : ℕ) (bytes : List ℕ) (t : Bool) → is_newline b ≡ 
 none_after_one b n bytes true e h = refl
 none_after_one b n bytes false e h = subst (λ m. has_newline_in (take m (b ∷ bytes)) ≡ false) (one_more n) (ap (λ (t : Bool). t || has_newline_in (take n bytes)) e ∙ h)
 
-pub none_before : (bytes : List ℕ) → has_newline_in (take (position_or_len is_newline bytes) bytes) ≡ false
+none_before : (bytes : List ℕ) → has_newline_in (take (position_or_len is_newline bytes) bytes) ≡ false
 none_before [] = refl
 none_before (b ∷ bytes) = none_after_one b (position_or_len is_newline bytes) bytes (is_newline b) refl (none_before bytes)
 
@@ -33,7 +34,7 @@ there_after_one : (b n : ℕ) (bytes : List ℕ) (t : Bool) → is_newline b ≡
 there_after_one b n bytes true e h inside = ap (λ c. c ∷ bytes) (ten b e)
 there_after_one b n bytes false e h inside = subst (λ m. b ∷ bytes ≡ take m (b ∷ bytes) ++ 10 ∷ drop (suc m) (b ∷ bytes)) (one_more n) (ap (λ cs. b ∷ cs) (h (omega arith)))
 
-pub there : (bytes : List ℕ) → position_or_len is_newline bytes < length bytes →
+there : (bytes : List ℕ) → position_or_len is_newline bytes < length bytes →
     bytes ≡ take (position_or_len is_newline bytes) bytes ++ 10 ∷ drop (suc (position_or_len is_newline bytes)) bytes
 there [] inside = absurd (omega arith)
 there (b ∷ bytes) inside = there_after_one b (position_or_len is_newline bytes) bytes (is_newline b) refl (there bytes) inside
@@ -49,7 +50,7 @@ same_place (suc n) [] inside = refl
 same_place (suc n) (b ∷ bytes) inside =
     same_after_one (position_or_len is_newline bytes) (position_or_len is_newline (take n bytes)) (length (take n bytes)) (is_newline b) (same_place n bytes) inside
 
-pub some_place : (t : Bool) (n i : ℕ) → cond t (Some n) None ≡ Some i → (t ≡ true) × (n ≡ i)
+some_place : (t : Bool) (n i : ℕ) → cond t (Some n) None ≡ Some i → (t ≡ true) × (n ≡ i)
 some_place true n i e = (refl, cc)
 some_place false n i e = cc
 
@@ -80,33 +81,54 @@ seen_at n at bytes e =
       place = same_place n bytes inside ∙ found.1;
     }
 
+newline_where : (at : ℕ) (bytes : List ℕ) → position_or_len is_newline bytes ≡ at → at < length bytes → IsNewlineAt bytes at
+newline_where at bytes place inside =
+    let next : suc at ≡ at + 1 = omega arith in
+    record {
+      inside = inside;
+      newline = subst (λ n. bytes ≡ take at bytes ++ 10 ∷ drop n bytes) next (subst (λ n. bytes ≡ take n bytes ++ 10 ∷ drop (suc n) bytes) place (there bytes (omega (arith, place, inside))));
+      one = subst (λ n. has_newline_in (take n bytes) ≡ false) place (none_before bytes);
+    }
+
+-- a newline is seen
+pub newline_at : (at : ℕ) (bytes : List ℕ) → position is_newline bytes ≡ Some at → IsNewlineAt bytes at
+newline_at at bytes e =
+    let place = position_or_len is_newline bytes in
+    let found = some_place (nat_lt place (length bytes)) place at e in
+    let inside : place < length bytes = grind (arith, nat_tests, found.0) in
+    newline_where at bytes found.1 (omega (arith, found.1, inside))
+
 -- a newline is seen that ends a line within the limits
 pub seen : (read at : ℕ) (bytes : List ℕ) → position is_newline (take 8193 bytes) ≡ Some at → read + at < 16777216 → IsLineAt (record { bytes = bytes; read = read; finished = false }) at
 seen read at bytes e within =
     let found = seen_at 8193 at bytes e in
-    let next : suc at ≡ at + 1 = omega arith in
     record {
-      inside = found.inside;
-      newline = subst (λ n. bytes ≡ take at bytes ++ 10 ∷ drop n bytes) next (subst (λ n. bytes ≡ take n bytes ++ 10 ∷ drop (suc n) bytes) found.place (there bytes (omega (arith, found.place, found.inside))));
-      one = subst (λ n. has_newline_in (take n bytes) ≡ false) found.place (none_before bytes);
+      ends = newline_where at bytes found.place found.inside;
       short = omega (arith, found.short);
       within = omega arith;
     }
 
 -- What is outside the grammar.
 
-closed_size : (text : List ℕ) → length (bytes_of (record { text = text; newline = true })) ≡ length text + 1
+pub closed_size : (text : List ℕ) → length (bytes_of (record { text = text; newline = true })) ≡ length text + 1
 closed_size text = omega (arith, length-append text (10 ∷ []))
+
+-- the line up to the first newline, and the others
+pub lines_at : (at : ℕ) (bytes more : List ℕ) → IsNewlineAt bytes at →
+    lines_of (bytes ++ more) ≡ record { text = take at bytes; newline = true } ∷ lines_of (drop (at + 1) bytes ++ more)
+lines_at at bytes more ends =
+    let text = take at bytes in
+    ap (λ (l : List ℕ). lines_of (l ++ more)) ends.newline ∙ ap lines_of (append_assoc text (10 ∷ drop (at + 1) bytes) more) ∙ lines_closed text (drop (at + 1) bytes ++ more) ends.one
 
 -- a newline is seen, of a line beyond the script's limit
 beyond_closed : (read at : ℕ) (bytes more : List ℕ) → IsLineAt (record { bytes = bytes; read = 0; finished = false }) at → 16777216 ≤ read + at → IsBadNext read (bytes ++ more) Size
 beyond_closed read at bytes more line far =
     let text = take at bytes in
-    let size : length text ≡ at = omega (arith, length-take at bytes, line.inside) in
+    let size : length text ≡ at = omega (arith, length-take at bytes, line.ends.inside) in
     record {
       line = record { text = text; newline = true };
       more = lines_of (drop (at + 1) bytes ++ more);
-      lines = ap (λ (l : List ℕ). lines_of (l ++ more)) line.newline ∙ ap lines_of (append_assoc text (10 ∷ drop (at + 1) bytes) more) ∙ lines_closed text (drop (at + 1) bytes ++ more) line.one;
+      lines = lines_at at bytes more line.ends;
       meaning = meaning_beyond read (record { text = text; newline = true }) (λ h. omega (arith, size, line.short)) (omega (arith, closed_size text, size));
     }
 

@@ -1,8 +1,9 @@
 -- Lines behind whole ones, and the next line.
-use Rattle.std.proofs.Common.{◌≡◌, ℕ, ◌+◌, ◌<◌, List, [], ◌∷◌, ◌++◌, length, take, Bool, true, false, cond, refl, Option, Some, None, Ok, Err, sym, ◌∙◌, ap, append_assoc, arith, filter}
+use Rattle.std.proofs.Common.{◌≡◌, ℕ, ◌<◌, List, [], ◌∷◌, ◌++◌, length, Bool, true, false, cond, refl, sym, ◌∙◌, ap, append_assoc, arith, filter}
 use Rattle.std.proofs.lemmas.List.{append-nil}
 use Rattle.swarm_input.specs.Lines.{lines_of, bytes_of, has_newline, whole_lines, IsWhole}
-use Rattle.swarm_input.specs.LineBuffer.{has_newline_in, IsNextLine}
+use Rattle.swarm_input.specs.Held.{has_newline_in}
+use Rattle.swarm_input.specs.LineBuffer.{IsNextLine}
 use Rattle.swarm_input.specs.declared.input.ScriptLine.{ScriptLine}
 use Rattle.swarm_input.proofs.LinesOf.{lines_closed, lines_open}
 

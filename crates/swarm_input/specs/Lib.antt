@@ -1,3 +1,4 @@
+pub mod Held
 pub mod LineBuffer
 pub mod Lines
 pub mod Script

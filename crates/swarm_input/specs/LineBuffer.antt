@@ -1,9 +1,9 @@
 -- What a reader of lines holds of its source, and what one of its steps does.
-use Rattle.std.specs.Prelude.{ℕ, List, Bool, Option, ◌≡◌, ◌+◌, ◌++◌, [], false, Some, None, ⊤, Err, ◌∷◌, ◌≤◌, ◌<◌, take, drop, length, Result, Ok, not, ◌||◌}
+use Rattle.std.specs.Prelude.{ℕ, List, Bool, Option, ◌≡◌, ◌+◌, ◌++◌, [], false, Some, None, ⊤, Err, ◌∷◌, ◌≤◌, ◌<◌, length, Result, Ok, not, ◌||◌}
 use Rattle.std.specs.Io.KnownBytes.{prepend_known, Consumes, IsAtEnd}
-use Rattle.std.specs.List.{list_any}
 use Rattle.swarm_objects.specs.Limits.{longest_line}
-use Rattle.swarm_input.specs.Lines.{is_newline, bytes_of, lines_of}
+use Rattle.swarm_input.specs.Lines.{bytes_of, lines_of}
+use Rattle.swarm_input.specs.Held.{IsNewlineAt, has_newline_in}
 use Rattle.swarm_input.specs.declared.input.ScriptLine.{ScriptLine}
 use Rattle.swarm_input.specs.Script.{meaning_at, most_bytes}
 use Rattle.swarm_input.specs.declared.faults.Fault.{Fault}
@@ -29,9 +29,6 @@ pub record TakesOn (old new : LineBuffer) (left left_after : Option (List ℕ)) 
   pub bytes : new.bytes ≡ old.bytes ++ taken
   pub read : new.read ≡ old.read
   pub finished : new.finished ≡ old.finished
-
-abbrev pub has_newline_in : List ℕ → Bool
-has_newline_in bytes = list_any is_newline bytes
 
 -- the line is the next one, where this is to be read and that is left of it
 pub record IsNextLine (old new : List ℕ) (line : ScriptLine) : Type 0 where
@@ -67,9 +64,7 @@ MeansFault NoMemory read old new = ⊤
 
 -- the next line's newline stands at this place of the held bytes, and the line is within the limits
 pub record IsLineAt (held : LineBuffer) (at : ℕ) : Type 0 where
-  pub inside : at < length held.bytes
-  pub newline : held.bytes ≡ take at held.bytes ++ 10 ∷ drop (at + 1) held.bytes
-  pub one : has_newline_in (take at held.bytes) ≡ false
+  pub ends : IsNewlineAt held.bytes at
   pub short : at ≤ longest_line
   pub within : held.read + (at + 1) ≤ most_bytes
 

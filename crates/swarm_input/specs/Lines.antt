@@ -1,5 +1,5 @@
 -- The lines of an input.
-use Rattle.std.specs.Prelude.{ℕ, ◌≡◌, nat_eq, List, [], ◌∷◌, ◌++◌, filter, Bool, true, false, if◌then◌else◌}
+use Rattle.std.specs.Prelude.{ℕ, ◌≡◌, nat_eq, List, [], ◌∷◌, ◌++◌, length, filter, Bool, true, false, if◌then◌else◌}
 use Rattle.swarm_input.specs.declared.input.ScriptLine.{ScriptLine}
 
 abbrev pub is_newline : ℕ → Bool
@@ -26,6 +26,10 @@ has_newline line = line.newline
 -- the lines whose newline is there
 abbrev pub whole_lines : List ℕ → List ScriptLine
 whole_lines bytes = filter has_newline (lines_of bytes)
+
+-- how many lines end in these bytes
+abbrev pub line_ends : List ℕ → ℕ
+line_ends bytes = length (filter is_newline bytes)
 
 -- the lines of these bytes are those of the bytes with others behind them, and each has its newline
 pub record IsWhole (bytes : List ℕ) : Type 0 where

@@ -65,6 +65,10 @@ abbrev pub fault_text : Fault → List ℕ
 fault_text Size = codes "Size"
 fault_text (Text fault) = line_fault_text fault
 
--- the line that is put for the first line outside the grammar
+-- the line that is put for the first line outside the grammar, by its number and the text of its fault
+abbrev pub bad_line_text : ℕ → List ℕ → List ℕ
+bad_line_text number fault = codes "bad line " ++ decimal number ++ codes " " ++ fault ++ codes "\n"
+
+-- that of a script
 abbrev pub bad_line : ℕ → Fault → List ℕ
-bad_line number fault = codes "bad line " ++ decimal number ++ codes " " ++ fault_text fault ++ codes "\n"
+bad_line number fault = bad_line_text number (fault_text fault)

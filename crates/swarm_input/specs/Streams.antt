@@ -1,7 +1,8 @@
 -- What was taken from a source or put to a sink in a call, as far as it tells its bytes, and whether it failed.
-use Rattle.std.specs.Prelude.{ℕ, List, Option, ◌<◌, ◌++◌, take, ◌⊎◌}
+use Rattle.std.specs.Prelude.{ℕ, List, Option, ◌+◌, ◌*◌, ◌<◌, ◌≤◌, ◌++◌, length, take, ◌⊎◌}
 use Rattle.swarm_objects.specs.Outside.{Rose, AppendsPrefix}
-use Rattle.std.specs.Io.KnownBytes.{Appends}
+use Rattle.std.specs.Io.KnownBytes.{Appends, Consumes}
+use Rattle.swarm_input.specs.Lines.{line_ends}
 
 -- a source or a sink before and after the call: the bytes that a source has left or that a sink has, and its count of
 -- faults
@@ -30,6 +31,16 @@ HasFailed s = Rose s.faults_before s.faults_after
 -- its count rose; at the greatest count that can't be seen
 abbrev pub HasRisen : Stream → Type 0
 HasRisen s = s.faults_before < s.faults_after
+
+-- of a source at most so many lines were taken, none longer than this, and what was read ahead of them: a line that isn't
+-- whole, and a piece
+pub record TakesLines (before after : Option (List ℕ)) (most longest : ℕ) : Type 0 where
+  pub lines : List ℕ
+  pub ahead : List ℕ
+  pub taken : Consumes before after (lines ++ ahead)
+  pub ends : line_ends lines ≤ most
+  pub size : length lines ≤ most * longest
+  pub few : length ahead ≤ longest + 4096
 
 -- the text was put
 abbrev pub Puts : Stream → List ℕ → Type 0

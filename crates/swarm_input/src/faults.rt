@@ -1,7 +1,7 @@
 // Faults of a script's lines, and the line that tells one.
-ghost use Rattle.std.specs.Prelude.{◌≡◌, IfOk, string_bytes};
+ghost use Rattle.std.specs.Prelude.{List, ℕ, ◌≡◌, IfOk, string_bytes};
 ghost use Rattle.swarm_objects.specs.Writers.{Puts};
-ghost use Rattle.swarm_input.specs.Script.{line_fault_text, fault_text, bad_line};
+ghost use Rattle.swarm_input.specs.Script.{line_fault_text, bad_line_text};
 
 use script_grammar::LineFault;
 use std::alloc::{AllocError, Global};
@@ -37,22 +37,36 @@ pub fn put_line_fault(text: &mut String, fault: LineFault) -> Result<(), AllocEr
     }
 }
 
-fn put_fault(text: &mut String, fault: Fault) -> Result<(), AllocError>
-    ensures { Puts result text.old text.new (fault_text fault) }
-{
-    match fault {
-        Fault::Size => text.push_str("Size"),
-        Fault::Text(fault) => put_line_fault(text, fault),
+/// Why a line is outside its grammar.
+pub trait FaultText {
+    /// The text that tells it.
+    ghost told: { Self → List ℕ };
+
+    /// Puts that text.
+    fn put_to(&self, text: &mut String) -> Result<(), AllocError>
+        ensures { Puts result text.old text.new (told self.now) };
+}
+
+impl FaultText for Fault {
+    ghost use Rattle.swarm_input.specs.Script.{fault_text};
+
+    ghost told = { fault_text };
+
+    fn put_to(&self, text: &mut String) -> Result<(), AllocError> {
+        match self {
+            Fault::Size => text.push_str("Size"),
+            Fault::Text(fault) => put_line_fault(text, *fault),
+        }
     }
 }
 
 /// The line that tells the first line outside the grammar, with its number from 1.
-pub fn bad_line(alloc: Global, number: u64, fault: Fault) -> Result<String, AllocError>
-    ensures { IfOk result (λ text. string_bytes text ≡ bad_line number fault) }
+pub fn bad_line<F: FaultText>(alloc: Global, number: u64, fault: &F) -> Result<String, AllocError>
+    ensures { IfOk result (λ text. string_bytes text ≡ bad_line_text number (F.told fault.now)) }
 {
     let mut text = String::new(alloc);
     write!(text, "bad line {number} ")?;
-    put_fault(&mut text, fault)?;
+    fault.put_to(&mut text)?;
     text.push_str("\n")?;
     Ok(text)
 }

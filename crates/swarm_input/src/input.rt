@@ -1,28 +1,25 @@
 // A source read line by line.
-ghost use Rattle.std.specs.Prelude.{◌≡◌, [], ◌+◌, ◌<◌, ◌≤◌, ◌++◌, length, drop, take, IfOk, OnOk, IfErr, OnErr, IfSome, IfNone, MatchOption, true, false, ◌^◌, Err, vec_len, vec_capacity, not};
-ghost use Rattle.std.specs.List.{position};
+ghost use Rattle.std.specs.Prelude.{◌≡◌, [], ◌+◌, ◌-◌, ◌<◌, ◌≤◌, length, take, IfOk, OnOk, IfErr, OnErr, IfSome, IfNone, true, false, Err, if◌then◌else◌};
 ghost use Rattle.std.specs.Io.KnownBytes.{IsAtEnd};
 ghost use Rattle.swarm_objects.specs.Limits.{longest_line};
 ghost use Rattle.swarm_objects.specs.Outside.{Rose};
-ghost use Rattle.swarm_input.specs.Lines.{is_newline};
+ghost use Rattle.swarm_input.specs.Held.{has_newline_in};
 ghost use Rattle.swarm_input.specs.Script.{most_bytes};
-ghost use Rattle.swarm_input.specs.LineBuffer.{to_read, TakesOn, MeansFault, has_newline_in, SeesNext, IsOpen, IsNotBad, IsLineAt, HasFound, CutsLine, Cuts, HandsOut};
+ghost use Rattle.swarm_input.specs.LineBuffer.{to_read, TakesOn, MeansFault, SeesNext, IsOpen, IsNotBad, IsLineAt, HasFound, Cuts, HandsOut};
 
 use crate::faults::Fault;
+use crate::held::{CHUNK, Held, TakeFault, newline_in};
 use script_grammar::LineFault;
 use std::alloc::{AllocError, Global};
 use std::marker::Model;
 use swarm_objects::limits::{LONGEST_LINE, LONGEST_SCRIPT};
-use swarm_objects::{Failed, List, Source};
+use swarm_objects::{List, Source};
 
 /// The most bytes of a script.
 const SCRIPT: u64 = LONGEST_SCRIPT;
 
 /// The most bytes of a line, without its newline.
 const LINE: usize = LONGEST_LINE;
-
-/// How many bytes are asked for at once.
-const CHUNK: usize = 4_096;
 
 /// A line of an input.
 #[derive(Drop)]
@@ -43,44 +40,23 @@ pub enum ReadFault {
     NoMemory,
 }
 
-impl From<AllocError> for ReadFault {
-    ghost use Rattle.std.specs.Prelude.{◌≡◌};
-    ghost use Rattle.swarm_input.specs.declared.input.ReadFault.TheVariants.{NoMemory};
-
-    ghost from_gives = { λ _ e. e ≡ NoMemory };
-
-    fn from(_: AllocError) -> ReadFault {
-        ReadFault::NoMemory
-    }
-}
-
 /// The lines of a source: the bytes that were taken and not yet given, and how far the reading is.
 #[derive(Drop)]
 pub struct Input {
-    alloc: Global,
-    buffer: Vec<u8>,
-    start: usize,
+    held: Held,
     read: u64,
-    finished: bool,
 }
 
 impl Model for Input {
-    ghost use Rattle.std.specs.Prelude.{drop, ◌≤◌, ◌+◌, ◌-◌, vec_len};
+    ghost use Rattle.std.specs.Prelude.{length, ◌≤◌, ◌+◌};
     ghost use Rattle.swarm_input.specs.LineBuffer.{LineBuffer};
     ghost use Rattle.swarm_input.specs.Script.{most_bytes};
 
     ghost Value = { LineBuffer };
 
-    ghost view = { λ i. record { bytes = drop i.start i.buffer.items; read = i.read; finished = i.finished } };
+    ghost view = { λ i. record { bytes = i.held.bytes; read = i.read; finished = i.held.finished } };
 
-    ghost invariant = { λ i. (i.start ≤ vec_len i.buffer) × (i.read ≤ most_bytes)
-        × (i.read + (vec_len i.buffer - i.start) ≤ most_bytes + 1) };
-}
-
-fn newline_in(bytes: &[u8]) -> Option<usize>
-    ensures { result ≡ position is_newline bytes.now }
-{
-    bytes.iter().position(|b| *b == b'\n')
+    ghost invariant = { λ i. (i.read ≤ most_bytes) × (i.read + length i.held.bytes ≤ most_bytes + 1) };
 }
 
 // The first bytes, at most so many.
@@ -131,15 +107,16 @@ fn look_at(read: u64, bytes: &[u8]) -> Result<Option<usize>, ReadFault>
     }
 }
 
-// The same bytes, with room for a chunk behind them.
-fn with_room(alloc: Global, bytes: &[u8]) -> Result<Vec<u8>, AllocError>
-    requires { length bytes.now ≤ most_bytes + 1 }
-    ensures items { IfOk result (λ buffer. buffer.items ≡ bytes.now) }
-    ensures room { IfOk result (λ buffer. vec_len buffer + 4096 ≤ vec_capacity buffer) }
+// The line of these bytes, which may end with its newline.
+fn line_of(bytes: List<u8>, newline: bool) -> ScriptLine
+    ensures newline { result.newline ≡ newline }
+    ensures text { result.text ≡ take (length bytes - (if newline then 1 else 0)) bytes }
 {
-    let mut buffer = Vec::with_capacity(alloc, bytes.len() + CHUNK)?;
-    buffer.extend_from_slice(bytes)?;
-    Ok(buffer)
+    let mut text = bytes;
+    if newline {
+        text.truncate(text.len().saturating_sub(1));
+    }
+    ScriptLine { text, newline }
 }
 
 impl Input {
@@ -148,20 +125,9 @@ impl Input {
         ensures { result ≡ record { bytes = []; read = 0; finished = false } }
     {
         Input {
-            alloc,
-            buffer: Vec::new(alloc),
-            start: 0,
+            held: Held::new(alloc),
             read: 0,
-            finished: false,
         }
-    }
-
-    // How many bytes are held.
-    fn held(&self) -> usize
-        ensures count { result ≡ length self.now.bytes }
-        ensures bound { self.now.read + result ≤ most_bytes + 1 }
-    {
-        self.buffer.len() - self.start
     }
 
     // What is seen of the next line: where its newline stands, if it is at hand.
@@ -169,7 +135,7 @@ impl Input {
         ensures sees { SeesNext self.now result }
         ensures few { self.now.read + length self.now.bytes ≤ most_bytes + 1 }
     {
-        look_at(self.read, &self.buffer[self.start..])
+        look_at(self.read, self.held.bytes())
     }
 
     // Takes some bytes of the source, at most up to the first beyond the script's limit. Says whether there were any.
@@ -186,22 +152,13 @@ impl Input {
         ensures faults { IfErr result (λ fault. IsNotBad fault) }
         ensures few { self.new.read + length self.new.bytes ≤ most_bytes + 1 }
     {
-        // the room is made first, so that no byte is lost where memory is wanting
-        let mut buffer = with_room(self.alloc, &self.buffer[self.start..])?;
-        let room = SCRIPT + 1 - self.read - self.held() as u64;
+        let room = SCRIPT + 1 - self.read - self.held.len() as u64;
         let most = room.min(CHUNK as u64) as usize;
-        let mut chunk = [0u8; CHUNK];
-        let count = match script.take(&mut chunk[..most]) {
-            Ok(count) => count,
-            Err(Failed) => return Err(ReadFault::Failed),
-        };
-        if count == 0 {
-            return Ok(false);
+        match self.held.take_some(script, most) {
+            Ok(some) => Ok(some),
+            Err(TakeFault::Failed) => Err(ReadFault::Failed),
+            Err(TakeFault::NoMemory) => Err(ReadFault::NoMemory),
         }
-        buffer.extend_from_slice(&chunk[..count])?;
-        self.buffer = buffer;
-        self.start = 0;
-        Ok(true)
     }
 
     // Takes bytes until the next line's newline is at hand, and says where it stands; there is none only at the end
@@ -231,40 +188,6 @@ impl Input {
         }
     }
 
-    // Gives the line whose newline stands at this place.
-    fn cut_line(&mut self, place: usize) -> Result<ScriptLine, AllocError>
-        requires { IsLineAt self.old place }
-        ensures cuts { IfOk result (λ line. CutsLine self.old self.new line) }
-        ensures err { OnErr result (self.new ≡ self.old) }
-        ensures few { self.new.read + length self.new.bytes ≤ most_bytes + 1 }
-    {
-        let text = self.buffer[self.start..self.start + place].to_vec(self.alloc)?;
-        self.start += place + 1;
-        self.read += place as u64 + 1;
-        Ok(ScriptLine {
-            text: List::from_vec(text),
-            newline: true,
-        })
-    }
-
-    // Gives all that is held as the last line.
-    fn cut_last(&mut self) -> Result<ScriptLine, AllocError>
-        requires open { IsOpen self.old }
-        requires some { 0 < length self.old.bytes }
-        ensures cuts { IfOk result (λ line. CutsLine self.old self.new line) }
-        ensures err { OnErr result (self.new ≡ self.old) }
-        ensures few { self.new.read + length self.new.bytes ≤ most_bytes + 1 }
-    {
-        let text = self.buffer[self.start..].to_vec(self.alloc)?;
-        self.start = self.buffer.len();
-        self.read += text.len() as u64;
-        self.finished = true;
-        Ok(ScriptLine {
-            text: List::from_vec(text),
-            newline: false,
-        })
-    }
-
     // Gives the line whose newline stands at this place, or where there is none all that is held as the last line, if
     // any.
     fn cut(&mut self, place: Option<usize>) -> Result<Option<ScriptLine>, AllocError>
@@ -274,19 +197,11 @@ impl Input {
         ensures err { OnErr result (self.new ≡ self.old) }
         ensures few { self.new.read + length self.new.bytes ≤ most_bytes + 1 }
     {
-        match place {
-            Some(place) => {
-                let line = self.cut_line(place)?;
-                Ok(Some(line))
-            }
-            None => {
-                if self.held() == 0 {
-                    return Ok(None);
-                }
-                let line = self.cut_last()?;
-                Ok(Some(line))
-            }
-        }
+        let Some(bytes) = self.held.cut(place)? else {
+            return Ok(None);
+        };
+        self.read += bytes.len() as u64;
+        Ok(Some(line_of(bytes, place.is_some())))
     }
 
     /// Reads the next line; there is none at the end of the source. The source is that of all earlier calls. It is
@@ -302,7 +217,7 @@ impl Input {
         ensures kept { OnOk result (S.faults script.new ≡ S.faults script.old) }
         ensures risen { S.faults script.old < S.faults script.new → result ≡ Err ReadFault.Failed }
     {
-        if self.finished {
+        if self.held.is_finished() {
             return Ok(None);
         }
         let place = match self.fill(script) {

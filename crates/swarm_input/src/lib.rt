@@ -2,7 +2,9 @@
 #![tactic(auto)]
 
 mod faults;
+mod held;
 mod input;
 
-pub use faults::{Fault, WriteFault, bad_line, put_line_fault};
+pub use faults::{Fault, FaultText, WriteFault, bad_line, put_line_fault};
+pub use held::{CHUNK, Held, TakeFault, newline_in};
 pub use input::{Input, ReadFault, ScriptLine};

@@ -5,9 +5,9 @@ use Rattle.std.proofs.lemmas.List.{append-nil}
 use Rattle.swarm_objects.specs.declared.calls.Entry.{Entry}
 use Rattle.script_grammar.specs.Entries.{entry_meaning}
 use Rattle.script_grammar.specs.declared.lines.LineFault.TheVariants.{Long}
+use Rattle.swarm_input.specs.Held.{has_newline_in}
 use Rattle.swarm_replay.specs.Journal.{JournalReading, entries_at, entries_on, entry_at, in_journal, is_head, journal_of, journal_reading, most_lines}
 use Rattle.swarm_input.specs.Lines.{bytes_of, lines_of, IsWhole}
-use Rattle.swarm_input.specs.LineBuffer.{has_newline_in}
 use Rattle.swarm_input.specs.declared.input.ScriptLine.{ScriptLine}
 use Rattle.swarm_replay.specs.declared.verdicts.EntryFault.{EntryFault}
 use Rattle.swarm_replay.specs.declared.verdicts.EntryFault.TheVariants.{Head, Size}

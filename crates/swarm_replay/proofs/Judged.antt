@@ -1,35 +1,36 @@
 -- How a replay ends, and what its verdict says of the input.
-use Rattle.std.proofs.Common.{◌≡◌, ◌≢◌, ℕ, ◌+◌, ◌≤◌, ◌<◌, List, [], ◌∷◌, ◌++◌, length, Bool, true, false, cond, refl, Option, Some, None, Result, Ok, Err, inl, inr, ◌⊎◌, sym, ◌∙◌, ap, subst, arith, append_assoc}
+use Rattle.std.proofs.Common.{◌≡◌, ℕ, ◌+◌, ◌≤◌, ◌<◌, min, List, [], ◌∷◌, ◌++◌, length, Bool, true, false, cond, refl, Option, Some, None, Result, Ok, Err, inl, inr, sym, ◌∙◌, ap, subst, arith, append_assoc}
 use Rattle.std.specs.List.{list_all}
-use Rattle.std.specs.Io.KnownBytes.{Consumes, IsAtEnd}
-use Rattle.std.proofs.lemmas.List.{append-nil, length-append}
+use Rattle.std.specs.Io.KnownBytes.{Consumes}
+use Rattle.std.proofs.lemmas.List.{length-append}
 use Rattle.swarm_model.specs.History.{IsLegal, may_follow, replay}
 use Rattle.swarm_objects.specs.Outside.{Rose}
 use Rattle.swarm_objects.specs.World.{World}
 use Rattle.swarm_objects.specs.declared.calls.Entry.{Entry}
 use Rattle.script_grammar.specs.Entries.{entry_meaning}
 use Rattle.script_grammar.specs.HasText.{has_text}
-use Rattle.swarm_replay.specs.Journal.{entries_at, entry_at, in_journal, journal_of, journal_reading}
+use Rattle.swarm_input.specs.Held.{HeldBytes, TakesMore, has_newline_in, unread}
+use Rattle.swarm_replay.specs.Journal.{most_lines, entries_at, entry_at, in_journal, journal_of, journal_reading}
 use Rattle.swarm_input.specs.Lines.{bytes_of, is_newline, lines_of, onto_line}
-use Rattle.swarm_replay.specs.Replay.{IsVerdictOf, Judges}
-use Rattle.swarm_input.specs.Streams.{stream_of}
-use Rattle.swarm_replay.specs.Inside.JournalBuffer.{GivesBytes, GivesNext, JournalBuffer, MeansStop, TakesMore, unread}
-use Rattle.swarm_input.specs.LineBuffer.{has_newline_in}
-use Rattle.swarm_replay.specs.Inside.ReplaySteps.{EndsAtHead, EndsFull, HasNoHead, IsJudged, IsReplaying, ReachesBy, TakesEntry, stopped}
+use Rattle.swarm_replay.specs.Replay.{IsVerdictOf, Judges, lines_for}
+use Rattle.swarm_input.specs.Streams.{TakesLines, stream_of}
+use Rattle.swarm_replay.specs.Inside.JournalBuffer.{GivesBytes, GivesNext, MeansStop}
+use Rattle.swarm_replay.specs.Inside.ReplaySteps.{EndsAtHead, EndsFull, HasNoHead, IsJudged, IsReplaying, ReachesBy, TakesAHead, TakesEntry, stopped}
 use Rattle.swarm_replay.specs.declared.entry_lines.Stop.{Stop}
 use Rattle.swarm_replay.specs.declared.entry_lines.Stop.TheVariants.{Failed, Long as TooLong, NoMemory as NoRoom}
 use Rattle.swarm_input.specs.declared.input.ScriptLine.{ScriptLine}
 use Rattle.swarm_replay.specs.declared.verdicts.EntryFault.TheVariants.{Head, Size, Text}
 use Rattle.swarm_replay.specs.declared.verdicts.Verdict.{Verdict}
 use Rattle.swarm_replay.specs.declared.verdicts.Verdict.TheVariants.{Legal, Illegal, BadLine, ReadFault, NoMemory}
-use Rattle.swarm_replay.proofs.Judging.{TakesWithin, bad_line, begins, failed, no_line, no_read, takes_line, takes_more, whole_journal}
+use Rattle.swarm_replay.proofs.Judging.{bad_line, begins, failed, no_line, no_read, takes_line, takes_more, whole_journal}
 use Rattle.swarm_replay.proofs.JournalReadings.{entry_beyond, entry_within, read_next}
 use Rattle.swarm_input.proofs.WholeLines.{next_lines, none_whole}
 
 -- An ending after some entries.
 
 pub judged : (verdict : Verdict) (input after : Option (List ℕ)) (k l : ℕ) (H : List Entry) → IsLegal H →
-    list_all has_text H ≡ true → Judges verdict H → IsVerdictOf verdict input after H → TakesWithin input after →
+    list_all has_text H ≡ true → Judges verdict H → IsVerdictOf verdict input after H →
+    TakesLines input after (min most_lines (lines_for verdict H)) 8224 →
     (verdict ≡ ReadFault → Rose k l) → (k < l → verdict ≡ ReadFault) → IsJudged verdict (stream_of input after k l)
 judged verdict input after k l H legal texts judges lines takes cause risen = record {
   history = H;
@@ -42,18 +43,48 @@ judged verdict input after k l H legal texts judges lines takes cause risen = re
   risen = risen;
 }
 
+-- The lines that a verdict rests on.
+
+both : (a b n : ℕ) → n ≤ a → n ≤ b → n ≤ min a b
+both a b n less fewer = omega (arith, less, fewer)
+
+done_lines : (verdict : Verdict) (H : List Entry) → length H + 1 ≤ lines_for verdict H
+done_lines (Legal count) H = omega arith
+done_lines (Illegal number) H = omega arith
+done_lines (BadLine number Head) H = omega arith
+done_lines (BadLine number Size) H = omega arith
+done_lines (BadLine number (Text fault)) H = omega arith
+done_lines ReadFault H = omega arith
+done_lines NoMemory H = omega arith
+
+-- the head and the lines of the entries
+few_done : (verdict : Verdict) (H : List Entry) → length H ≤ 300001 → length H + 1 ≤ min most_lines (lines_for verdict H)
+few_done verdict H few = both most_lines (lines_for verdict H) (length H + 1) (omega (arith, few)) (done_lines verdict H)
+
+-- and the one that decides
+few_decided : (verdict : Verdict) (H : List Entry) (count : ℕ) (w v : World) (bytes : List ℕ) → length H ≤ 300000 →
+    TakesEntry count w bytes (Err verdict) v → length H + 2 ≤ min most_lines (lines_for verdict H)
+few_decided (Illegal number) H count w v bytes few takes = both most_lines (length H + 2) (length H + 2) (omega (arith, few)) (omega arith)
+few_decided (BadLine number (Text fault)) H count w v bytes few takes = both most_lines (length H + 2) (length H + 2) (omega (arith, few)) (omega arith)
+few_decided (BadLine number Head) H count w v bytes few takes = absurd takes
+few_decided (BadLine number Size) H count w v bytes few takes = absurd takes
+few_decided NoMemory H count w v bytes few takes = both most_lines (length H + 2) (length H + 2) (omega (arith, few)) (omega arith)
+few_decided ReadFault H count w v bytes few takes = absurd takes
+few_decided (Legal number) H count w v bytes few takes = absurd takes
+
 no_rise : (k l : ℕ) → l ≡ k → k < l → ⊥
 no_rise k l same less = omega (arith, same, less)
 
 -- there is no further line
-pub ends : (input left after : Option (List ℕ)) (w : World) (count k l : ℕ) (held new : JournalBuffer) →
+pub ends : (input left after : Option (List ℕ)) (w : World) (count k l : ℕ) (held new : HeldBytes) →
     IsReplaying input w count held left → count ≤ 300001 → GivesNext held new left after None → length new.bytes ≤ 12320 → l ≡ k →
     IsJudged (Legal count) (stream_of input after k l)
 ends input left after w count k l held new at few gives more same =
     let so_few : length at.history ≤ 300001 = omega (arith, at.count_is, few) in
     judged (Legal count) input after k l at.history at.legal at.texts at.count_is
     (no_line input at.history count held new left after at.reached gives)
-    (takes_more input at.history held new left after at.reached so_few gives.0 more)
+    (takes_more input at.history held new left after (min most_lines (lines_for (Legal count) at.history)) at.reached
+    (few_done (Legal count) at.history so_few) gives.0 more)
     (λ e. cc) (λ h. absurd (no_rise k l same h))
 
 -- what a stop says of entries
@@ -68,7 +99,7 @@ stop_failed number TooLong e = cc
 stop_failed number NoRoom e = cc
 
 -- the next line can't be read
-pub stops : (input left after : Option (List ℕ)) (w : World) (count k l : ℕ) (held new : JournalBuffer) (stop : Stop) →
+pub stops : (input left after : Option (List ℕ)) (w : World) (count k l : ℕ) (held new : HeldBytes) (stop : Stop) →
     IsReplaying input w count held left → count < 300001 → TakesMore held new left after → MeansStop stop (unread held left) new →
     length new.bytes ≤ 12320 → (stop ≡ Failed → Rose k l) → (k < l → stop ≡ Failed) →
     IsJudged (stopped (count + 2) stop) (stream_of input after k l)
@@ -76,11 +107,12 @@ stops input left after w count k l held new stop at few takes means more cause r
     let so_few : length at.history ≤ 300000 = omega (arith, at.count_is, few) in
     judged (stopped (count + 2) stop) input after k l at.history at.legal at.texts (stop_judges (count + 2) stop at.history)
     (no_read input at.history (count + 2) held new left after stop at.reached (omega (arith, at.count_is)) so_few takes means)
-    (takes_more input at.history held new left after at.reached (omega (arith, so_few)) takes more)
+    (takes_more input at.history held new left after (min most_lines (lines_for (stopped (count + 2) stop) at.history)) at.reached
+    (few_done (stopped (count + 2) stop) at.history (omega (arith, so_few))) takes more)
     (λ e. cause (stop_failed (count + 2) stop e)) (λ h. ap (stopped (count + 2)) (risen h))
 
 -- the line of an entry ends the reading
-line_verdict : (input : Option (List ℕ)) (H : List Entry) (w v : World) (count : ℕ) (held new : JournalBuffer)
+line_verdict : (input : Option (List ℕ)) (H : List Entry) (w v : World) (count : ℕ) (held new : HeldBytes)
     (left after : Option (List ℕ)) (bytes : List ℕ) (verdict : Verdict) → ReachesBy input H held left →
     length H ≤ 300000 → count ≡ length H → w ≡ replay H → GivesBytes held new left after bytes →
     TakesEntry count w bytes (Err verdict) v → IsVerdictOf verdict input after H
@@ -136,7 +168,7 @@ line_failed w v count bytes NoMemory takes e = cc
 line_failed w v count bytes ReadFault takes e = takes
 line_failed w v count bytes (Legal number) takes e = takes
 
-pub line_ends : (input left after : Option (List ℕ)) (w v : World) (count k l : ℕ) (held new : JournalBuffer)
+pub line_ends : (input left after : Option (List ℕ)) (w v : World) (count k l : ℕ) (held new : HeldBytes)
     (bytes : List ℕ) (verdict : Verdict) → IsReplaying input w count held left → count < 300001 →
     GivesBytes held new left after bytes → length new.bytes ≤ 12320 → TakesEntry count w bytes (Err verdict) v → l ≡ k →
     IsJudged verdict (stream_of input after k l)
@@ -145,7 +177,8 @@ line_ends input left after w v count k l held new bytes verdict at few gives mor
     judged verdict input after k l at.history at.legal at.texts
     (line_judges at.history w v count bytes verdict at.count_is at.world takes)
     (line_verdict input at.history w v count held new left after bytes verdict at.reached so_few at.count_is at.world gives takes)
-    (takes_line input at.history held new left after bytes at.reached so_few gives more)
+    (takes_line input at.history held new left after bytes (min most_lines (lines_for verdict at.history)) at.reached
+    (few_decided verdict at.history count w v bytes so_few takes) gives more)
     (λ e. absurd (line_failed w v count bytes verdict takes e)) (λ h. absurd (no_rise k l same h))
 
 -- The reading ends at the head.
@@ -156,7 +189,7 @@ other_head input (inr other) =
     ap journal_of other.lines
     ∙ ap (λ (b : Bool). cond b (entries_at 2 other.more) (record { entries = []; bad = Some (1, Head) })) other.other
 
-head_verdict : (input after : Option (List ℕ)) (new : JournalBuffer) (verdict : Verdict) (taken : List ℕ) → EndsAtHead verdict input after new →
+head_verdict : (input after : Option (List ℕ)) (new : HeldBytes) (verdict : Verdict) (taken : List ℕ) → EndsAtHead verdict input after new →
     Consumes input after taken → IsVerdictOf verdict input after []
 head_verdict None after new verdict taken ends' takes = tt
 head_verdict (Some input) None new verdict taken ends' takes = absurd takes
@@ -173,20 +206,30 @@ head_verdict (Some input) (Some rest) new NoMemory taken ends' takes = ((journal
 head_verdict (Some input) (Some rest) new (Legal count) taken ends' takes = absurd ends'
 head_verdict (Some input) (Some rest) new (Illegal number) taken ends' takes = absurd ends'
 
-head_judges : (input after : Option (List ℕ)) (new : JournalBuffer) (verdict : Verdict) → EndsAtHead verdict input after new → Judges verdict []
+head_judges : (input after : Option (List ℕ)) (new : HeldBytes) (verdict : Verdict) → EndsAtHead verdict input after new → Judges verdict []
 head_judges input after new (BadLine number fault) ends' = tt
 head_judges input after new ReadFault ends' = tt
 head_judges input after new NoMemory ends' = tt
 head_judges input after new (Legal count) ends' = absurd ends'
 head_judges input after new (Illegal number) ends' = absurd ends'
 
-pub head_ends : (input after : Option (List ℕ)) (new : JournalBuffer) (verdict : Verdict) (k l : ℕ) → EndsAtHead verdict input after new →
-    ((taken : List ℕ) × Consumes input after taken × (length taken ≤ 20544)) → (verdict ≡ ReadFault → Rose k l) →
+head_takes : (input after : Option (List ℕ)) (most : ℕ) → 1 ≤ most → TakesAHead input after → TakesLines input after most 8224
+head_takes input after most some takes = record {
+  lines = takes.lines;
+  ahead = takes.ahead;
+  taken = takes.taken;
+  ends = omega (arith, takes.ends, some);
+  size = omega (arith, takes.size, some);
+  few = takes.few;
+}
+
+pub head_ends : (input after : Option (List ℕ)) (new : HeldBytes) (verdict : Verdict) (k l : ℕ) → EndsAtHead verdict input after new →
+    TakesAHead input after → (verdict ≡ ReadFault → Rose k l) →
     (k < l → verdict ≡ ReadFault) → IsJudged verdict (stream_of input after k l)
 head_ends input after new verdict k l ends' takes cause risen =
     judged verdict input after k l [] tt refl (head_judges input after new verdict ends')
-    (head_verdict input after new verdict takes.0 ends' takes.1)
-    (takes.0, takes.1, omega (arith, takes.2)) cause risen
+    (head_verdict input after new verdict (takes.lines ++ takes.ahead) ends' takes.taken)
+    (head_takes input after (min most_lines (lines_for verdict [])) (few_done verdict [] (omega arith)) takes) cause risen
 
 -- The reading ends after as many entries as there can be.
 
@@ -221,7 +264,7 @@ some_line (b ∷ bytes) some = go (is_newline b) refl (lines_of bytes) refl
 nothing_held : (held taken rest : List ℕ) → held ++ taken ≡ [] → rest ≡ [] → held ++ (taken ++ rest) ≡ []
 nothing_held held taken rest e none = sym (append_assoc held taken rest) ∙ ap (λ (l : List ℕ). l ++ rest) e ∙ none
 
-full_verdict : (input : Option (List ℕ)) (H : List Entry) (count : ℕ) (held new : JournalBuffer)
+full_verdict : (input : Option (List ℕ)) (H : List Entry) (count : ℕ) (held new : HeldBytes)
     (left after : Option (List ℕ)) (verdict : Verdict) → ReachesBy input H held left → length H ≡ 300001 → count ≡ length H →
     EndsFull count verdict held new left after → IsVerdictOf verdict input after H
 full_verdict None H count held new left after verdict at many is ends' = tt
@@ -258,7 +301,7 @@ full_verdict (Some input) H count held new (Some left) (Some rest) ReadFault at 
     failed input H held new left rest at ends'.0 (ap has_newline_in ends'.1) (at.unfinished ends'.2)
 full_verdict (Some input) H count held new (Some left) (Some rest) NoMemory at many is ends' = begins input H held left at
 
-full_judges : (H : List Entry) (count : ℕ) (held new : JournalBuffer) (left after : Option (List ℕ)) (verdict : Verdict) →
+full_judges : (H : List Entry) (count : ℕ) (held new : HeldBytes) (left after : Option (List ℕ)) (verdict : Verdict) →
     count ≡ length H → EndsFull count verdict held new left after → Judges verdict H
 full_judges H count held new left after (BadLine number fault) is ends' = tt
 full_judges H count held new left after (Legal number) is ends' = ends'.0 ∙ is
@@ -266,7 +309,7 @@ full_judges H count held new left after (Illegal number) is ends' = absurd ends'
 full_judges H count held new left after ReadFault is ends' = tt
 full_judges H count held new left after NoMemory is ends' = tt
 
-full_takes : (count : ℕ) (held new : JournalBuffer) (left after : Option (List ℕ)) (verdict : Verdict) →
+full_takes : (count : ℕ) (held new : HeldBytes) (left after : Option (List ℕ)) (verdict : Verdict) →
     EndsFull count verdict held new left after → TakesMore held new left after
 full_takes count held new left after (BadLine number Size) ends' = ends'.1
 full_takes count held new left after (BadLine number Head) ends' = absurd ends'
@@ -276,7 +319,7 @@ full_takes count held new left after (Illegal number) ends' = absurd ends'
 full_takes count held new left after ReadFault ends' = ends'.0
 full_takes count held new left after NoMemory ends' = ends'
 
-pub full_ends : (input left after : Option (List ℕ)) (w : World) (count k l : ℕ) (held new : JournalBuffer) (verdict : Verdict) →
+pub full_ends : (input left after : Option (List ℕ)) (w : World) (count k l : ℕ) (held new : HeldBytes) (verdict : Verdict) →
     IsReplaying input w count held left → count ≡ 300001 → EndsFull count verdict held new left after →
     length new.bytes ≤ 12320 → (verdict ≡ ReadFault → Rose k l) → (k < l → verdict ≡ ReadFault) →
     IsJudged verdict (stream_of input after k l)
@@ -285,7 +328,8 @@ full_ends input left after w count k l held new verdict at many ends' more cause
     judged verdict input after k l at.history at.legal at.texts
     (full_judges at.history count held new left after verdict at.count_is ends')
     (full_verdict input at.history count held new left after verdict at.reached size at.count_is ends')
-    (takes_more input at.history held new left after at.reached (omega (arith, size)) (full_takes count held new left after verdict ends') more)
+    (takes_more input at.history held new left after (min most_lines (lines_for verdict at.history)) at.reached
+    (few_done verdict at.history (omega (arith, size))) (full_takes count held new left after verdict ends') more)
     cause risen
 
 -- Faults that are the same.

@@ -1,7 +1,7 @@
 -- A journal that is replayed: one entry more, a fault, the end.
-use Rattle.std.proofs.Common.{◌≡◌, ℕ, ◌+◌, ◌*◌, ◌≤◌, ◌<◌, List, [], ◌∷◌, ◌++◌, length, codes, Bool, true, false, not, cond, ◌&&◌, refl, Option, Some, None, Result, Ok, Err, inl, inr, sym, ◌∙◌, ap, subst, append_assoc, arith}
+use Rattle.std.proofs.Common.{◌≡◌, ℕ, ◌+◌, ◌≤◌, ◌<◌, List, [], ◌∷◌, ◌++◌, length, codes, Bool, true, false, not, cond, ◌&&◌, refl, Option, Some, None, Ok, Err, inr, sym, ◌∙◌, ap, subst, append_assoc, arith}
 use Rattle.std.specs.List.{flat_map, list_all}
-use Rattle.std.specs.Io.KnownBytes.{Consumes, IsAtEnd}
+use Rattle.std.specs.Io.KnownBytes.{Consumes}
 use Rattle.std.specs.Str.{bytes_eq}
 use Rattle.std.proofs.lemmas.Grind.{flat_map-append}
 use Rattle.std.proofs.lemmas.List.{append-nil, length-append}
@@ -14,11 +14,11 @@ use Rattle.script_grammar.specs.Entries.{entry_meaning}
 use Rattle.script_grammar.specs.HasText.{has_text}
 use Rattle.script_grammar.specs.declared.lines.LineFault.TheVariants.{Long}
 use Rattle.script_grammar.specs.Texts.{entry_text}
+use Rattle.swarm_input.specs.Held.{HeldBytes, TakesMore, has_newline_in, unread}
 use Rattle.swarm_replay.specs.Journal.{JournalReading, entry_at, in_journal, is_head, journal_of, journal_reading, journal_text}
 use Rattle.swarm_input.specs.Lines.{bytes_of, lines_of, whole_lines, IsWhole}
 use Rattle.swarm_replay.specs.Replay.{BeginsWith, IsVerdictOf}
-use Rattle.swarm_replay.specs.Inside.JournalBuffer.{GivesBytes, GivesNext, JournalBuffer, MeansStop, TakesMore, unread}
-use Rattle.swarm_input.specs.LineBuffer.{has_newline_in}
+use Rattle.swarm_replay.specs.Inside.JournalBuffer.{GivesBytes, GivesNext, MeansStop}
 use Rattle.swarm_replay.specs.Inside.ReplaySteps.{IsReplaying, ReachesBy, ReachesEntries, TakesEntry, stopped}
 use Rattle.swarm_replay.specs.declared.entry_lines.Stop.{Stop}
 use Rattle.swarm_replay.specs.declared.entry_lines.Stop.TheVariants.{Failed, Long as TooLong, NoMemory as NoRoom}
@@ -27,6 +27,9 @@ use Rattle.swarm_replay.specs.declared.verdicts.EntryFault.{EntryFault}
 use Rattle.swarm_replay.specs.declared.verdicts.EntryFault.TheVariants.{Head, Text}
 use Rattle.swarm_replay.specs.declared.verdicts.Verdict.TheVariants.{Legal, BadLine, ReadFault, NoMemory}
 use Rattle.swarm_replay.proofs.JournalReadings.{all_read, entry_within, good, long_says, nothing_before, read_bad, read_entry, read_more}
+use Rattle.swarm_input.specs.Streams.{TakesLines}
+use Rattle.swarm_replay.proofs.Heads.{takes_unseen}
+use Rattle.swarm_input.proofs.Counts.{ends-append, ends_line}
 use Rattle.swarm_input.proofs.WholeLines.{alone, step_whole, whole_none, finished_or, none_whole, three}
 
 -- The head.
@@ -38,7 +41,7 @@ head_reads line is one some =
     ap journal_of (alone line one some)
     ∙ ap (λ (b : Bool). cond b (good []) (record { entries = []; bad = Some (1, Head) })) head
 
-reaches_head : (input left : Option (List ℕ)) (old new : JournalBuffer) → old ≡ record { bytes = []; finished = false } →
+reaches_head : (input left : Option (List ℕ)) (old new : HeldBytes) → old ≡ record { bytes = []; finished = false } →
     GivesBytes old new input left (codes "swarm journal 1\n") → ReachesBy input [] new left
 reaches_head None left old new start gives = tt
 reaches_head (Some input) None old new start gives = absurd gives.reads
@@ -48,10 +51,11 @@ reaches_head (Some input) (Some left) old new start gives =
     let open' : new.finished ≡ false → line.newline ≡ true = λ e. not_false line.newline (sym gives.finished ∙ e) in
     record {
       read = bytes_of line;
-      bytes = ap (λ (h : JournalBuffer). h.bytes ++ input) (sym start) ∙ gives.reads.bytes;
+      bytes = ap (λ (h : HeldBytes). h.bytes ++ input) (sym start) ∙ gives.reads.bytes;
       reading_is = head_reads line (sym gives.bytes_is) gives.reads.one some;
       text = sym gives.bytes_is ∙ sym (append-nil (codes "swarm journal 1\n"));
       few = omega (arith, ap (λ (l : List ℕ). length l) gives.bytes_is, gives.short);
+      ends = omega (arith, ends_line line gives.reads.one);
       unfinished = λ e. step_whole [] line whole_none gives.reads.one some (open' e);
       finished = λ e. gives.reads.last (not_true line.newline (sym gives.finished ∙ e));
     }
@@ -65,7 +69,7 @@ reaches_head (Some input) (Some left) old new start gives =
     not_true false e = refl
 
 -- the head line was read, and nothing is done yet
-pub starts : (input left : Option (List ℕ)) (old new : JournalBuffer) (w : World) → old ≡ record { bytes = []; finished = false } →
+pub starts : (input left : Option (List ℕ)) (old new : HeldBytes) (w : World) → old ≡ record { bytes = []; finished = false } →
     GivesBytes old new input left (codes "swarm journal 1\n") → w ≡ empty_world → IsReplaying input w 0 new left
 starts input left old new w start gives world = record {
   history = [];
@@ -78,49 +82,46 @@ starts input left old new w start gives world = record {
 
 -- What was taken.
 
-abbrev pub TakesWithin : Option (List ℕ) → Option (List ℕ) → Type 0
-TakesWithin before after = (taken : List ℕ) × Consumes before after taken × (length taken ≤ 300002 * 8224 + 12320)
+pub takes_more : (input : Option (List ℕ)) (H : List Entry) (held new : HeldBytes) (left after : Option (List ℕ)) (most : ℕ) →
+    ReachesBy input H held left → length H + 1 ≤ most → TakesMore held new left after → length new.bytes ≤ 12320 →
+    TakesLines input after most 8224
+takes_more None H held new left after most at few takes more = takes_unseen after most
+takes_more (Some input) H held new None after most at few takes more = absurd at
+takes_more (Some input) H held new (Some left) None most at few takes more = absurd takes.source
+takes_more (Some input) H held new (Some left) (Some rest) most at few takes more = record {
+  lines = at.read;
+  ahead = held.bytes ++ takes.taken;
+  taken = at.bytes ∙ ap (λ (l : List ℕ). at.read ++ (held.bytes ++ l)) takes.source ∙ three at.read held.bytes takes.taken rest;
+  ends = omega (arith, at.ends, few);
+  size = omega (arith, at.few, few);
+  few = omega (arith, ap (λ (l : List ℕ). length l) takes.bytes, more);
+}
 
-pub takes_more : (input : Option (List ℕ)) (H : List Entry) (held new : JournalBuffer) (left after : Option (List ℕ)) →
-    ReachesBy input H held left → length H ≤ 300001 → TakesMore held new left after → length new.bytes ≤ 12320 →
-    TakesWithin input after
-takes_more None H held new left after at few takes more = ([], tt, omega arith)
-takes_more (Some input) H held new None after at few takes more = absurd at
-takes_more (Some input) H held new (Some left) None at few takes more = absurd takes.source
-takes_more (Some input) H held new (Some left) (Some rest) at few takes more = (
-  at.read ++ (held.bytes ++ takes.taken),
-  at.bytes ∙ ap (λ (l : List ℕ). at.read ++ (held.bytes ++ l)) takes.source ∙ three at.read held.bytes takes.taken rest,
-  omega (
-    arith,
-    length-append at.read (held.bytes ++ takes.taken),
-    ap (λ (l : List ℕ). length l) takes.bytes,
-    at.few,
-    few,
-    more,
-  ),
-)
-
-pub takes_line : (input : Option (List ℕ)) (H : List Entry) (held new : JournalBuffer) (left after : Option (List ℕ))
-    (bytes : List ℕ) → ReachesBy input H held left → length H ≤ 300000 → GivesBytes held new left after bytes →
-    length new.bytes ≤ 12320 → TakesWithin input after
-takes_line None H held new left after bytes at few gives more = ([], tt, omega arith)
-takes_line (Some input) H held new None after bytes at few gives more = absurd at
-takes_line (Some input) H held new (Some left) None bytes at few gives more = absurd gives.reads
-takes_line (Some input) H held new (Some left) (Some rest) bytes at few gives more =
-    let line = bytes_of gives.line in (
-      at.read ++ (line ++ new.bytes),
-      at.bytes ∙ ap (λ (l : List ℕ). at.read ++ l) gives.reads.bytes ∙ three at.read line new.bytes rest,
-      omega (
+pub takes_line : (input : Option (List ℕ)) (H : List Entry) (held new : HeldBytes) (left after : Option (List ℕ))
+    (bytes : List ℕ) (most : ℕ) → ReachesBy input H held left → length H + 2 ≤ most → GivesBytes held new left after bytes →
+    length new.bytes ≤ 12320 → TakesLines input after most 8224
+takes_line None H held new left after bytes most at few gives more = takes_unseen after most
+takes_line (Some input) H held new None after bytes most at few gives more = absurd at
+takes_line (Some input) H held new (Some left) None bytes most at few gives more = absurd gives.reads
+takes_line (Some input) H held new (Some left) (Some rest) bytes most at few gives more =
+    let line = bytes_of gives.line in
+    record {
+      lines = at.read ++ line;
+      ahead = new.bytes;
+      taken = at.bytes ∙ ap (λ (l : List ℕ). at.read ++ l) gives.reads.bytes
+          ∙ three at.read line new.bytes rest
+          ∙ ap (λ (l : List ℕ). l ++ rest) (sym (append_assoc at.read line new.bytes));
+      ends = omega (arith, ends-append at.read line, ends_line gives.line gives.reads.one, at.ends, few);
+      size = omega (
         arith,
-        length-append at.read (line ++ new.bytes),
-        length-append line new.bytes,
+        length-append at.read line,
         ap (λ (l : List ℕ). length l) gives.bytes_is,
         gives.short,
         at.few,
         few,
-        more,
-      ),
-    )
+      );
+      few = omega (arith, more);
+    }
 
 -- One entry more.
 
@@ -142,7 +143,7 @@ not_true : (b : Bool) → not b ≡ true → b ≡ false
 not_true true e = cc
 not_true false e = refl
 
-reaches_next : (input : Option (List ℕ)) (H : List Entry) (e : Entry) (held new : JournalBuffer)
+reaches_next : (input : Option (List ℕ)) (H : List Entry) (e : Entry) (held new : HeldBytes)
     (left after : Option (List ℕ)) (bytes : List ℕ) → ReachesBy input H held left → length H ≤ 300000 →
     GivesBytes held new left after bytes → entry_meaning bytes ≡ Ok e → bytes ≡ entry_text e →
     ReachesBy input (H ++ e ∷ []) new after
@@ -170,6 +171,13 @@ reaches_next (Some input) H e held new (Some left) (Some rest) bytes at few give
         ap (λ (l : List ℕ). length l) gives.bytes_is,
         gives.short,
       );
+      ends = omega (
+        arith,
+        ends-append at.read (bytes_of line),
+        length-append H (e ∷ []),
+        at.ends,
+        ends_line line gives.reads.one,
+      );
       unfinished = λ q. step_whole at.read line whole gives.reads.one some (not_false line.newline (sym gives.finished ∙ q));
       finished = λ q. gives.reads.last (not_true line.newline (sym gives.finished ∙ q));
     }
@@ -179,7 +187,7 @@ and_true true true e h = refl
 and_true true false e h = cc
 and_true false b e h = cc
 
-pub goes_on : (input left after : Option (List ℕ)) (w v : World) (count : ℕ) (held new : JournalBuffer) (bytes : List ℕ)
+pub goes_on : (input left after : Option (List ℕ)) (w v : World) (count : ℕ) (held new : HeldBytes) (bytes : List ℕ)
     (done : Unit {0}) → IsReplaying input w count held left → count < 300001 → GivesBytes held new left after bytes →
     TakesEntry count w bytes (Ok done) v → IsReplaying input v (count + 1) new after
 goes_on input left after w v count held new bytes done at few gives takes =
@@ -213,13 +221,13 @@ begins_by false input read rest H parts is whole none =
       ap (λ (l : List ℕ). (journal_reading l).entries) parts ∙ ap (λ (r : JournalReading). r.entries) more,
     )
 
-pub begins : (input : List ℕ) (H : List Entry) (held : JournalBuffer) (left : List ℕ) → ReachesEntries input H held left →
+pub begins : (input : List ℕ) (H : List Entry) (held : HeldBytes) (left : List ℕ) → ReachesEntries input H held left →
     BeginsWith (journal_reading input) H
 begins input H held left at =
     begins_by held.finished input at.read (held.bytes ++ left) H at.bytes at.reading_is at.unfinished at.finished
 
 -- memory is wanting
-pub no_memory : (input : Option (List ℕ)) (H : List Entry) (held : JournalBuffer) (left after : Option (List ℕ))
+pub no_memory : (input : Option (List ℕ)) (H : List Entry) (held : HeldBytes) (left after : Option (List ℕ))
     (taken : List ℕ) → ReachesBy input H held left → Consumes left after taken → IsVerdictOf NoMemory input after H
 no_memory None H held left after taken at takes = tt
 no_memory (Some input) H held None after taken at takes = absurd at
@@ -227,14 +235,14 @@ no_memory (Some input) H held (Some left) None taken at takes = absurd takes
 no_memory (Some input) H held (Some left) (Some rest) taken at takes = begins input H held left at
 
 -- there is no further line
-pub whole_journal : (input : List ℕ) (H : List Entry) (held : JournalBuffer) (left : List ℕ) (rest : List ℕ) (count : ℕ) →
+pub whole_journal : (input : List ℕ) (H : List Entry) (held : HeldBytes) (left : List ℕ) (rest : List ℕ) (count : ℕ) →
     ReachesEntries input H held left → held.bytes ++ left ≡ [] → IsVerdictOf (Legal count) (Some input) (Some rest) H
 whole_journal input H held left rest count at none = (
   ap journal_reading at.bytes ∙ all_read at.read (held.bytes ++ left) H at.reading_is none,
   at.bytes ∙ ap (λ (l : List ℕ). at.read ++ l) none ∙ append-nil at.read ∙ at.text,
 )
 
-pub no_line : (input : Option (List ℕ)) (H : List Entry) (count : ℕ) (held new : JournalBuffer) (left after : Option (List ℕ)) →
+pub no_line : (input : Option (List ℕ)) (H : List Entry) (count : ℕ) (held new : HeldBytes) (left after : Option (List ℕ)) →
     ReachesBy input H held left → GivesNext held new left after None → IsVerdictOf (Legal count) input after H
 no_line None H count held new left after at gives = tt
 no_line (Some input) H count held new None after at gives = absurd at
@@ -244,7 +252,7 @@ no_line (Some input) H count held new (Some left) (Some rest) at gives =
     (finished_or held.finished (held.bytes ++ left ≡ []) gives.1 at.finished)
 
 -- a line outside the grammar
-pub bad_line : (input : List ℕ) (H : List Entry) (held : JournalBuffer) (left rest : List ℕ) (line : ScriptLine)
+pub bad_line : (input : List ℕ) (H : List Entry) (held : HeldBytes) (left rest : List ℕ) (line : ScriptLine)
     (more : List ScriptLine) (fault : EntryFault) (number : ℕ) → ReachesEntries input H held left →
     lines_of (held.bytes ++ left) ≡ line ∷ more → entry_at (2 + length H) line ≡ Err fault → number ≡ length H + 2 →
     IsVerdictOf (BadLine number fault) (Some input) (Some rest) H
@@ -257,7 +265,7 @@ bad_line input H held left rest line more fault number at lines says is =
     ∙ ap (λ (k : ℕ). record { entries = H; bad = Some (k, fault) }) same
 
 -- the source failed
-pub failed : (input : List ℕ) (H : List Entry) (held new : JournalBuffer) (left rest : List ℕ) (at : ReachesEntries input H held left) →
+pub failed : (input : List ℕ) (H : List Entry) (held new : HeldBytes) (left rest : List ℕ) (at : ReachesEntries input H held left) →
     TakesMore held new (Some left) (Some rest) → has_newline_in new.bytes ≡ false → IsWhole at.read →
     IsVerdictOf ReadFault (Some input) (Some rest) H
 failed input H held new left rest at takes none whole =
@@ -275,7 +283,7 @@ failed input H held new left rest at takes none whole =
     }
 
 -- the next line can't be read
-pub no_read : (input : Option (List ℕ)) (H : List Entry) (number : ℕ) (held new : JournalBuffer)
+pub no_read : (input : Option (List ℕ)) (H : List Entry) (number : ℕ) (held new : HeldBytes)
     (left after : Option (List ℕ)) (stop : Stop) → ReachesBy input H held left → number ≡ length H + 2 →
     length H ≤ 300000 → TakesMore held new left after → MeansStop stop (unread held left) new →
     IsVerdictOf (stopped number stop) input after H

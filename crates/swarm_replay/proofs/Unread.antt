@@ -19,7 +19,14 @@ is_no_replay a m x k status is = replayed NoMemory a a x x m m k k status (recor
   texts = refl;
   judges = tt;
   lines = nothing_done a;
-  takes = ([], consumes_none a, omega arith);
+  takes = record {
+    lines = [];
+    ahead = [];
+    taken = consumes_none a;
+    ends = omega arith;
+    size = omega arith;
+    few = omega arith;
+  };
   cause = λ e. absurd (cc e);
   risen = λ h. absurd (omega (arith, h));
 }) (is, appends_none x) (λ h. absurd (omega (arith, h)))

@@ -1,7 +1,6 @@
 -- What a replay promises: which entries of its input are legal one after the other, and what is put of it.
-use Rattle.std.specs.Prelude.{ℕ, ◌+◌, ◌≡◌, ◌⊎◌, ◌≤◌, ◌*◌, if◌then◌else◌, List, [], ◌∷◌, ◌++◌, length, codes, decimal, true, false, Option, Some, None, ⊤}
+use Rattle.std.specs.Prelude.{ℕ, ◌+◌, ◌≡◌, ◌⊎◌, min, if◌then◌else◌, List, [], ◌∷◌, ◌++◌, length, codes, decimal, true, false, Option, Some, None, ⊤}
 use Rattle.std.specs.List.{list_all}
-use Rattle.std.specs.Io.KnownBytes.{Consumes}
 use Rattle.swarm_model.specs.History.{IsLegal, may_follow, replay, step_world}
 use Rattle.swarm_objects.specs.Limits.{longest_entry}
 use Rattle.swarm_objects.specs.World.{World, empty_world}
@@ -9,8 +8,8 @@ use Rattle.swarm_objects.specs.declared.calls.Entry.{Entry}
 use Rattle.script_grammar.specs.HasText.{has_text}
 use Rattle.swarm_replay.specs.Journal.{JournalReading, journal_of, journal_reading, most_lines, journal_text}
 use Rattle.swarm_input.specs.Lines.{whole_lines}
-use Rattle.swarm_input.specs.Script.{line_fault_text}
-use Rattle.swarm_input.specs.Streams.{Stream, HasFailed, HasRisen, Puts, PutsPrefix, PutsUnlessFailed}
+use Rattle.swarm_input.specs.Script.{bad_line_text, line_fault_text}
+use Rattle.swarm_input.specs.Streams.{Stream, HasFailed, HasRisen, Puts, PutsPrefix, PutsUnlessFailed, TakesLines}
 use Rattle.swarm_replay.specs.declared.verdicts.EntryFault.{EntryFault}
 use Rattle.swarm_replay.specs.declared.verdicts.EntryFault.TheVariants.{Head, Size, Text}
 use Rattle.swarm_replay.specs.declared.verdicts.Verdict.{Verdict}
@@ -26,8 +25,7 @@ entry_fault_text (Text fault) = line_fault_text fault
 abbrev pub verdict_text : Verdict → List ℕ
 verdict_text (Legal count) = codes "legal " ++ decimal count ++ codes "\n"
 verdict_text (Illegal number) = codes "illegal " ++ decimal number ++ codes "\n"
-verdict_text (BadLine number fault) =
-    codes "bad line " ++ decimal number ++ codes " " ++ entry_fault_text fault ++ codes "\n"
+verdict_text (BadLine number fault) = bad_line_text number (entry_fault_text fault)
 verdict_text ReadFault = []
 verdict_text NoMemory = []
 
@@ -87,14 +85,19 @@ IsVerdictOf verdict None left history = ⊤
 IsVerdictOf verdict (Some input) None history = ⊥
 IsVerdictOf verdict (Some input) (Some left) history = IsVerdictOn verdict input left history
 
--- However long the source is: as many lines as a journal has, each as long as a line may be, and what is read ahead.
+-- However long the source is: no more of its lines than the verdict rests on, and what is read ahead of them.
 
-abbrev pub most_taken : ℕ
-most_taken = most_lines * longest_entry + 12320
+-- the head, the lines of the entries that were done, and the one that decides, if one does
+abbrev pub lines_for : Verdict → List Entry → ℕ
+lines_for (Illegal number) history = length history + 2
+lines_for (BadLine number (Text fault)) history = length history + 2
+lines_for NoMemory history = length history + 2
+lines_for _ history = length history + 1
 
-abbrev pub TakesAtMostAJournal : Stream → Type 0
-TakesAtMostAJournal input =
-    (taken : List ℕ) × Consumes input.before input.after taken × (length taken ≤ most_taken)
+-- the line after the last one that a journal has is only read ahead, to answer Size
+abbrev pub TakesAtMostAJournal : Verdict → List Entry → Stream → Type 0
+TakesAtMostAJournal verdict history input =
+    TakesLines input.before input.after (min most_lines (lines_for verdict history)) longest_entry
 
 -- What was put, and the status. Where memory is wanting for the line that tells the verdict, nothing is put.
 
@@ -144,7 +147,7 @@ pub record IsReplay (input out : Stream) (status : ℕ) : Type 0 where
   pub lines : IsVerdictOf verdict input.before input.after history
   pub tells : TellsVerdict verdict out status
   pub cause : verdict ≡ ReadFault → HasFailed input
-  pub takes : TakesAtMostAJournal input
+  pub takes : TakesAtMostAJournal verdict history input
   -- where a count rose, the status says so
   pub input_failed : HasRisen input → status ≡ 3
   pub out_failed : HasRisen out → IsPutStatus status

@@ -1,11 +1,11 @@
 // What a replay finds, and the line that tells it.
-ghost use Rattle.std.specs.Prelude.{◌≡◌, ◌++◌, IfOk, OnOk, string_bytes};
-ghost use Rattle.swarm_replay.specs.Replay.{entry_fault_text, verdict_status, verdict_text};
+ghost use Rattle.std.specs.Prelude.{◌≡◌, IfOk, string_bytes};
+ghost use Rattle.swarm_replay.specs.Replay.{verdict_status, verdict_text};
 
 use script_grammar::LineFault;
 use std::alloc::{AllocError, Global};
 use std::fmt::Write;
-use swarm_input::put_line_fault;
+use swarm_input::{FaultText, bad_line, put_line_fault};
 
 /// Why a line of a journal is outside the grammar.
 #[derive(Clone, Copy, Debug, PartialEq, Eq)]
@@ -47,13 +47,17 @@ impl Verdict {
     }
 }
 
-fn put_fault(text: &mut String, fault: EntryFault) -> Result<(), AllocError>
-    ensures { OnOk result (string_bytes text.new ≡ string_bytes text.old ++ entry_fault_text fault) }
-{
-    match fault {
-        EntryFault::Head => text.push_str("Head"),
-        EntryFault::Size => text.push_str("Size"),
-        EntryFault::Text(fault) => put_line_fault(text, fault),
+impl FaultText for EntryFault {
+    ghost use Rattle.swarm_replay.specs.Replay.{entry_fault_text};
+
+    ghost told = { entry_fault_text };
+
+    fn put_to(&self, text: &mut String) -> Result<(), AllocError> {
+        match self {
+            EntryFault::Head => text.push_str("Head"),
+            EntryFault::Size => text.push_str("Size"),
+            EntryFault::Text(fault) => put_line_fault(text, *fault),
+        }
     }
 }
 
@@ -73,16 +77,6 @@ fn illegal(alloc: Global, number: u64) -> Result<String, AllocError>
     Ok(text)
 }
 
-fn bad_line(alloc: Global, number: u64, fault: EntryFault) -> Result<String, AllocError>
-    ensures { IfOk result (λ text. string_bytes text ≡ verdict_text (Verdict.BadLine number fault)) }
-{
-    let mut text = String::new(alloc);
-    write!(text, "bad line {number} ")?;
-    put_fault(&mut text, fault)?;
-    text.push_str("\n")?;
-    Ok(text)
-}
-
 /// The line that tells the verdict. A fault of the source and want of memory have none.
 pub fn verdict_text(alloc: Global, verdict: Verdict) -> Result<String, AllocError>
     ensures { IfOk result (λ text. string_bytes text ≡ verdict_text verdict) }
@@ -90,7 +84,7 @@ pub fn verdict_text(alloc: Global, verdict: Verdict) -> Result<String, AllocErro
     match verdict {
         Verdict::Legal(count) => legal(alloc, count),
         Verdict::Illegal(number) => illegal(alloc, number),
-        Verdict::BadLine(number, fault) => bad_line(alloc, number, fault),
+        Verdict::BadLine(number, fault) => bad_line(alloc, number, &fault),
         Verdict::ReadFault | Verdict::NoMemory => Ok(String::new(alloc)),
     }
 }

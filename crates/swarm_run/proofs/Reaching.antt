@@ -3,9 +3,10 @@ use Rattle.std.proofs.Common.{◌≡◌, ℕ, ◌+◌, ◌<◌, List, [], ◌∷
 use Rattle.std.proofs.lemmas.List.{append-nil}
 use Rattle.swarm_objects.specs.declared.calls.Entry.{Entry}
 use Rattle.script_grammar.specs.declared.lines.Line.{Line}
+use Rattle.swarm_input.specs.Held.{has_newline_in}
 use Rattle.swarm_input.specs.Lines.{is_newline, onto_line, lines_of, bytes_of, IsWhole}
 use Rattle.swarm_input.specs.Script.{Reading, reading, reading_of, reading_at, read_on, meaning_at}
-use Rattle.swarm_input.specs.LineBuffer.{LineBuffer, has_newline_in}
+use Rattle.swarm_input.specs.LineBuffer.{LineBuffer}
 use Rattle.swarm_objects.specs.World.{World}
 use Rattle.swarm_model.specs.History.{replay}
 use Rattle.swarm_run.specs.Serial.{entries, line_entries}

@@ -1,5 +1,5 @@
 -- Calls and turns of a run.
-use Rattle.std.proofs.Common.{ℕ, ◌≡◌, ◌≤◌, ◌<◌, ◌^◌, List, [], ◌∷◌, ◌++◌, length, nat_le, Bool, true, false, cond, ◌&&◌, refl, arith, Option, Some, None, sym, ◌∙◌, ap, inl, inr, subst}
+use Rattle.std.proofs.Common.{ℕ, ◌≡◌, ◌+◌, ◌≤◌, ◌<◌, ◌^◌, List, [], ◌∷◌, ◌++◌, length, nat_le, Bool, true, false, cond, ◌&&◌, refl, arith, Option, Some, None, sym, ◌∙◌, ap, inl, inr, subst}
 use Rattle.std.specs.Prelude.{is_some}
 use Rattle.std.specs.List.{list_all}
 use Rattle.std.proofs.lemmas.Bool.Decides.{nat_tests}
@@ -20,7 +20,11 @@ use Rattle.swarm_objects.specs.declared.calls.What.TheVariants as what
 use Rattle.swarm_objects.specs.declared.calls.Entry.{Entry}
 use Rattle.swarm_objects.specs.declared.duties.Duty.{Duty}
 use Rattle.swarm_objects.specs.declared.replies.Refusal.TheVariants.{Halted, Full as IsFull}
+use Rattle.swarm_objects.specs.declared.duties.Settle.{Settle as Settled}
 use Rattle.swarm_objects.specs.declared.replies.Reply.{Reply}
+use Rattle.swarm_objects.specs.declared.replies.Reply.TheVariants as told
+use Rattle.swarm_plain.proofs.EntryLemmas.{settle-unseen}
+use Rattle.swarm_plain.specs.Entries.{entered_unseen}
 use Rattle.swarm_plain.proofs.First.{due_of_first, first_of_named}
 use Rattle.swarm_duties.specs.Quiet.{IsKnownQuiet}
 use Rattle.swarm_duties.specs.Reached.{IsReached}
@@ -96,6 +100,20 @@ pub replied : (w v : World) (H G : List Entry) (by : ℕ) (call : Call) (reply :
     (v.entries ≡ w.entries → ⊥) → reply ≡ step_reply (replay G) (call_by by call)
 replied w v H G by call reply is same running few meets moved =
     (goes w v call reply (admitted w call running few) meets moved).0 ∙ ap (λ (u : World). (call_outcome u call).reply) (is ∙ ap replay same)
+
+-- the settle test as a call, of which the answer is known
+pub settled_meets : (w v : World) (budget : ℕ) (answer : Settled) → is_admitted w (Settle budget) ≡ true → answer ≡ settle_answer w →
+    v ≡ entered_unseen (w.entries + 1) w → Meets (outcome w (Settle budget)) w (told.Settle budget answer) v
+settled_meets w v budget answer may is ends =
+    let same = outcome-admitted w (Settle budget) may in
+    inl (ap (told.Settle budget) is ∙ ap (λ (o : Outcome). o.reply) (sym same), ends ∙ sym (settle-unseen w) ∙ ap (λ (o : Outcome). o.after) (sym same))
+
+pub one_more : (w v : World) → v ≡ entered_unseen (w.entries + 1) w → v.entries ≡ w.entries → ⊥
+one_more w v ends same = omega (arith, same, ap (λ (u : World). u.entries) ends)
+
+-- what was answered of the history is answered of the world
+pub answered_at : (w : World) (H G : List Entry) (answer : Settled) → w ≡ replay H → H ≡ G → answer ≡ settle_answer (replay G) → answer ≡ settle_answer w
+answered_at w H G answer is same known = known ∙ ap settle_answer (sym (is ∙ ap replay same))
 
 pub halting : (w : World) (H : List Entry) → IsLegal H → w ≡ replay H → w.halted ≡ false → IsLegal (H ++ own_call Halt ∷ [])
 halting w H legal is running = IsLegalFrom-snoc empty_world H (own_call Halt) legal (subst (λ (u : World). is_admitted u Halt ≡ true) is (admitted-Halt w running))

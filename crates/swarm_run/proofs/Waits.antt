@@ -151,17 +151,3 @@ pub stride_err : (r : Result (Unit {0}) Ending) (old mid new : List Entry) (left
     IfErr r (λ ending. StopsIn ending (next_stride (replay old) left) old new)
 stride_err (Ok done) old mid new left first stops = tt
 stride_err (Err ending) old mid new left first stops = stride_stops ending old mid new left first stops
-
--- What came of the line, by the duties at its end.
-
-pub wait_ok : (r : Result (Unit {0}) Ending) (ms left : ℕ) (old now new : List Entry) → Waiting ms left old now →
-    left ≡ 0 → OnOk r (new ≡ now ++ stretch (replay now)) →
-    OnOk r (new ≡ old ++ wait_entries ms (replay old) (time_of ms old))
-wait_ok (Ok done) ms left old now new s none is = waiting_end ms left old now new s none is
-wait_ok (Err ending) ms left old now new s none is = tt
-
-pub wait_err : (r : Result (Unit {0}) Ending) (ms left : ℕ) (old now new : List Entry) → Waiting ms left old now →
-    left ≡ 0 → IfErr r (λ ending. StopsIn ending (stretch (replay now)) now new) →
-    IfErr r (λ ending. StopsIn ending (wait_entries ms (replay old) (time_of ms old)) old new)
-wait_err (Ok done) ms left old now new s none stops = tt
-wait_err (Err ending) ms left old now new s none stops = waiting_end_stops ending ms left old now new s none stops

@@ -106,6 +106,39 @@ impl Run {
         }
     }
 
+    /// Appends the caller's call that asks whether the world has settled, where the answer is known, or says why it could
+    /// not. Nobody looks again.
+    pub fn call_settled(
+        &mut self,
+        by: u64,
+        budget: u64,
+        answer: Settle,
+    ) -> Result<Reply, Unanswered>
+        requires answer { answer ≡ settle_answer (replay self.old) }
+        requires text { has_text (call_by by (Call.Settle budget)) ≡ true }
+        requires short { is_short (call_by by (Call.Settle budget)) ≡ true }
+        ensures ok { IfOk result (λ reply. Calls by (Call.Settle budget) self.old reply self.new) }
+        ensures err { IfErr result (λ cause. AddsNothing cause self.old self.new) }
+    {
+        if self.is_full() {
+            return Err(Unanswered::Full);
+        }
+        // an entry and Halt
+        let Ok(()) = self.history.reserve(2) else {
+            return Err(Unanswered::NoMemory);
+        };
+        let number = self.plain.entries + 1;
+        self.plain.end_unseen(number);
+        let entry = Entry {
+            by,
+            what: What::Call(Call::Settle(budget)),
+        };
+        match self.history.push(entry) {
+            Ok(()) => Ok(Reply::Settle(budget, answer)),
+            Err(_) => unreachable!(),
+        }
+    }
+
     /// The time of the world.
     pub fn now(&self) -> Ms
         ensures { result ≡ (replay self.now).tables.clock }

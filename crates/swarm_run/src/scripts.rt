@@ -1,7 +1,6 @@
 // A script's lines, each called and answered.
 ghost use Rattle.std.specs.Prelude.{◌+◌, ◌≡◌, [], ◌∷◌, ◌++◌, ◌<◌, ◌≤◌, true, false, IfOk, OnOk, IfErr, Ok, Err, Some};
 ghost use Rattle.std.specs.Io.KnownBytes.{Appends};
-ghost use Rattle.swarm_duties.specs.Quiet.{IsKnownQuiet};
 ghost use Rattle.swarm_objects.specs.CallWords.{is_halt};
 ghost use Rattle.swarm_objects.specs.Kinds.{duty_named};
 ghost use Rattle.swarm_model.specs.History.{replay};
@@ -15,7 +14,7 @@ ghost use Rattle.swarm_input.specs.Script.{bad_line, in_text};
 ghost use Rattle.swarm_run.specs.Serial.{is_refused};
 ghost use Rattle.swarm_input.specs.Streams.{stream};
 ghost use Rattle.swarm_run.specs.Work.{AddsNothing};
-ghost use Rattle.swarm_run.specs.Inside.LineSteps.{DoesLine, Passes, PutsAnswer, PutsReply, SaysLine, StopsIn};
+ghost use Rattle.swarm_run.specs.Inside.LineSteps.{DoesLine, IsSeen, Passes, PutsAnswer, PutsReply, SaysLine, StopsIn};
 ghost use Rattle.swarm_run.specs.Endings.{ending_of, whole_ending, TellsEnding};
 ghost use Rattle.swarm_run.specs.ScriptSteps.{IsRead};
 ghost use Rattle.script_grammar.specs.Lines.{line_runs, meaning_of};
@@ -127,14 +126,6 @@ fn answer<O: Sink>(alloc: Global, run: &mut Run, out: &mut O, call: Call) -> Res
     put
 }
 
-// The duty that the settle test names, if it names one.
-fn next_duty(run: &Run, quiet: Quiet) -> Option<Duty>
-    requires { IsKnownQuiet quiet (replay run.now) }
-    ensures { result ≡ duty_named (settle_answer (replay run.now)) }
-{
-    run.settled(quiet).duty()
-}
-
 // Takes the duty that the settle test names.
 fn take_named(run: &mut Run, named: Duty) -> Result<(), Unanswered>
     requires { duty_named (settle_answer (replay run.old)) ≡ Some named }
@@ -144,16 +135,19 @@ fn take_named(run: &mut Run, named: Duty) -> Result<(), Unanswered>
     run.take(0, named)
 }
 
-// Takes the duties that the settle test names, one after the other, until it names none or so many are taken.
-fn take_duties(run: &mut Run, budget: u64) -> Result<(), Ending>
+// Takes the duties that the settle test names, one after the other, until it names none or so many are taken. Gives the
+// last answer of the settle test, where that named none: a look goes over the whole world, so who asks next is told.
+fn take_duties(run: &mut Run, budget: u64) -> Result<Option<Settle>, Ending>
     ensures ok { OnOk result (run.new ≡ run.old ++ settle_entries budget (replay run.old)) }
+    ensures seen { IfOk result (λ seen. IsSeen seen (replay run.new)) }
     ensures err { IfErr result (λ ending. StopsIn ending (settle_entries budget (replay run.old)) run.old run.new) }
 {
     let mut quiet = Quiet::nowhere();
     for _ in 0..budget {
-        let named = match next_duty(run, quiet) {
+        let answer = run.settled(quiet);
+        let named = match answer.duty() {
             Some(named) => named,
-            None => return Ok(()),
+            None => return Ok(Some(answer)),
         };
         quiet = run.quiet_after(named);
         match take_named(run, named) {
@@ -162,7 +156,43 @@ fn take_duties(run: &mut Run, budget: u64) -> Result<(), Ending>
             Err(Unanswered::NoMemory) => return Err(Ending::NoMemory),
         }
     }
-    Ok(())
+    Ok(None)
+}
+
+// The answer of the settle test, which looks only where it wasn't seen since the last entry.
+fn answer_at(run: &Run, seen: Option<Settle>) -> Settle
+    requires { IsSeen seen (replay run.now) }
+    ensures { result ≡ settle_answer (replay run.now) }
+{
+    match seen {
+        Some(answer) => answer,
+        None => run.settled(Quiet::nowhere()),
+    }
+}
+
+// Makes the call of a settle line and puts the text of its reply. Says whether it was refused, or how the run ends.
+fn answer_settled<O: Sink>(
+    alloc: Global,
+    run: &mut Run,
+    out: &mut O,
+    budget: u64,
+    seen: Option<Settle>,
+) -> Result<bool, Ending>
+    requires seen { IsSeen seen (replay run.old) }
+    requires text { call_has_text (Call.Settle budget) ≡ true }
+    requires short { call_is_short (Call.Settle budget) ≡ true }
+    ensures line { DoesLine result (Line.Call (Call.Settle budget)) run.old run.new (O.written out.old)
+        (O.written out.new) }
+    ensures later { O.faults out.old ≤ O.faults out.new }
+    ensures cause { result ≡ Err Ending.OutFault → Rose (O.faults out.old) (O.faults out.new) }
+    ensures kept { OnOk result (O.faults out.new ≡ O.faults out.old) }
+    ensures risen { O.faults out.old < O.faults out.new → result ≡ Err Ending.OutFault }
+{
+    let answer = answer_at(run, seen);
+    let answered = run.call_settled(0, budget, answer);
+    let put = put_answer(alloc, out, &answered);
+    drop(answered);
+    put
 }
 
 // Does a settle line: the duties, and then the call that asks.
@@ -176,7 +206,7 @@ fn settle<O: Sink>(alloc: Global, run: &mut Run, out: &mut O, budget: u64) -> Re
     ensures risen { O.faults out.old < O.faults out.new → result ≡ Err Ending.OutFault }
 {
     match take_duties(run, budget) {
-        Ok(()) => answer(alloc, run, out, Call::Settle(budget)),
+        Ok(seen) => answer_settled(alloc, run, out, budget, seen),
         Err(ending) => Err(ending),
     }
 }
@@ -192,21 +222,23 @@ fn time_till(now: Ms, answer: Settle, most: Ms) -> Ms
 }
 
 // The next tick of a wait line of which so much is left.
-fn next_tick(run: &Run, left: Ms) -> Ms
+fn next_tick(run: &Run, left: Ms, seen: Option<Settle>) -> Ms
+    requires { IsSeen seen (replay run.now) }
     ensures { result ≡ next_tick (replay run.now) left }
 {
-    let answer = run.settled(Quiet::nowhere());
+    let answer = answer_at(run, seen);
     time_till(run.now(), answer, LONGEST_TICK.min(left))
 }
 
 // Lets the time go by the next tick.
-fn tick(run: &mut Run, left: Ms) -> Result<(), Ending>
-    requires { 0 < left }
+fn tick(run: &mut Run, left: Ms, seen: Option<Settle>) -> Result<(), Ending>
+    requires some { 0 < left }
+    requires seen { IsSeen seen (replay run.old) }
     ensures ok { OnOk result (run.new ≡ run.old ++ own_call (Call.Tick (next_tick (replay run.old) left)) ∷ []) }
     ensures err { let entry = own_call (Call.Tick (next_tick (replay run.old) left)) in
         IfErr result (λ ending. StopsIn ending (entry ∷ []) run.old run.new) }
 {
-    let ms = next_tick(run, left);
+    let ms = next_tick(run, left, seen);
     match run.call(0, Call::Tick(ms)) {
         Ok(_) => Ok(()),
         Err(Unanswered::Full) => Err(Ending::Full),
@@ -222,7 +254,7 @@ fn stride(run: &mut Run, left: Ms) -> Result<(), Ending>
     ensures err { IfErr result (λ ending. StopsIn ending (next_stride (replay run.old) left) run.old run.new) }
 {
     match take_duties(run, FULL_STRETCH) {
-        Ok(()) => tick(run, left),
+        Ok(seen) => tick(run, left, seen),
         Err(ending) => Err(ending),
     }
 }
@@ -243,7 +275,10 @@ fn wait(run: &mut Run, ms: Ms) -> Result<(), Ending>
         }
         left -= run.now() - before;
     }
-    take_duties(run, FULL_STRETCH)
+    match take_duties(run, FULL_STRETCH) {
+        Ok(_) => Ok(()),
+        Err(ending) => Err(ending),
+    }
 }
 
 // Does what a line says. Says whether a call of it was refused, or how the run ends.
@@ -319,7 +354,7 @@ fn put_bad_line<O: Sink>(alloc: Global, out: &mut O, number: u64, fault: Fault) 
     ensures tells { TellsEnding (Ending.BadLine number fault) result (stream O.written O.faults out.old out.new) }
     ensures later { O.faults out.old ≤ O.faults out.new }
 {
-    let Ok(text) = bad_line(alloc, number, fault) else {
+    let Ok(text) = bad_line(alloc, number, &fault) else {
         return Ending::NoMemoryAt(number, fault);
     };
     // the status stands, also where this can't be put

@@ -1,33 +1,13 @@
 -- What a reader of a journal's lines holds of its source, and what one of its steps does.
-use Rattle.std.specs.Prelude.{ℕ, List, Bool, Option, ◌≡◌, ◌+◌, ◌++◌, [], true, false, ◌⊎◌, Some, None, ⊤, ◌∷◌, ◌≤◌, ◌<◌, take, drop, length, Result, Ok, Err, not, ◌||◌}
-use Rattle.std.specs.Io.KnownBytes.{prepend_known, Consumes, IsAtEnd}
+use Rattle.std.specs.Prelude.{ℕ, List, Option, ◌≡◌, [], true, false, ◌⊎◌, Some, None, ⊤, ◌∷◌, ◌≤◌, ◌<◌, length, Result, Ok, Err, not}
+use Rattle.std.specs.Io.KnownBytes.{prepend_known, IsAtEnd}
 use Rattle.swarm_input.specs.Lines.{bytes_of, lines_of}
-use Rattle.swarm_input.specs.LineBuffer.{has_newline_in, IsNothingLeft, ReadsLine}
+use Rattle.swarm_input.specs.Held.{HeldBytes, IsNewlineAt, TakesMore, has_newline_in, unread}
+use Rattle.swarm_input.specs.LineBuffer.{IsNothingLeft, ReadsLine}
 use Rattle.swarm_objects.specs.Limits.{longest_entry}
 use Rattle.swarm_replay.specs.declared.entry_lines.Stop.{Stop}
 use Rattle.swarm_replay.specs.declared.entry_lines.Stop.TheVariants.{Failed, Long, NoMemory}
 use Rattle.swarm_input.specs.declared.input.ScriptLine.{ScriptLine}
-
-pub record JournalBuffer : Type 0 where
-  -- taken from the source, and no line's yet
-  pub bytes : List ℕ
-  -- a line without newline was given, which is the last
-  pub finished : Bool
-
--- a line that isn't whole yet, and a piece of the source
-abbrev pub most_held : ℕ
-most_held = 12320
-
--- what is still to be read, where the source tells what it has left
-abbrev pub unread : JournalBuffer → Option (List ℕ) → Option (List ℕ)
-unread held left = prepend_known held.bytes left
-
--- bytes were taken, and all of them are held
-pub record TakesMore (old new : JournalBuffer) (left left_after : Option (List ℕ)) : Type 0 where
-  pub taken : List ℕ
-  pub source : Consumes left left_after taken
-  pub bytes : new.bytes ≡ old.bytes ++ taken
-  pub finished : new.finished ≡ old.finished
 
 -- the next line has more bytes than a line may have
 pub record IsLongNext (old : List ℕ) : Type 0 where
@@ -40,11 +20,9 @@ abbrev pub BeginsTooLong : Option (List ℕ) → Type 0
 BeginsTooLong None = ⊤
 BeginsTooLong (Some old) = IsLongNext old
 
--- the next line's newline stands at this place of the held bytes
+-- the next line's newline stands at this place of the held bytes, and the line isn't too long
 pub record EndsAt (bytes : List ℕ) (at : ℕ) : Type 0 where
-  pub inside : at < length bytes
-  pub newline : bytes ≡ take at bytes ++ 10 ∷ drop (at + 1) bytes
-  pub one : has_newline_in (take at bytes) ≡ false
+  pub ends : IsNewlineAt bytes at
   pub short : at < longest_entry
 
 -- what is held is the beginning of a line that isn't too long so far
@@ -61,12 +39,12 @@ SeesLine bytes (Err Failed) = ⊥
 SeesLine bytes (Err NoMemory) = ⊥
 
 -- the next line's newline is at hand, or the source is at its end and the last line has none
-abbrev pub FindsEnd : JournalBuffer → Option (List ℕ) → Option ℕ → Type 0
+abbrev pub FindsEnd : HeldBytes → Option (List ℕ) → Option ℕ → Type 0
 FindsEnd held left (Some at) = EndsAt held.bytes at
 FindsEnd held left None = IsBegun held.bytes × IsAtEnd left
 
 -- a stop says this, where that is to be read and this is held now
-abbrev pub MeansStop : Stop → Option (List ℕ) → JournalBuffer → Type 0
+abbrev pub MeansStop : Stop → Option (List ℕ) → HeldBytes → Type 0
 MeansStop Long old new = BeginsTooLong old
 MeansStop Failed old new = (has_newline_in new.bytes ≡ false) × (new.finished ≡ false)
 MeansStop NoMemory old new = ⊤
@@ -78,7 +56,7 @@ IsOfSource Failed = ⊤
 IsOfSource NoMemory = ⊤
 
 -- the bytes of a line were given
-pub record GivesBytes (old new : JournalBuffer) (left left_after : Option (List ℕ)) (bytes : List ℕ) : Type 0 where
+pub record GivesBytes (old new : HeldBytes) (left left_after : Option (List ℕ)) (bytes : List ℕ) : Type 0 where
   pub line : ScriptLine
   pub bytes_is : bytes ≡ bytes_of line
   pub reads : ReadsLine (unread old left) (unread new left_after) line
@@ -88,28 +66,11 @@ pub record GivesBytes (old new : JournalBuffer) (left left_after : Option (List 
   pub some : 0 < length bytes
 
 -- the next line was given, or there is none
-abbrev pub GivesNext : JournalBuffer → JournalBuffer → Option (List ℕ) → Option (List ℕ) → Option (List ℕ) → Type 0
+abbrev pub GivesNext : HeldBytes → HeldBytes → Option (List ℕ) → Option (List ℕ) → Option (List ℕ) → Type 0
 GivesNext old new left left_after (Some bytes) = GivesBytes old new left left_after bytes
 GivesNext old new left left_after None =
     TakesMore old new left left_after × (old.finished ≡ false → IsNothingLeft (unread old left))
 
 -- the last line was given, or nothing is held at the end of the source
-abbrev pub HasNoMore : JournalBuffer → JournalBuffer → Option (List ℕ) → Type 0
+abbrev pub HasNoMore : HeldBytes → HeldBytes → Option (List ℕ) → Type 0
 HasNoMore old new left_after = (old.finished ≡ true) ⊎ ((new.bytes ≡ []) × IsAtEnd left_after)
-
--- a line's bytes are the first of the held ones
-pub record CutsBytes (old new : JournalBuffer) (bytes : List ℕ) : Type 0 where
-  pub line : ScriptLine
-  pub bytes_is : bytes ≡ bytes_of line
-  pub held : old.bytes ≡ bytes_of line ++ new.bytes
-  pub one : has_newline_in line.text ≡ false
-  pub last : line.newline ≡ false → new.bytes ≡ []
-  pub finished : new.finished ≡ (old.finished || not line.newline)
-  pub short : length bytes ≤ longest_entry
-  pub some : 0 < length bytes
-
--- a line was cut off at its newline, or the last line where there is none, or there is no line
-abbrev pub CutsNext : JournalBuffer → JournalBuffer → Option ℕ → Option (List ℕ) → Type 0
-CutsNext old new place None = (new ≡ old) × (old.bytes ≡ []) × (place ≡ None)
-CutsNext old new place (Some bytes) =
-    (cuts : CutsBytes old new bytes) × (cuts.line.newline ≡ false → place ≡ None)

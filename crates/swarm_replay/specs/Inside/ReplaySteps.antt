@@ -13,12 +13,12 @@ use Rattle.swarm_duties.specs.declared.steps.StepFault.TheVariants as step_fault
 use Rattle.script_grammar.specs.Entries.{entry_meaning}
 use Rattle.script_grammar.specs.HasText.{has_text}
 use Rattle.script_grammar.specs.Texts.{entry_text}
+use Rattle.swarm_input.specs.Held.{HeldBytes, TakesMore, has_newline_in}
 use Rattle.swarm_replay.specs.Journal.{is_head, journal_reading, journal_text}
-use Rattle.swarm_input.specs.Lines.{lines_of, IsWhole}
+use Rattle.swarm_input.specs.Lines.{line_ends, lines_of, IsWhole}
 use Rattle.swarm_replay.specs.Replay.{IsVerdictOf, Judges, TakesAtMostAJournal, verdict_status}
-use Rattle.swarm_input.specs.Streams.{Stream, HasFailed, HasRisen, Puts, PutsPrefix}
-use Rattle.swarm_replay.specs.Inside.JournalBuffer.{GivesBytes, HasNoMore, JournalBuffer, TakesMore}
-use Rattle.swarm_input.specs.LineBuffer.{has_newline_in}
+use Rattle.swarm_input.specs.Streams.{Stream, HasFailed, HasRisen, Puts, PutsPrefix, TakesLines}
+use Rattle.swarm_replay.specs.Inside.JournalBuffer.{GivesBytes, HasNoMore}
 use Rattle.swarm_replay.specs.declared.entry_lines.Stop.{Stop}
 use Rattle.swarm_replay.specs.declared.entry_lines.Stop.TheVariants.{Failed, Long, NoMemory as NoRoom}
 use Rattle.swarm_input.specs.declared.input.ScriptLine.{ScriptLine}
@@ -44,7 +44,7 @@ HasNoHead None = ⊤
 HasNoHead (Some bytes) = (bytes ≡ []) ⊎ BeginsOtherwise bytes
 
 -- how the reading ends at the head, where nothing was held
-abbrev pub EndsAtHead : Verdict → Option (List ℕ) → Option (List ℕ) → JournalBuffer → Type 0
+abbrev pub EndsAtHead : Verdict → Option (List ℕ) → Option (List ℕ) → HeldBytes → Type 0
 EndsAtHead (BadLine number Head) left left_after new = (number ≡ 1) × HasNoHead left
 EndsAtHead (BadLine number Size) left left_after new = ⊥
 EndsAtHead (BadLine number (Text fault)) left left_after new = ⊥
@@ -53,12 +53,12 @@ EndsAtHead NoMemory left left_after new = ⊤
 EndsAtHead (Legal count) left left_after new = ⊥
 EndsAtHead (Illegal number) left left_after new = ⊥
 
--- as many bytes as a line and what is read ahead
+-- at most one line, and what is read ahead
 abbrev pub TakesAHead : Option (List ℕ) → Option (List ℕ) → Type 0
-TakesAHead left left_after = (taken : List ℕ) × Consumes left left_after taken × (length taken ≤ 20544)
+TakesAHead left left_after = TakesLines left left_after 1 longest_entry
 
 -- the head line was read, or how the reading ends there
-abbrev pub ReadsHead : Result (Unit {0}) Verdict → JournalBuffer → JournalBuffer → Option (List ℕ)
+abbrev pub ReadsHead : Result (Unit {0}) Verdict → HeldBytes → HeldBytes → Option (List ℕ)
     → Option (List ℕ) → Type 0
 ReadsHead (Ok done) old new left left_after = GivesBytes old new left left_after (codes "swarm journal 1\n")
 ReadsHead (Err verdict) old new left left_after = EndsAtHead verdict left left_after new × TakesAHead left left_after
@@ -123,7 +123,7 @@ stopped number Long = BadLine number (Text fault.Long)
 stopped number NoRoom = NoMemory
 
 -- how the reading ends after as many entries as there can be
-abbrev pub EndsFull : ℕ → Verdict → JournalBuffer → JournalBuffer → Option (List ℕ) → Option (List ℕ) → Type 0
+abbrev pub EndsFull : ℕ → Verdict → HeldBytes → HeldBytes → Option (List ℕ) → Option (List ℕ) → Type 0
 EndsFull count (BadLine number Size) old new left left_after =
     (number ≡ count + 2) × TakesMore old new left left_after × (0 < length new.bytes)
 EndsFull count (Legal number) old new left left_after =
@@ -138,22 +138,23 @@ EndsFull count (Illegal number) old new left left_after = ⊥
 -- How far a journal is read.
 
 -- its first lines are read, which are in the grammar, and these are their entries
-pub record ReachesEntries (input : List ℕ) (history : List Entry) (held : JournalBuffer) (left : List ℕ) : Type 0 where
+pub record ReachesEntries (input : List ℕ) (history : List Entry) (held : HeldBytes) (left : List ℕ) : Type 0 where
   pub read : List ℕ
   pub bytes : input ≡ read ++ (held.bytes ++ left)
   pub reading_is : journal_reading read ≡ record { entries = history; bad = None }
   pub text : read ≡ journal_text history
   pub few : length read ≤ (length history + 1) * longest_entry
+  pub ends : line_ends read ≤ length history + 1
   pub unfinished : held.finished ≡ false → IsWhole read
   pub finished : held.finished ≡ true → held.bytes ++ left ≡ []
 
-abbrev pub ReachesBy : Option (List ℕ) → List Entry → JournalBuffer → Option (List ℕ) → Type 0
+abbrev pub ReachesBy : Option (List ℕ) → List Entry → HeldBytes → Option (List ℕ) → Type 0
 ReachesBy None history held left = ⊤
 ReachesBy (Some input) history held None = ⊥
 ReachesBy (Some input) history held (Some left) = ReachesEntries input history held left
 
 -- so many entries are done, which are legal and make this world
-pub record IsReplaying (input : Option (List ℕ)) (w : World) (count : ℕ) (held : JournalBuffer)
+pub record IsReplaying (input : Option (List ℕ)) (w : World) (count : ℕ) (held : HeldBytes)
     (left : Option (List ℕ)) : Type 0 where
   pub history : List Entry
   pub legal : IsLegal history
@@ -171,7 +172,7 @@ pub record IsJudged (verdict : Verdict) (input : Stream) : Type 0 where
   pub texts : list_all has_text history ≡ true
   pub judges : Judges verdict history
   pub lines : IsVerdictOf verdict input.before input.after history
-  pub takes : TakesAtMostAJournal input
+  pub takes : TakesAtMostAJournal verdict history input
   pub cause : verdict ≡ ReadFault → HasFailed input
   pub risen : HasRisen input → verdict ≡ ReadFault
 

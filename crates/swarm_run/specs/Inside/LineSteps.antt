@@ -1,5 +1,5 @@
 -- What a line of a script does, step by step.
-use Rattle.std.specs.Prelude.{List, Bool, ◌≡◌, ◌+◌, ◌++◌, ℕ, take, ◌<◌, ◌≤◌, length, Option, Result, Ok, Err, ⊤}
+use Rattle.std.specs.Prelude.{List, Bool, ◌≡◌, ◌+◌, ◌++◌, ℕ, take, ◌<◌, ◌≤◌, length, Option, Some, None, Result, Ok, Err, ⊤}
 use Rattle.std.specs.List.{list_any}
 use Rattle.swarm_objects.specs.declared.calls.Entry.{Entry}
 use Rattle.swarm_objects.specs.declared.replies.Reply.{Reply}
@@ -8,6 +8,9 @@ use Rattle.script_grammar.specs.declared.lines.Line.{Line}
 use Rattle.swarm_run.specs.Serial.{is_refused, line_entries, line_out, line_replies}
 use Rattle.swarm_model.specs.History.{replay}
 use Rattle.swarm_model.specs.Serial.{settle_entries, wait_entries}
+use Rattle.swarm_model.specs.Settle.{settle_answer}
+use Rattle.swarm_objects.specs.World.{World}
+use Rattle.swarm_objects.specs.declared.duties.Settle.{Settle}
 use Rattle.std.specs.Io.KnownBytes.{Appends}
 use Rattle.swarm_objects.specs.Limits.{most_entries}
 use Rattle.swarm_objects.specs.Outside.{AppendsPrefix}
@@ -88,6 +91,11 @@ pub record Settling (budget left : ℕ) (old now : List Entry) : Type 0 where
   pub taken : List Entry
   pub history : now ≡ old ++ taken
   pub whole : settle_entries budget (replay old) ≡ taken ++ settle_entries left (replay now)
+
+-- the answer that was seen is the settle test's, where one was seen since the last entry
+abbrev pub IsSeen : Option Settle → World → Type 0
+IsSeen None w = ⊤
+IsSeen (Some answer) w = answer ≡ settle_answer w
 
 -- A wait line.
 

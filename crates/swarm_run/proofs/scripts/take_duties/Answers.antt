@@ -1,4 +1,4 @@
-use Rattle.std.proofs.Common.{◌≡◌, ◌∙◌, ◌-◌, length, sym, subst, Some}
+use Rattle.std.proofs.Common.{◌≡◌, ◌∙◌, ◌-◌, ap, length, sym, subst, Some}
 use Rattle.swarm_objects.specs.Limits.{most_entries}
 use Rattle.swarm_model.specs.Settle.{settle_answer}
 use Rattle.swarm_objects.specs.Kinds.{duty_named}
@@ -13,12 +13,13 @@ use Rattle.swarm_run.proofs.scripts.take_duties.Goals as goal
 
 pub returns-in-None-clause-ok : goal.returns-in-None-clause-ok
 returns-in-None-clause-ok c =
-    settling_settled c.args.budget (c.args.budget - c.loop.counter) c.args.run.now c.loop.run c.loop.invariant.settling (sym c.next_duty.ensures ∙ c.in-None.is)
+    settling_settled c.args.budget (c.args.budget - c.loop.counter) c.args.run.now c.loop.run c.loop.invariant.settling
+    (ap duty_named (sym c.settled-answer.ensures) ∙ sym c.duty.ensures ∙ c.in-None.is)
 
 pub returns-in-Err-Full-clause-err : goal.returns-in-Err-Full-clause-err
 returns-in-Err-Full-clause-err c =
     let next = settling_next c.args.budget c.loop.counter c.args.run.now c.loop.run c.loop-test.true c.loop.invariant.settling in
-    let busy : duty_named (settle_answer (replay c.loop.run)) ≡ Some c.in-Some.named = sym c.next_duty.ensures ∙ c.in-Some.is in
+    let busy : duty_named (settle_answer (replay c.loop.run)) ≡ Some c.in-Some.named = ap duty_named (sym c.settled-answer.ensures) ∙ sym c.duty.ensures ∙ c.in-Some.is in
     let nothing : (c.take_named.new.run ≡ c.loop.run) × (length c.loop.run ≡ most_entries) = rw c.in-Err-Full.field-0-is at c.in-Err-Full.ensures.err in
     subst (StopsIn Full (settle_entries c.args.budget (replay c.args.run.now)) c.args.run.now) (sym nothing.0) (settling_full c.args.budget _ c.args.run.now c.loop.run c.in-Some.named next busy nothing.1)
 
@@ -30,7 +31,7 @@ returns-in-Err-NoMemory-clause-err c =
 pub loop-preserved : goal.loop-preserved
 loop-preserved c =
     let next = settling_next c.args.budget c.loop.counter c.args.run.now c.loop.run c.loop-test.true c.loop.invariant.settling in
-    let busy : duty_named (settle_answer (replay c.loop.run)) ≡ Some c.in-Some.named = sym c.next_duty.ensures ∙ c.in-Some.is in
+    let busy : duty_named (settle_answer (replay c.loop.run)) ≡ Some c.in-Some.named = ap duty_named (sym c.settled-answer.ensures) ∙ sym c.duty.ensures ∙ c.in-Some.is in
     record {
       settling = settling_more c.args.budget _ c.args.run.now c.loop.run c.take_named.new.run c.in-Some.named next busy c.in-Ok.ensures.ok;
       quiet = quiet_next c.quiet_after-quiet.result c.loop.run c.take_named.new.run c.in-Some.named c.in-Ok.ensures.ok c.quiet_after-quiet.ensures;
@@ -43,4 +44,4 @@ loop-init c = record {
 }
 
 pub quiet_after-quiet-requires : goal.quiet_after-quiet-requires
-quiet_after-quiet-requires c = sym c.next_duty.ensures ∙ c.in-Some.is
+quiet_after-quiet-requires c = ap duty_named (sym c.settled-answer.ensures) ∙ sym c.duty.ensures ∙ c.in-Some.is

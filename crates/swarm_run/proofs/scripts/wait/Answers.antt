@@ -1,5 +1,5 @@
 use Rattle.std.proofs.Common.{arith}
-use Rattle.swarm_run.proofs.Waits.{wait_err, wait_ok, waiting_on, waiting_start, waiting_stops}
+use Rattle.swarm_run.proofs.Waits.{waiting_end, waiting_end_stops, waiting_on, waiting_start, waiting_stops}
 use Rattle.swarm_run.proofs.scripts.wait.Goals as goal
 
 pub loop-left-init : goal.loop-left-init
@@ -16,12 +16,12 @@ loop-left-preserved c =
     c.loop-left.invariant (omega (arith, c.loop-left-test.true)) c.in-Ok.ensures.ok c.in-Ok.ensures.passes
     c.now-before.ensures c.now.ensures
 
-pub returns-clause-ok : goal.returns-clause-ok
-returns-clause-ok c =
-    wait_ok c.take_duties.result c.args.ms c.loop-left.left c.args.run.now c.loop-left.run c.take_duties.new.run
-    c.loop-left.invariant (omega (arith, c.loop-left-test.false)) c.take_duties.ensures.ok
+pub returns-in-Ok-take_duties-clause-ok : goal.returns-in-Ok-take_duties-clause-ok
+returns-in-Ok-take_duties-clause-ok c =
+    waiting_end c.args.ms c.loop-left.left c.args.run.now c.loop-left.run c.take_duties.new.run
+    c.loop-left.invariant (omega (arith, c.loop-left-test.false)) c.in-Ok-take_duties.ensures.ok
 
-pub returns-clause-err : goal.returns-clause-err
-returns-clause-err c =
-    wait_err c.take_duties.result c.args.ms c.loop-left.left c.args.run.now c.loop-left.run _ c.loop-left.invariant
-    (omega (arith, c.loop-left-test.false)) c.take_duties.ensures.err
+pub returns-in-Err-take_duties-clause-err : goal.returns-in-Err-take_duties-clause-err
+returns-in-Err-take_duties-clause-err c =
+    waiting_end_stops c.in-Err-take_duties.ending c.args.ms c.loop-left.left c.args.run.now c.loop-left.run c.take_duties.new.run
+    c.loop-left.invariant (omega (arith, c.loop-left-test.false)) c.in-Err-take_duties.ensures.err

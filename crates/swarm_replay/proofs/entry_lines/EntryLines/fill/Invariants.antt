@@ -1,5 +1,5 @@
 use Rattle.std.proofs.Common.{◌≡◌, ◌-◌, length}
-use Rattle.swarm_replay.specs.Inside.JournalBuffer.{TakesMore}
+use Rattle.swarm_input.specs.Held.{TakesMore}
 use Rattle.swarm_replay.proofs.entry_lines.EntryLines.fill.Given as goal
 
 abbrev pub invariant-loop-seen : goal.invariant-loop-seen
