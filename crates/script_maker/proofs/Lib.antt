@@ -1,0 +1,3 @@
+mod Drawing
+mod Examples
+pub mod Reading
