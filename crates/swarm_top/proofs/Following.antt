@@ -5,19 +5,21 @@ use Rattle.std.proofs.lemmas.List.{append-nil, take_all}
 use Rattle.std.proofs.lemmas.List.Folds.{list_all-append}
 use Rattle.swarm_model.proofs.Base.Histories.{replay-append}
 use Rattle.swarm_model.proofs.Following.Alone.{both, of_callers}
-use Rattle.swarm_model.proofs.Following.Lines.{halt_alone, halt_begins, halt_ends, line_follows, part_and_halt, part_begins, part_ends, run_follows, run_from, world_after}
+use Rattle.swarm_model.proofs.Following.Lines.{FollowsLines, halt_alone, halt_begins, halt_ends, line_follows, lines_after, lines_run, part_and_halt, part_begins, part_follows, run_follows, run_from, run_undone, world_after}
 use Rattle.swarm_model.proofs.Following.Own.{replies_own}
-use Rattle.swarm_model.specs.Follows.{FollowsPart}
+use Rattle.swarm_model.specs.Follows.{FollowsFrom, FollowsPart}
 use Rattle.swarm_model.specs.History.{replay, replay_from, replies}
 use Rattle.swarm_model.specs.Own.{own_replies, own_replies_from}
 use Rattle.swarm_model.specs.Script.{Asked, own_call}
+use Rattle.swarm_model.specs.Serial.{asked_entries, entries_from as asked_from}
+use Rattle.swarm_model.specs.Undone.{FollowsUndone, IsUndoneFrom}
 use Rattle.swarm_objects.specs.World.{World, empty_world}
 use Rattle.swarm_objects.specs.declared.calls.Call.TheVariants.{Halt}
 use Rattle.swarm_objects.specs.declared.calls.Entry.{Entry}
 use Rattle.swarm_objects.specs.declared.replies.Reply.{Reply}
 use Rattle.swarm_script.specs.Line.{Line}
 use Rattle.swarm_run.proofs.Readings.{entries-snoc}
-use Rattle.swarm_top.specs.Callers.{FollowsAllLines, FollowsFirstLines, FollowsScript, FollowsToLast, PutsOf, PutsOwnReplies, PutsOwnUpToLast, next_asked, texts_of}
+use Rattle.swarm_top.specs.Callers.{FollowsAllLines, FollowsFirstLines, FollowsFullHistory, FollowsScript, FollowsToLast, PutsOf, PutsOwnReplies, PutsOwnUpToLast, next_asked, texts_of}
 use Rattle.swarm_input.specs.Script.{Reading, reading}
 use Rattle.swarm_run.specs.Serial.{asked, entries, entries_from, is_by_first, line_entries, output_text, serial}
 use Rattle.swarm_input.specs.Streams.{Stream, PutsThenPrefix}
@@ -31,58 +33,76 @@ AreFirsts h = list_all is_by_first h ≡ true
 
 -- The entries of lines.
 
-lines_run : (w : World) (lines : List Line) (end : World → List Entry) →
-    entries_from w lines ++ end (replay_from w (entries_from w lines)) ≡ run_from w (map asked lines) end
-lines_run w [] end = refl
-lines_run w (line ∷ lines) end =
-    let es = line_entries w line in
-    let v = replay_from w es in
-    append_assoc es (entries_from v lines) (end (replay_from w (es ++ entries_from v lines)))
-    ∙ ap (λ (u : World). es ++ (entries_from v lines ++ end u)) (replay-append w es (entries_from v lines))
-    ∙ ap (λ (l : List Entry). es ++ l) (lines_run v lines end)
-
-lines_after : (w : World) (lines : List Line) → replay_from w (entries_from w lines) ≡ world_after w (map asked lines)
-lines_after w [] = refl
-lines_after w (line ∷ lines) =
-    let es = line_entries w line in
-    let v = replay_from w es in
-    replay-append w es (entries_from v lines) ∙ lines_after v lines
+entries_asked : (w : World) (lines : List Line) → entries_from w lines ≡ asked_from w (map asked lines)
+entries_asked w [] = refl
+entries_asked w (line ∷ lines) =
+    ap (λ (l : List Entry). line_entries w line ++ l) (entries_asked (replay_from w (line_entries w line)) lines)
 
 -- all of some lines, and nothing of the next one
 follows_lines : (workers : ℕ) (lines : List Line) (next : Option Asked) (h : List Entry) → AreFirsts h →
     h ≡ serial lines → FollowsPart h (map asked lines) next workers
 follows_lines workers lines next h firsts is =
     let said = map asked lines in
-    let made = run_follows said next halt_alone empty_world halt_begins
-    (halt_ends (world_after empty_world said) next) in
-    subst (λ (l : List Entry). FollowsPart l said next workers) (sym (is ∙ lines_run empty_world lines halt_alone))
-    (record {
-      callers = of_callers workers (run_from empty_world said halt_alone)
-          (ap (list_all is_by_first) (sym (is ∙ lines_run empty_world lines halt_alone)) ∙ firsts);
-      lines_are = made.are;
-    })
+    let made = run_follows said next halt_alone empty_world halt_begins (halt_ends (world_after empty_world said) next) in
+    record {
+      callers = of_callers workers h firsts;
+      lines_are = subst (FollowsFrom empty_world said next)
+          (sym (is ∙ ap (λ (l : List Entry). l ++ own_call Halt ∷ []) (entries_asked empty_world lines)
+          ∙ lines_run empty_world said halt_alone)) made.are;
+    }
+
+-- less than all of the next line
+record Stopped (w : World) (lines : List Asked) (line : Asked) (start h : List Entry) : Type 0 where
+  pub are : FollowsFrom w lines (Some line) h
+  pub undone : IsUndoneFrom start w lines (Some line) h are
+
+stopped : (w : World) (lines : List Asked) (line : Asked) (n : ℕ) (start : List Entry) →
+    n < length (asked_entries (world_after w lines) line) →
+    replay start ≡ replay_from (world_after w lines) (take n (asked_entries (world_after w lines) line)) →
+    Stopped w lines line start (run_from w lines (part_and_halt line n))
+stopped w lines line n start inside same =
+    let part = part_follows (world_after w lines) line n inside in
+    let begins = part_begins line n in
+    let ends : FollowsLines (world_after w lines) [] (Some line) (part_and_halt line n (world_after w lines)) = record {
+      are = record {
+        part = take n (asked_entries (world_after w lines) line);
+        entries = refl;
+        part_is = part.follows.is;
+      };
+      alone = part.follows.alone;
+    } in
+    record {
+      are = (run_follows lines (Some line) (part_and_halt line n) w begins ends).are;
+      undone = run_undone start lines (Some line) (part_and_halt line n) w begins ends (part.undone start same);
+    }
 
 -- all of some lines, and less than all of the next one
 follows_part : (workers : ℕ) (lines : List Line) (line : Line) (n : ℕ) (h : List Entry) → AreFirsts h →
     n < length (line_entries (replay (entries lines)) line) →
     h ≡ (entries lines ++ take n (line_entries (replay (entries lines)) line)) ++ own_call Halt ∷ [] →
-    FollowsPart h (map asked lines) (Some (asked line)) workers
+    FollowsUndone h (map asked lines) (Some (asked line)) workers
 follows_part workers lines line n h firsts inside is =
     let said = map asked lines in
-    let end = part_and_halt (asked line) n in
-    let after = lines_after empty_world lines in
-    let ends = part_ends (world_after empty_world said) (asked line) n
-    (subst (λ (w : World). n < length (line_entries w line)) after inside) in
-    let made = run_follows said (Some (asked line)) end empty_world (part_begins (asked line) n) ends in
-    let same : h ≡ run_from empty_world said end =
+    let es = line_entries (replay (entries lines)) line in
+    let start = entries lines ++ take n es in
+    let world : replay (entries lines) ≡ world_after empty_world said =
+    ap replay (entries_asked empty_world lines) ∙ lines_after empty_world said in
+    let whole : h ≡ run_from empty_world said (part_and_halt (asked line) n) =
     is
-    ∙ append_assoc (entries lines) (take n (line_entries (replay (entries lines)) line)) (own_call Halt ∷ [])
-    ∙ lines_run empty_world lines end in
-    subst (λ (l : List Entry). FollowsPart l said (Some (asked line)) workers) (sym same)
-    (record {
-      callers = of_callers workers (run_from empty_world said end) (ap (list_all is_by_first) (sym same) ∙ firsts);
-      lines_are = made.are;
-    })
+    ∙ append_assoc (entries lines) (take n es) (own_call Halt ∷ [])
+    ∙ ap (λ (l : List Entry). l ++ part_and_halt (asked line) n (replay l)) (entries_asked empty_world lines)
+    ∙ lines_run empty_world said (part_and_halt (asked line) n) in
+    let s = subst (Stopped empty_world said (asked line) start) (sym whole)
+    (stopped empty_world said (asked line) n start
+    (subst (λ (w : World). n < length (line_entries w line)) world inside)
+    (replay-append empty_world (entries lines) (take n es)
+    ∙ ap (λ (w : World). replay_from w (take n (line_entries w line))) world)) in
+    record {
+      follows = record { callers = of_callers workers h firsts; lines_are = s.are };
+      start = start;
+      ends = is;
+      undone = s.undone;
+    }
 
 less_or_all : (n m : ℕ) → (n < m) ⊎ (m ≤ n)
 less_or_all zero zero = inr (omega arith)
@@ -105,7 +125,7 @@ follows_begun workers script done line left n h firsts lines is (inl inside) = r
   done = done;
   left = line ∷ left;
   lines = lines;
-  follows = follows_part workers done line n h firsts inside is;
+  follows = (follows_part workers done line n h firsts inside is).follows;
 }
 follows_begun workers script done line left n h firsts lines is (inr whole) =
     let es = line_entries (replay (entries done)) line in
@@ -140,10 +160,11 @@ follows_all : (workers : ℕ) (script : Reading) (h : List Entry) → AreFirsts 
 follows_all workers script h firsts is = (is.0, follows_lines workers script.said None h firsts is.1)
 
 follows_full : (workers : ℕ) (script : Reading) (h : List Entry) → AreFirsts h → IsOfFullHistory script h →
-    FollowsFirstLines workers script h
+    FollowsFullHistory workers script h
 follows_full workers script h firsts full = record {
   done = full.done;
-  left = full.next ∷ full.left;
+  next = full.next;
+  left = full.left;
   lines = full.lines;
   follows = follows_part workers full.done full.next full.part h firsts full.more full.history_is;
 }
@@ -202,7 +223,7 @@ puts_up_to_last out h firsts puts =
       history_is = is;
       made = (line_follows (replay puts.before) (asked puts.last) halt
           (halt_begins (replay_from (replay puts.before) es))).is;
-      ended = halt_ends (replay (puts.before ++ es)) None;
+      ended = (halt_ends (replay (puts.before ++ es)) None).are;
       puts = subst (λ (l : List Reply). PutsThenPrefix out (texts_of l) (texts_of (own_replies_from 0 puts.before es)))
           (sym (replies_first puts.before parts.0))
           (subst (λ (l : List Reply). PutsThenPrefix out (output_text puts.before) (texts_of l))

@@ -6,6 +6,7 @@ use Rattle.swarm_model.specs.Follows.{Follows, FollowsPart, IsEnd, IsLine}
 use Rattle.swarm_model.specs.History.{replay}
 use Rattle.swarm_model.specs.Own.{own_replies, own_replies_from}
 use Rattle.swarm_model.specs.Script.{Asked}
+use Rattle.swarm_model.specs.Undone.{FollowsUndone}
 use Rattle.swarm_objects.specs.declared.calls.Entry.{Entry}
 use Rattle.swarm_objects.specs.declared.replies.Reply.{Reply}
 use Rattle.swarm_print.specs.Texts.{reply_text}
@@ -44,6 +45,14 @@ pub record FollowsFirstLines (workers : ℕ) (script : Reading) (history : List 
   pub lines : script.said ≡ done ++ left
   pub follows : FollowsPart history (map asked done) (next_asked left) workers
 
+-- it follows some first lines, and the next one isn't done
+pub record FollowsFullHistory (workers : ℕ) (script : Reading) (history : List Entry) : Type 0 where
+  pub done : List Line
+  pub next : Line
+  pub left : List Line
+  pub lines : script.said ≡ done ++ next ∷ left
+  pub follows : FollowsUndone history (map asked done) (Some (asked next)) workers
+
 -- it follows some first lines, one at least, and no further one was begun
 pub record FollowsToLast (workers : ℕ) (script : Reading) (history : List Entry) : Type 0 where
   pub done : List Line
@@ -67,7 +76,7 @@ FollowsInput workers (BadLine number fault) input left history =
 FollowsInput workers (NoMemoryAt number fault) input left history =
     FollowsGoodLines workers number fault (reading input) history
 FollowsInput workers ReadFault input left history = FollowsTakenLines workers input left history
-FollowsInput workers Full input left history = FollowsFirstLines workers (reading input) history
+FollowsInput workers Full input left history = FollowsFullHistory workers (reading input) history
 FollowsInput workers OutFault input left history = FollowsToLast workers (reading input) history
 FollowsInput workers NoMemory input left history = FollowsFirstLines workers (reading input) history
 
