@@ -1,4 +1,5 @@
 // The head of a row.
+use swarm_objects::FailedPut;
 
 // What is made of the script.
 #[derive(Clone, Copy)]
@@ -22,6 +23,15 @@ impl Kind {
     }
 }
 
+// The call of a sink that fails, and behind a `+` how many bytes of its piece it takes all the same.
+fn failed_put(value: &str) -> Option<FailedPut> {
+    let (call, taken) = value.split_once('+').unwrap_or((value, "0"));
+    Some(FailedPut {
+        call: call.parse().ok()?,
+        taken: taken.parse().ok()?,
+    })
+}
+
 // How a row is run: the words of the command line with commas between them, the most bytes that the source gives at
 // once, and the calls of the source, the output and the journal that fail.
 #[derive(Clone, Copy)]
@@ -30,8 +40,8 @@ pub(crate) struct Head<'a> {
     pub(crate) words: &'a str,
     pub(crate) piece: usize,
     pub(crate) take: Option<u64>,
-    pub(crate) out: Option<u64>,
-    pub(crate) put: Option<u64>,
+    pub(crate) out: Option<FailedPut>,
+    pub(crate) put: Option<FailedPut>,
 }
 
 impl<'a> Head<'a> {
@@ -66,8 +76,8 @@ impl<'a> Head<'a> {
             "words" => self.words = value,
             "piece" => self.piece = value.parse().ok()?,
             "take" => self.take = Some(value.parse().ok()?),
-            "out" => self.out = Some(value.parse().ok()?),
-            "put" => self.put = Some(value.parse().ok()?),
+            "out" => self.out = Some(failed_put(value)?),
+            "put" => self.put = Some(failed_put(value)?),
             _ => return None,
         }
         Some(())

@@ -20,11 +20,15 @@
 //!   return, and `\` any other character itself.
 //! - Without an option the script is run by `swarm run --workers 0`. Seen is the output, `- status N`, and of these
 //!   what the row has, in this order: `- lines N` (of the journal), `- journal` and the journal, `- walked N` (entries
-//!   up to the first world that isn't as it must be), `- unread` and what the source still has. A first line `...`
-//!   stands for whatever goes before.
+//!   up to the first world that isn't as it must be), `- unread` and what the source still has, `- stops`, `- cuts`. A
+//!   first line `...` stands for whatever goes before.
+//! - Behind `- stops` stand the runs in which the journal fails at each of its lines, after no byte and after one, as
+//!   `2+1 4 17`: at the second line after 1 byte, status 4, and the first 17 bytes of the journal are kept. Behind
+//!   `- cuts` stand the runs of the script cut after each of its bytes, as `17 6 bad line 2 Cut`: cut after 17 bytes
+//!   and after more up to the next line's number, status 6 and the output.
 //! - Options of a run: `words=replay` or `words=run,--workers=0` for the words of the command line, `piece=9` for the
 //!   most bytes that the source gives at once, `take=2`, `out=1`, `put=2` for the call of the source, the output, the
-//!   journal that fails.
+//!   journal that fails; `out=1+3` and `put=2+3` fail after 3 bytes of the piece.
 //! - Option `lines`: each line of the script as an entry of caller 0, written, read and written again, or `blank`,
 //!   `wait N`, or its fault. `entries`: the same of each line of a journal. `entry`: of the whole text. `constraints`:
 //!   each line as a constraint without spaces, or `BadConstraint` and the place of its fault.
@@ -39,6 +43,7 @@ mod heads;
 mod rows;
 mod runs;
 mod scripts;
+mod tables;
 mod texts;
 mod told;
 mod walks;
@@ -53,7 +58,7 @@ use std::{fs, io};
 use swarm_objects::{NoMemory, Sink, StdSink};
 
 /// The files of rows.
-const FILES: [&str; 32] = [
+const FILES: [&str; 33] = [
     "faults",
     "words",
     "limits",
@@ -65,6 +70,7 @@ const FILES: [&str; 32] = [
     "restarts",
     "services",
     "settling",
+    "stopped",
     "updates",
     "watches",
     "lines",

@@ -1,5 +1,6 @@
 // Whole runs over sources and sinks in memory.
 use crate::heads::Head;
+use crate::tables::{push_cuts, push_stops};
 use crate::texts::push_number;
 use crate::walks::walked;
 use std::alloc::Global;
@@ -21,10 +22,10 @@ fn words_of(alloc: Global, text: &str) -> Result<Vec<String>, NoMemory> {
     Ok(words)
 }
 
-fn sink_of(alloc: Global, failing: Option<u64>) -> Result<MemorySink, NoMemory> {
+fn sink_of(alloc: Global, failing: Option<FailedPut>) -> Result<MemorySink, NoMemory> {
     let mut faults = Vec::new(alloc);
-    if let Some(call) = failing {
-        faults.extend_from_slice(&[FailedPut { call, taken: 0 }])?;
+    if let Some(fault) = failing {
+        faults.extend_from_slice(&[fault])?;
     }
     Ok(MemorySink::new(alloc, faults))
 }
@@ -48,9 +49,9 @@ fn push_rest(seen: &mut Vec<u8>, source: &mut MemorySource) -> Result<(), NoMemo
     Ok(())
 }
 
-fn push_count(alloc: Global, seen: &mut Vec<u8>, journal: &[u8]) -> Result<(), NoMemory> {
-    let count = journal.iter().filter(|byte| **byte == b'\n').count();
-    push_number(alloc, seen, b"- lines ", count as u64)
+// How many lines the journal has.
+pub(crate) fn lines_of(journal: &[u8]) -> u64 {
+    journal.iter().filter(|byte| **byte == b'\n').count() as u64
 }
 
 fn push_journal(seen: &mut Vec<u8>, journal: &[u8]) -> Result<(), NoMemory> {
@@ -71,7 +72,7 @@ fn push_kept(
     wanted: &str,
 ) -> Result<(), NoMemory> {
     if wanted.contains("\n- lines ") {
-        push_count(alloc, seen, journal)?;
+        push_number(alloc, seen, b"- lines ", lines_of(journal))?;
     }
     if wanted.contains("\n- journal") {
         push_journal(seen, journal)?;
@@ -82,14 +83,21 @@ fn push_kept(
     Ok(())
 }
 
-// Runs the script, and says what is seen of it.
-pub(crate) fn push_run<R: Threads + Wait + Sync + AllocGlobal>(
+// A run that has ended: its status, and its source and its sinks as they are left.
+#[derive(Drop)]
+pub(crate) struct Ended {
+    pub(crate) status: u8,
+    pub(crate) source: MemorySource,
+    pub(crate) out: MemorySink,
+    pub(crate) journal: MemorySink,
+}
+
+// Runs the script as the head says.
+pub(crate) fn run<R: Threads + Wait + Sync + AllocGlobal>(
     rt: &R,
-    seen: &mut Vec<u8>,
     head: &Head<'_>,
     script: &[u8],
-    wanted: &str,
-) -> Result<(), NoMemory> {
+) -> Result<Ended, NoMemory> {
     let alloc = rt.alloc();
     let words = words_of(alloc, head.words)?;
     let mut source = source_of(alloc, head, script)?;
@@ -104,11 +112,35 @@ pub(crate) fn push_run<R: Threads + Wait + Sync + AllocGlobal>(
         &mut journal,
         &RealGate,
     );
-    seen.extend_from_slice(out.bytes())?;
-    push_number(alloc, seen, b"- status ", u64::from(status))?;
-    push_kept(alloc, seen, journal.bytes(), wanted)?;
+    Ok(Ended {
+        status,
+        source,
+        out,
+        journal,
+    })
+}
+
+// Runs the script, and says what is seen of it.
+pub(crate) fn push_run<R: Threads + Wait + Sync + AllocGlobal>(
+    rt: &R,
+    seen: &mut Vec<u8>,
+    head: &Head<'_>,
+    script: &[u8],
+    wanted: &str,
+) -> Result<(), NoMemory> {
+    let alloc = rt.alloc();
+    let mut ended = run(rt, head, script)?;
+    seen.extend_from_slice(ended.out.bytes())?;
+    push_number(alloc, seen, b"- status ", u64::from(ended.status))?;
+    push_kept(alloc, seen, ended.journal.bytes(), wanted)?;
     if wanted.contains("\n- unread") {
-        push_unread(seen, &mut source)?;
+        push_unread(seen, &mut ended.source)?;
+    }
+    if wanted.contains("\n- stops") {
+        push_stops(rt, seen, head, script, &ended)?;
+    }
+    if wanted.contains("\n- cuts") {
+        push_cuts(rt, seen, head, script)?;
     }
     Ok(())
 }
