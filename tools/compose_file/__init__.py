@@ -1,0 +1,1 @@
+"""Compose files as cluster scripts; `tools/compose` is the program."""
