@@ -7,12 +7,12 @@ use Rattle.swarm_objects.specs.Tasks.Places.{counts_for, place_number}
 use Rattle.swarm_objects.specs.declared.services.Service.{Service}
 use Rattle.swarm_objects.specs.declared.tasks.Task.{Task}
 use Rattle.role_words.specs.Marks.{mark_of, mark_with}
-use Rattle.role_words.specs.Windows.{begun, lesser, mark_at, noted, noted_at, IsFresh, IsFrom, Shows}
+use Rattle.role_words.specs.Windows.{blank, lesser, mark_at, noted, noted_at, IsFresh, IsFrom, Shows}
 use Rattle.role_words.specs.declared.window.Window.{Window}
 use Rattle.role_words.specs.declared.window.TheConstants.{WIDTH, BLANK}
 use Rattle.role_words.proofs.Numbers.{has_cases, has_keeps, has_new, mark_away, mark_here}
 
-pub shows_none : (s : Service) (first : ℕ) → Shows (begun first) s []
+pub shows_none : (s : Service) (first : ℕ) → Shows (blank first) s []
 shows_none s first = record {
   wide = length-replicate WIDTH BLANK;
   marks = λ i lt. get_or-replicate WIDTH i BLANK BLANK lt;

@@ -31,8 +31,8 @@ pub record Shows (w : Window) (s : Service) (tasks : List Task) : Type 0 where
   pub small : (k : ℕ) → has_number s tasks k ≡ true → k < 2 ^ 64
 
 -- a window from this number on
-abbrev pub begun : ℕ → Window
-begun first = record { first = first; marks = replicate WIDTH BLANK; reach = 0; beyond = None; index = 0 }
+abbrev pub blank : ℕ → Window
+blank first = record { first = first; marks = replicate WIDTH BLANK; reach = 0; beyond = None; index = 0 }
 
 -- no place was asked for of a window from this number on
 abbrev pub IsFresh : Window → ℕ → Type 0

@@ -3,7 +3,7 @@ ghost use Rattle.std.specs.Prelude.{◌≡◌, ◌+◌, ◌++◌, ◌∷◌, [],
 ghost use Rattle.swarm_objects.specs.declared.services.Service.{Service as ServiceRow};
 ghost use Rattle.swarm_objects.specs.declared.tasks.Task.{Task as TaskRow};
 ghost use Rattle.role_words.specs.Marks.{mark_with};
-ghost use Rattle.role_words.specs.Windows.{begun, noted, noted_at, lesser, IsNext, NoneBefore, IsFresh, Shows};
+ghost use Rattle.role_words.specs.Windows.{blank, noted, noted_at, lesser, IsNext, NoneBefore, IsFresh, Shows};
 ghost use Rattle.role_words.specs.Windows.{Steps, slot_at};
 
 use swarm_objects::{Service, Task};
@@ -77,8 +77,8 @@ fn lesser(best: Option<u64>, number: u64) -> Option<u64>
 
 impl Window {
     // All its places are blank.
-    fn begun(first: u64) -> Window
-        ensures { result ≡ begun first }
+    fn blank(first: u64) -> Window
+        ensures { result ≡ blank first }
     {
         Window {
             first,
@@ -94,7 +94,7 @@ impl Window {
         ensures fresh { IsFresh result first }
         ensures shows { (s : ServiceRow) → Shows result s [] }
     {
-        Window::begun(first)
+        Window::blank(first)
     }
 
     // Notes the task, which counts for the service, at the place of its number.

@@ -19,7 +19,7 @@ use Rattle.swarm_objects.specs.declared.tasks.Closed.{Closed}
 use Rattle.swarm_objects.specs.declared.tasks.Desired.TheVariants as desired
 use Rattle.swarm_objects.specs.declared.tasks.Place.{Place}
 use Rattle.swarm_objects.specs.declared.tasks.Task.{Task}
-use Rattle.swarm_restart.specs.Closing.{closing, closing_found}
+use Rattle.swarm_restart.specs.Closing.{closing_changes, closing_found}
 use Rattle.swarm_objects.proofs.Applied.{makes_append, makes_found, put_found, sound_changed}
 use Rattle.swarm_objects.specs.ChangeLists.{Makes, apply_changes}
 
@@ -116,7 +116,7 @@ closing_other version cause t x y sound e f other =
 closing_both : (version : ℕ) (cause : Closed) (t : Tables) (x y : Task) → IsSound t → Some x
     ≡ row_at task_id x.id t.tasks
     → Some y ≡ row_at task_id y.id t.tasks
-    → Makes t (closing version cause x y) (change_task y.id (closed_by version cause) (shut version x.id t))
+    → Makes t (closing_changes version cause x y) (change_task y.id (closed_by version cause) (shut version x.id t))
 closing_both version cause t x y sound e f = go (eqb y.id x.id) refl
   where
     go : (b : Bool) → eqb y.id x.id ≡ b
@@ -143,7 +143,7 @@ found_makes : (version : ℕ) (cause : Closed) (t : Tables) (x : Task) (o : Opti
 found_makes version cause t x None sound e there =
     makes_found (wanted version desired.Shutdown) x.id t x sound e (λ z. refl)
 found_makes version cause t x (Some y) sound e there =
-    subst (λ id. Makes t (closing version cause x y) (change_task id (closed_by version cause) (shut version x.id t)))
+    subst (λ id. Makes t (closing_changes version cause x y) (change_task id (closed_by version cause) (shut version x.id t)))
     (sym (keeps_id version x.id y)) (closing_both version cause t x y sound e (there y refl))
 
 pub closing_makes : (version : ℕ) (cause : Closed) (t : Tables) (s : Service) (x : Task) (cs : List Change) → IsSound t

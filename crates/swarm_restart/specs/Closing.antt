@@ -9,11 +9,11 @@ use Rattle.swarm_objects.specs.declared.tasks.Desired.TheVariants as desired
 use Rattle.swarm_objects.specs.declared.tasks.Task.{Task}
 
 -- the task stops, and the other one closes the place; one change where these are the same
-abbrev pub closing : ℕ → Closed → Task → Task → List Change
-closing version cause x y =
+abbrev pub closing_changes : ℕ → Closed → Task → Task → List Change
+closing_changes version cause x y =
     if y.id == x.id then change.PutTask (closed_by version cause (wanted version desired.Shutdown x)) ∷ []
     else change.PutTask (wanted version desired.Shutdown x) ∷ change.PutTask (closed_by version cause y) ∷ []
 
 abbrev pub closing_found : ℕ → Closed → Task → Option Task → List Change
 closing_found version cause x None = change.PutTask (wanted version desired.Shutdown x) ∷ []
-closing_found version cause x (Some y) = closing version cause x y
+closing_found version cause x (Some y) = closing_changes version cause x y

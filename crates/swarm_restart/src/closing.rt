@@ -3,7 +3,7 @@ ghost use Rattle.std.specs.Prelude.{◌≡◌, IfOk, Some};
 ghost use Rattle.swarm_objects.specs.Loops.Restart.{by_policy, closed_by, shut};
 ghost use Rattle.swarm_objects.specs.Rows.{row_at, task_id};
 ghost use Rattle.swarm_objects.specs.Tasks.Places.{newest, tasks_of_place};
-ghost use Rattle.swarm_restart.specs.Closing.{closing, closing_found};
+ghost use Rattle.swarm_restart.specs.Closing.{closing_changes, closing_found};
 ghost use Rattle.swarm_objects.specs.ChangeLists.{Makes};
 ghost use Rattle.swarm_objects.specs.Usable.{IsUsable};
 
@@ -25,14 +25,14 @@ fn closed_by(alloc: Global, task: &Task, version: Version, cause: Closed) -> Res
 }
 
 // The task stops, and the newest one closes the place: where these are the same, by one change.
-fn closing(
+fn closing_changes(
     alloc: Global,
     version: Version,
     task: &Task,
     newest: &Task,
     cause: Closed,
 ) -> Result<List<Change>, NoMemory>
-    ensures { IfOk result (λ changes. changes ≡ closing version cause task.now newest.now) }
+    ensures { IfOk result (λ changes. changes ≡ closing_changes version cause task.now newest.now) }
 {
     let stopped = wanted(alloc, task, version, Desired::Shutdown)?;
     if newest.id == task.id {
@@ -63,7 +63,7 @@ fn closing_found<R: Rows>(
         IfOk result (λ changes. changes ≡ closing_found version cause task.now (newest place)) }
 {
     match newest(rows, service, task.place) {
-        Some(newest) => closing(alloc, version, task, newest, cause),
+        Some(newest) => closing_changes(alloc, version, task, newest, cause),
         None => list_of(
             alloc,
             Change::PutTask(wanted(alloc, task, version, Desired::Shutdown)?),

@@ -8,16 +8,16 @@ use Rattle.swarm_input.specs.Script.{reading, bad_line}
 use Rattle.swarm_input.specs.Streams.{Stream, PutsUnlessFailed}
 
 -- the status of each ending
-abbrev pub status_of : Ending → ℕ
-status_of Done = 0
-status_of Refused = 1
-status_of ReadFault = 3
-status_of OutFault = 4
-status_of JournalFault = 4
-status_of NoMemory = 5
-status_of (NoMemoryAt number fault) = 5
-status_of (BadLine number fault) = 6
-status_of Full = 7
+abbrev pub exit_status : Ending → ℕ
+exit_status Done = 0
+exit_status Refused = 1
+exit_status ReadFault = 3
+exit_status OutFault = 4
+exit_status JournalFault = 4
+exit_status NoMemory = 5
+exit_status (NoMemoryAt number fault) = 5
+exit_status (BadLine number fault) = 6
+exit_status Full = 7
 
 -- how the run ends after the whole script
 abbrev pub whole_ending : Bool → Ending

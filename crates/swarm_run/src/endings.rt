@@ -1,6 +1,6 @@
 // How a run ends.
 ghost use Rattle.std.specs.Prelude.{◌≡◌};
-ghost use Rattle.swarm_run.specs.Endings.{status_of};
+ghost use Rattle.swarm_run.specs.Endings.{exit_status};
 
 use swarm_input::Fault;
 
@@ -31,7 +31,7 @@ pub enum Ending {
 impl Ending {
     /// The program's exit status.
     pub fn status(self) -> u8
-        ensures { result ≡ status_of self }
+        ensures { result ≡ exit_status self }
     {
         match self {
             Ending::Done => 0,

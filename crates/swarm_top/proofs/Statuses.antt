@@ -7,7 +7,7 @@ use Rattle.swarm_objects.specs.declared.calls.Entry.{Entry}
 use Rattle.swarm_objects.specs.declared.replies.Reply.{Reply}
 use Rattle.swarm_input.specs.Script.{Reading, reading}
 use Rattle.swarm_input.specs.Streams.{Stream}
-use Rattle.swarm_run.specs.Endings.{status_of}
+use Rattle.swarm_run.specs.Endings.{exit_status}
 use Rattle.swarm_run.specs.Serial.{is_refused}
 use Rattle.swarm_run.specs.declared.endings.Ending.{Ending}
 use Rattle.swarm_run.specs.declared.endings.Ending.TheVariants.{Done, Refused, ReadFault, OutFault, JournalFault, NoMemory, NoMemoryAt, BadLine, Full}
@@ -24,12 +24,12 @@ by_script script replies bad refused e f =
 -- the script and what caller 0 was answered decide it
 pub decided : (workers : ℕ) (e : Ending) (script out journal : Stream) (h : List Entry) →
     FollowsScript workers e script.before script.after h → PutsOwnReplies e out h → HasCauseOf e script out journal →
-    NoneFails script out journal → (status_of e ≡ 5) ⊎ IsDecidedStatus e script.before h (status_of e)
+    NoneFails script out journal → (exit_status e ≡ 5) ⊎ IsDecidedStatus e script.before h (exit_status e)
 decided workers e script out journal h follows answers cause none =
     by_source e script.before script.after follows answers cause
   where
     by_source : (e : Ending) (a b : Option (List ℕ)) → FollowsScript workers e a b h → PutsOwnReplies e out h →
-        HasCauseOf e script out journal → (status_of e ≡ 5) ⊎ IsDecidedStatus e a h (status_of e)
+        HasCauseOf e script out journal → (exit_status e ≡ 5) ⊎ IsDecidedStatus e a h (exit_status e)
     by_source e None b follows answers cause = inr tt
     by_source e (Some input) None follows answers cause = absurd follows
     by_source Done (Some input) (Some left) follows answers cause =
