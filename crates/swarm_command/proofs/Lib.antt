@@ -1,2 +1,3 @@
-mod Spelled
+mod Numbered
+pub mod Spelled
 mod Two

@@ -1,18 +1,23 @@
 -- Words of a form have one of few shapes, and of each clap finds that form.
-use Rattle.std.proofs.Common.{◌≡◌, ◌∙◌, ◌&&◌, ap, sym, subst, refl, Bool, true, false, List, [], ◌∷◌, codes, Option, Some, None, Ok, Err, option_map}
+use Rattle.std.proofs.Common.{◌≡◌, ◌∙◌, ◌&&◌, ◌||◌, ◌⊎◌, inl, inr, ap, sym, subst, refl, ℕ, ◌≤◌, Bool, true, false, List, [], ◌∷◌, codes, Option, Some, None, Ok, Err, option_map}
+use Rattle.std.specs.Option.{option_eq, option_or}
+use Rattle.script_maker.specs.Script.{most_number}
+use Rattle.swarm_objects.specs.Same.{same_number}
+use Rattle.swarm_objects.proofs.SameLemmas.{Decides-option_eq, Decides-same_number}
+use Rattle.swarm_command.proofs.Numbered.{TakesNumber, first_digit, is_script_number, takes_digit}
 use Rattle.std.proofs.lemmas.Slice.Eq.{bytes_eq-Decides}
-use Rattle.std.specs.Prelude.{if◌then◌else◌}
+use Rattle.std.specs.Prelude.{if◌then◌else◌, is_some}
 use Rattle.std.specs.Str.{bytes_eq}
-use Rattle.clap.specs.Words.{App, HasMatchesOf, Row, Text, first_value, found_of, is_simple, rows_of, subcommand_name_of, subcommand_of, subcommand_rows_of, takes}
+use Rattle.clap.specs.Words.{App, HasMatchesOf, Row, Text, first_of, first_value, found_of, is_simple, rows_of, subcommand_name_of, subcommand_of, subcommand_rows_of, takes}
 use Rattle.clap.specs.declared.parser.ArgMatches.{ArgMatches}
 use Rattle.clap.specs.declared.parser.ArgMatches.TheViews.{out-ArgMatches}
 use Rattle.clap.proofs.OnLiterals.{clap_on_literals}
 use Rattle.clap.proofs.WalkLemmas.{first_value-rows}
-use Rattle.swarm_command.specs.CommandLine.{IsReading, form_of, is_replay, is_run}
-use Rattle.swarm_command.specs.Inside.Clap.{found_form, named_form, spells, swarm_app}
+use Rattle.swarm_command.specs.CommandLine.{IsReading, form_of, is_replay, is_run, made_number, number_beside_run, run_number, script_number}
+use Rattle.swarm_command.specs.Inside.Clap.{found_form, made_form, named_form, spells, swarm_app}
 use Rattle.swarm_command.specs.declared.forms.Form.{Form}
-use Rattle.swarm_command.specs.declared.forms.WordFault.TheVariants.{Other}
-use Rattle.swarm_command.specs.declared.forms.Form.TheVariants.{Run, Replay}
+use Rattle.swarm_command.specs.declared.forms.WordFault.TheVariants.{Other, NoMemory}
+use Rattle.swarm_command.specs.declared.forms.Form.TheVariants.{Run, Replay, Make, MakeRun}
 
 -- clap takes the words, and finds the form
 pub record Reads (form : Form) (words : List Text) : Type 0 where
@@ -61,22 +66,107 @@ is_one_replay [] e = absurd (cc e)
 is_one_replay (a ∷ []) e = ap (λ (x : Text). x ∷ []) ((bytes_eq-Decides a (codes "replay")).0 e)
 is_one_replay (a ∷ b ∷ more) e = absurd (cc e)
 
+-- `make` with a number
+
+if_some : (t : Bool) (o : Option ℕ) (n : ℕ) → (if t then o else None) ≡ Some n → (t ≡ true) × (o ≡ Some n)
+if_some true o n e = (refl, e)
+if_some false o n e = absurd (cc e)
+
+-- two words, the second a script's number
+record IsMade (words : List Text) (n : ℕ) : Type 0 where
+  pub word : Text
+  pub words_are : words ≡ codes "make" ∷ word ∷ []
+  pub number : script_number word ≡ Some n
+
+is_made : (words : List Text) (n : ℕ) → made_number words ≡ Some n → IsMade words n
+is_made [] n e = absurd (cc e)
+is_made (a ∷ []) n e = absurd (cc e)
+is_made (a ∷ b ∷ []) n e =
+    let p = if_some (bytes_eq a (codes "make")) (script_number b) n e in
+    record { word = b; words_are = ap (λ (x : Text). x ∷ b ∷ []) ((bytes_eq-Decides a (codes "make")).0 p.0); number = p.1 }
+is_made (a ∷ b ∷ c ∷ more) n e = absurd (cc e)
+
+-- three words
+record IsMadeRun (words : List Text) (n : ℕ) : Type 0 where
+  pub first : Text
+  pub second : Text
+  pub words_are : words ≡ codes "make" ∷ first ∷ second ∷ []
+  pub number : number_beside_run first second ≡ Some n
+
+is_made_run : (words : List Text) (n : ℕ) → run_number words ≡ Some n → IsMadeRun words n
+is_made_run [] n e = absurd (cc e)
+is_made_run (a ∷ []) n e = absurd (cc e)
+is_made_run (a ∷ b ∷ []) n e = absurd (cc e)
+is_made_run (a ∷ b ∷ c ∷ []) n e =
+    let p = if_some (bytes_eq a (codes "make")) (number_beside_run b c) n e in
+    record { first = b; second = c; words_are = ap (λ (x : Text). x ∷ b ∷ c ∷ []) ((bytes_eq-Decides a (codes "make")).0 p.0); number = p.1 }
+is_made_run (a ∷ b ∷ c ∷ d ∷ more) n e = absurd (cc e)
+
+takes_number : (word : Text) (n : ℕ) → script_number word ≡ Some n → TakesNumber word
+takes_number word n e =
+    let b = first_digit word n e in
+    subst TakesNumber (sym b.is) (takes_digit b.digit b.rest b.inside.0 b.inside.1)
+
+reads_made : (word : Text) (n : ℕ) → script_number word ≡ Some n → Reads (Make n) (codes "make" ∷ word ∷ [])
+reads_made word n e =
+    let t = takes_number word n e in
+    record { taken = t.alone; found = t.alone_found ∙ ap (λ o. made_form o (Some (codes "false"))) e }
+
+reads_behind : (word : Text) (n : ℕ) → script_number word ≡ Some n → Reads (MakeRun n) (codes "make" ∷ word ∷ codes "--run" ∷ [])
+reads_behind word n e =
+    let t = takes_number word n e in
+    record { taken = t.behind; found = t.behind_found ∙ ap (λ o. made_form o (Some (codes "true"))) e }
+
+reads_before : (word : Text) (n : ℕ) → script_number word ≡ Some n → Reads (MakeRun n) (codes "make" ∷ codes "--run" ∷ word ∷ [])
+reads_before word n e =
+    let t = takes_number word n e in
+    record { taken = t.before; found = t.before_found ∙ ap (λ o. made_form o (Some (codes "true"))) e }
+
+either : (s f : Bool) (p q : Option ℕ) (n : ℕ) → (if s then p else (if f then q else None)) ≡ Some n
+    → ((s ≡ true) × (p ≡ Some n)) ⊎ ((f ≡ true) × (q ≡ Some n))
+either true f p q n e = inl (refl, e)
+either false f p q n e = inr (if_some f q n e)
+
+reads_beside : (first second : Text) (n : ℕ) → number_beside_run first second ≡ Some n → Reads (MakeRun n) (codes "make" ∷ first ∷ second ∷ [])
+reads_beside first second n e =
+    elim (either (bytes_eq second (codes "--run")) (bytes_eq first (codes "--run")) (script_number first) (script_number second) n e) [
+      | inl h ↦ subst (λ (x : Text). Reads (MakeRun n) (codes "make" ∷ first ∷ x ∷ [])) (sym ((bytes_eq-Decides second (codes "--run")).0 h.0)) (reads_behind first n h.1)
+      | inr h ↦ subst (λ (x : Text). Reads (MakeRun n) (codes "make" ∷ x ∷ second ∷ [])) (sym ((bytes_eq-Decides first (codes "--run")).0 h.0)) (reads_before second n h.1)
+    ]
+
+number_is : (o : Option ℕ) (n : ℕ) → option_eq same_number o (Some n) ≡ true → o ≡ Some n
+number_is o n e = (Decides-option_eq same_number Decides-same_number o (Some n)).0 e
+
+is_number : (o : Option ℕ) (n : ℕ) → o ≡ Some n → option_eq same_number o (Some n) ≡ true
+is_number o n e = (Decides-option_eq same_number Decides-same_number o (Some n)).1 e
+
 -- what clap makes of a spelling of a form
 pub reads : (form : Form) (words : List Text) → spells form words ≡ true → Reads form words
 reads Run words e = run_reads words e
 reads Replay words e = subst (Reads Replay) (sym (is_one_replay words e)) reads_replay
+reads (Make n) words e =
+    let m = is_made words n (number_is (made_number words) n e) in
+    subst (Reads (Make n)) (sym m.words_are) (reads_made m.word n m.number)
+reads (MakeRun n) words e =
+    let m = is_made_run words n (number_is (run_number words) n e) in
+    subst (Reads (MakeRun n)) (sym m.words_are) (reads_beside m.first m.second n m.number)
 
 -- what words ask for is the form that they spell
 
+same_form : (g f : Form) (words : List Text) → spells g words ≡ true → Some g ≡ Some f → spells f words ≡ true
+same_form g f words h e = let same : g ≡ f = cc e in subst (λ (x : Form). spells x words ≡ true) same h
+
 pub is_spelled : (form : Form) (words : List Text) → form_of words ≡ Some form → spells form words ≡ true
-is_spelled form words e = go (is_run words) refl (is_replay words) refl form e where
-  go : (run : Bool) → is_run words ≡ run → (replay : Bool) → is_replay words ≡ replay → (f : Form)
-      → (if run then Some Run else (if replay then Some Replay else None)) ≡ Some f → spells f words ≡ true
-  go true is replay other Run e = is
-  go true is replay other Replay e = absurd (cc e)
-  go false is true other Run e = absurd (cc e)
-  go false is true other Replay e = other
-  go false is false other f e = absurd (cc e)
+is_spelled form words e = go (is_run words) refl (is_replay words) refl (made_number words) refl (run_number words) refl e where
+  go : (run : Bool) → is_run words ≡ run → (replay : Bool) → is_replay words ≡ replay → (made : Option ℕ) → made_number words ≡ made
+      → (ran : Option ℕ) → run_number words ≡ ran
+      → (if run then Some Run else (if replay then Some Replay else option_or (option_map Make made) (option_map MakeRun ran))) ≡ Some form
+      → spells form words ≡ true
+  go true is replay other made m ran r e = same_form Run form words is e
+  go false is true other made m ran r e = same_form Replay form words other e
+  go false is false other (Some n) m ran r e = same_form (Make n) form words (is_number (made_number words) n m) e
+  go false is false other None m (Some n) r e = same_form (MakeRun n) form words (is_number (run_number words) n r) e
+  go false is false other None m None r e = absurd (cc e)
 
 is_form : (run : Bool) (words : List Text) → is_run words ≡ run → run ≡ true → form_of words ≡ Some Run
 is_form true words is e = rw is refl
@@ -85,6 +175,56 @@ is_form false words is e = absurd (cc e)
 pub asks_for : (form : Form) (words : List Text) → spells form words ≡ true → form_of words ≡ Some form
 asks_for Run words e = is_form true words e refl
 asks_for Replay words e = subst (λ ws. form_of ws ≡ Some Replay) (sym (is_one_replay words e)) refl
+asks_for (Make n) words e =
+    let m = is_made words n (number_is (made_number words) n e) in
+    subst (λ ws. form_of ws ≡ Some (Make n)) (sym m.words_are)
+    (ap (λ (o : Option ℕ). option_or (option_map Make o) None) m.number)
+asks_for (MakeRun n) words e =
+    let m = is_made_run words n (number_is (run_number words) n e) in
+    subst (λ ws. form_of ws ≡ Some (MakeRun n)) (sym m.words_are)
+    (ap (λ (o : Option ℕ). option_map MakeRun o) m.number)
+
+-- words with a number, and what they ask for
+
+pub asks_make : (n : ℕ) (words : List Text) → made_number words ≡ Some n → form_of words ≡ Some (Make n)
+asks_make n words e = asks_for (Make n) words (is_number (made_number words) n e)
+
+pub asks_make_run : (n : ℕ) (words : List Text) → run_number words ≡ Some n → form_of words ≡ Some (MakeRun n)
+asks_make_run n words e = asks_for (MakeRun n) words (is_number (run_number words) n e)
+
+number_beside : (s f : Bool) (first second : Text) (n : ℕ) → (if s then script_number first else (if f then script_number second else None)) ≡ Some n → n ≤ most_number
+number_beside true f first second n e = is_script_number first n e
+number_beside false true first second n e = is_script_number second n e
+number_beside false false first second n e = absurd (cc e)
+
+pub made_within : (n : ℕ) (words : List Text) → form_of words ≡ Some (Make n) → n ≤ most_number
+made_within n words e =
+    let m = is_made words n (number_is (made_number words) n (is_spelled (Make n) words e)) in
+    is_script_number m.word n m.number
+
+pub ran_within : (n : ℕ) (words : List Text) → form_of words ≡ Some (MakeRun n) → n ≤ most_number
+ran_within n words e =
+    let m = is_made_run words n (number_is (run_number words) n (is_spelled (MakeRun n) words e)) in
+    number_beside (bytes_eq m.second (codes "--run")) (bytes_eq m.first (codes "--run")) m.first m.second n m.number
+
+-- some form is asked for, where a test says so
+pub any_asked : (run replay : Bool) (made ran : Option ℕ)
+    → (run || (replay || (is_some made || is_some ran)))
+    ≡ is_some (if run then Some Run else (if replay then Some Replay else option_or (option_map Make made) (option_map MakeRun ran)))
+any_asked true replay made ran = refl
+any_asked false true made ran = refl
+any_asked false false (Some n) ran = refl
+any_asked false false None (Some n) = refl
+any_asked false false None None = refl
+
+-- reading that wants memory
+pub unread_some : (a : Option Form) → is_some a ≡ true → IsReading a (Err NoMemory)
+unread_some (Some f) e = tt
+unread_some None e = absurd (cc e)
+
+pub unread_none : (a : Option Form) → is_some a ≡ false → IsReading a (Err Other)
+unread_none (Some f) e = absurd (cc e)
+unread_none None e = tt
 
 simple : is_simple swarm_app ≡ true
 unfolding clap_on_literals
@@ -124,7 +264,11 @@ both_parts (Some (n, r)) name rows a b = let is_name : name ≡ n = cc a in let 
 
 pub found_named : (name : Text) (m inner : ArgMatches) → Some name ≡ subcommand_name_of m
     → Some (rows_of (found_of inner)) ≡ option_map (λ p. p.1) (subcommand_rows_of m)
-    → named_form name (first_value (found_of inner) (codes "workers")) ≡ found_form (subcommand_rows_of m)
+    → named_form name (first_value (found_of inner) (codes "workers")) (first_value (found_of inner) (codes "number")) (first_value (found_of inner) (codes "run"))
+    ≡ found_form (subcommand_rows_of m)
 found_named name m inner named rows =
-    ap (named_form name) (first_value-rows (found_of inner) (codes "workers"))
-    ∙ ap found_form (sym (both_parts (subcommand_rows_of m) name (rows_of (found_of inner)) (named ∙ map_both _ _ (out-ArgMatches m).subcommand) rows))
+    let f = found_of inner in
+    ap (λ o. named_form name o (first_value f (codes "number")) (first_value f (codes "run"))) (first_value-rows f (codes "workers"))
+    ∙ ap (λ o. named_form name (first_of (codes "workers") (rows_of f)) o (first_value f (codes "run"))) (first_value-rows f (codes "number"))
+    ∙ ap (λ o. named_form name (first_of (codes "workers") (rows_of f)) (first_of (codes "number") (rows_of f)) o) (first_value-rows f (codes "run"))
+    ∙ ap found_form (sym (both_parts (subcommand_rows_of m) name (rows_of f) (named ∙ map_both _ _ (out-ArgMatches m).subcommand) rows))

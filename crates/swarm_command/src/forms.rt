@@ -4,7 +4,7 @@ ghost use Rattle.swarm_command.specs.CommandLine.{IsReading, form_of};
 
 use crate::commands::swarm_command;
 use crate::finds::found_form;
-use crate::spellings::spells;
+use crate::spellings::{asks, spells};
 use clap::error::ErrorKind;
 use std::alloc::Global;
 
@@ -18,6 +18,10 @@ pub enum Form {
     Run,
     /// A journal is replayed.
     Replay,
+    /// The script of this number is written.
+    Make(u64),
+    /// It is run instead, and what came of it is summed up.
+    MakeRun(u64),
 }
 
 /// Why words ask for nothing.
@@ -33,7 +37,7 @@ pub enum WordFault {
 fn unread(words: &[String]) -> Result<Form, WordFault>
     ensures { IsReading (form_of (map string_bytes words.now)) result }
 {
-    if spells(Form::Run, words) || spells(Form::Replay, words) {
+    if asks(words) {
         Err(WordFault::NoMemory)
     } else {
         Err(WordFault::Other)

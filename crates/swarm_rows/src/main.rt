@@ -58,7 +58,7 @@ use std::{fs, io};
 use swarm_objects::{NoMemory, Sink, StdSink};
 
 /// The files of rows.
-const FILES: [&str; 33] = [
+const FILES: [&str; 34] = [
     "faults",
     "words",
     "limits",
@@ -92,6 +92,7 @@ const FILES: [&str; 33] = [
     "upkeep",
     "next_duties",
     "other_duties",
+    "makes",
 ];
 
 /// The statuses where the output can't be written, and where memory is wanting.

@@ -9,6 +9,7 @@ ghost use Rattle.swarm_objects.specs.Kinds.{duty_named};
 ghost use Rattle.swarm_model.specs.History.{IsLegal, effect, replay};
 ghost use Rattle.swarm_model.specs.Script.{own_call};
 ghost use Rattle.swarm_model.specs.Settle.{settle_answer};
+ghost use Rattle.swarm_plain.specs.Plain.{world_of};
 ghost use Rattle.script_grammar.specs.HasText.{has_text};
 ghost use Rattle.swarm_run.specs.Lengths.{is_short};
 ghost use Rattle.swarm_run.specs.Work.{AddsNothing, Calls, call_by, duty_by};
@@ -63,6 +64,13 @@ impl Run {
         ensures { result.now ≡ self.now }
     {
         self.history.as_slice()
+    }
+
+    /// The world that the history makes.
+    pub fn world(&self) -> &Plain
+        ensures { world_of result.now ≡ replay self.now }
+    {
+        &self.plain
     }
 
     // There is no room but for Halt.

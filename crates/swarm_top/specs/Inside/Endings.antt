@@ -1,5 +1,5 @@
 -- How a run ends after its journal.
-use Rattle.std.specs.Prelude.{Bool, if◌then◌else◌, ℕ, ◌≡◌, Result, Ok, Err}
+use Rattle.std.specs.Prelude.{Result, Ok, Err}
 use Rattle.swarm_run.specs.declared.endings.Ending.{Ending}
 use Rattle.swarm_run.specs.declared.endings.Ending.TheVariants.{Done, Refused, ReadFault, NoMemory, BadLine, NoMemoryAt, OutFault, JournalFault, Full}
 use Rattle.swarm_input.specs.declared.faults.WriteFault.{WriteFault}
