@@ -1,0 +1,27 @@
+use Rattle.std.proofs.Common.{refl}
+use Rattle.swarm_world.proofs.Entering.{are_usable}
+use Rattle.swarm_world.proofs.Recorded.{usable_rows}
+use Rattle.swarm_world.proofs.Registering.{next_still, registered_by}
+use Rattle.swarm_world.specs.Inside.Records.{tables_of}
+use Rattle.swarm_world.proofs.parts.Parts.register.Goals as goal
+
+pub set_ready-requires : goal.set_ready-requires
+set_ready-requires c = usable_rows c.args.self.now.records (are_usable c.args.self.now c.requires.at)
+
+pub begin-requires-clause-can : goal.begin-requires-clause-can
+begin-requires-clause-can c = c.in-Ok.ensures.can
+
+pub begin-requires-clause-next : goal.begin-requires-clause-next
+begin-requires-clause-next c =
+    let r = c.args.self.now.records in
+    next_still c.args.version c.args.node (tables_of r) c.in-Ok.changes c.in-Ok.ensures
+    (usable_rows r (are_usable c.args.self.now c.requires.at)).next_id
+
+pub returns-in_default-begin : goal.returns-in_default-begin
+returns-in_default-begin c = λ h is. c.in_default-begin.ensures h is.stands
+
+pub returns : goal.returns
+returns c = λ h is.
+    let did = c.in-Ok-begin.ensures h is.stands in
+    registered_by c.entries_are_noted.ensures c.args.version h c.args.node c.args.self.now c.begin.new.self _
+    c.in-Ok.changes is c.in-Ok.ensures did.1 did.2 c.register.ensures refl refl refl refl

@@ -1,0 +1,37 @@
+use Rattle.std.proofs.Common.{refl, sym, ◌∙◌}
+use Rattle.swarm_model.specs.History.{replay}
+use Rattle.swarm_world.proofs.Beginning.{not_made}
+use Rattle.swarm_world.proofs.Entering.{are_usable}
+use Rattle.swarm_world.proofs.Recorded.{usable_rows}
+use Rattle.swarm_world.proofs.Reporting.{reported_none, reported_some}
+use Rattle.swarm_world.proofs.parts.Parts.report.Goals as goal
+
+pub raise_state-requires : goal.raise_state-requires
+raise_state-requires c = usable_rows c.args.self.now.records (are_usable c.args.self.now c.requires.at)
+
+pub commit-requires-clause-usable : goal.commit-requires-clause-usable
+commit-requires-clause-usable c = are_usable c.args.self.now c.requires.at
+
+pub commit-requires-clause-can : goal.commit-requires-clause-can
+commit-requires-clause-can c = c.in-Ok.ensures.can
+
+pub returns-in_default : goal.returns-in_default
+returns-in_default c = λ h is.
+    reported_none c.entries_are_noted.ensures h c.args.node c.args.task c.args.self.now _ is.stands
+    (sym c.in_default.is ∙ c.state_of.ensures (replay h).agents is.stands.has.agents) c.reported.ensures refl refl refl
+    refl
+
+pub returns-in_default-commit : goal.returns-in_default-commit
+returns-in_default-commit c = λ h is.
+    let did = c.in_default-commit.ensures in
+    not_made c.args.self.now c.commit.new.records c.commit.new.watches (replay h) is.stands
+    (did.0 (replay h) is.stands.has.records) did.1
+
+pub returns : goal.returns
+returns c = λ h is.
+    let p = c.args.self.now in
+    let did = c.in-Ok-commit.ensures (replay h) is.stands.has.records in
+    reported_some c.entries_are_noted.ensures c.args.version h c.args.node c.args.task c.in-Some.state p _
+    c.commit.new.records c.commit.new.watches c.in-Ok.changes is
+    (sym c.in-Some.is ∙ c.state_of.ensures (replay h).agents is.stands.has.agents) c.in-Ok.ensures did.0 did.1
+    c.reported-2.ensures refl refl refl refl

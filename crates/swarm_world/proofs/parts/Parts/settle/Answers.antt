@@ -1,0 +1,6 @@
+use Rattle.swarm_world.proofs.SettleLines.{settling}
+use Rattle.swarm_world.proofs.parts.Parts.settle.Goals as goal
+
+pub returns : goal.returns
+returns c = λ version h stands.
+    settling version h c.args.budget c.args.self.now c.settled.result stands (c.settled.ensures h stands)

@@ -1,0 +1,15 @@
+use Rattle.std.proofs.Common.{refl}
+use Rattle.swarm_objects.specs.Agents.NodeAgents.{in_mode, mode_after_start}
+use Rattle.swarm_objects.specs.declared.calls.Call.TheVariants as call
+use Rattle.swarm_world.proofs.Faulting.{faulted, not_faulted}
+use Rattle.swarm_world.proofs.parts.Parts.start_agent.Goals as goal
+
+pub returns-in-Ok : goal.returns-in-Ok
+returns-in-Ok c = λ version h stands.
+    faulted version h (call.AgentStart c.args.name.now) c.args.name.now (in_mode mode_after_start) c.args.self.now
+    _ c.in-Ok.node stands refl c.in-Ok.ensures c.start.ensures refl refl refl refl
+
+pub returns-in-Err : goal.returns-in-Err
+returns-in-Err c = λ version h stands.
+    not_faulted version h (call.AgentStart c.args.name.now) c.args.name.now (in_mode mode_after_start) c.args.self.now
+    c.in-Err.refusal stands refl c.in-Err.ensures

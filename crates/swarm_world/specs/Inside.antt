@@ -1,0 +1,9 @@
+-- Words of private contracts.
+pub mod Beginnings
+pub mod BesideOps
+pub mod Commits
+pub mod Kept
+pub mod Looks
+pub mod Lookups
+pub mod Parts
+pub mod Records

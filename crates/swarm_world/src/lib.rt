@@ -1,0 +1,21 @@
+//! The world with its history, as callers share it.
+#![tactic(auto)]
+
+mod agent_duties;
+mod arrivals;
+mod beginnings;
+mod changes;
+mod commits;
+mod faults;
+mod firsts;
+mod looks;
+mod parts;
+mod records;
+mod remote;
+mod removals;
+mod settling;
+mod turns;
+mod world;
+
+pub use turns::Turn;
+pub use world::World;

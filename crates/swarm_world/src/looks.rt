@@ -1,0 +1,218 @@
+// The first duty of the agents' loop, agent by agent. It takes no memory.
+ghost use Rattle.std.specs.Prelude.{◌≡◌, ◌++◌, flat_map, option_to_list, true};
+ghost use Rattle.swarm_agent.specs.Agent.{at_node};
+ghost use Rattle.swarm_objects.specs.Loops.Agents.{agent_duties, duties_on, has_step, inbox_duties, is_beat_due, is_forgotten, is_mode_on, report_duties, session_duties};
+ghost use Rattle.swarm_objects.specs.Loops.Words.{duty_where};
+ghost use Rattle.swarm_objects.specs.Nodes.Sessions.{session_of};
+ghost use Rattle.swarm_objects.specs.Rows.{RisesFrom, executor_task, first_of, has_row, is_some_and, task_id};
+ghost use Rattle.swarm_objects.specs.Usable.{IsUsable};
+ghost use Rattle.swarm_world.specs.Inside.Looks.{EachRises, looked_at};
+ghost use Rattle.swarm_world.specs.Inside.Records.{tables_of};
+
+use crate::records::Records;
+use swarm_agent::theorems::{times_that_no_step_looks_at, what_is_found_is_the_first_duty};
+use swarm_agent::{Agent, Agents, has_passed};
+use swarm_assign::Sents;
+use swarm_objects::{AgentMode, Duty, Id, Rows};
+
+fn is_on(agent: &Agent) -> bool
+    ensures { result ≡ is_mode_on agent.now.mode }
+{
+    match agent.mode() {
+        AgentMode::On => true,
+        _ => false,
+    }
+}
+
+// The last beat of the node's session is a heartbeat period ago.
+fn wants_beat(records: &Records, node: Id) -> bool
+    ensures { let t = tables_of records.now in result ≡ is_some_and (is_beat_due t) (session_of t node) }
+{
+    match records.sessions.get(node) {
+        Some(session) => has_passed(records.now(), session.beat, records.settings().heartbeat),
+        None => false,
+    }
+}
+
+// The agent registers, or its session has a beat.
+fn session_duty(
+    records: &Records,
+    sent: &Sents,
+    node: Id,
+    agent: &Agent,
+    live: bool,
+) -> Option<Duty>
+    ensures { let w = looked_at (tables_of records.now) sent.now in
+        option_to_list result ≡ session_duties w (at_node node agent.now) live }
+{
+    if !live {
+        return Some(Duty::Register(node));
+    }
+    if wants_beat(records, node) {
+        return Some(Duty::Beat(node));
+    }
+    None
+}
+
+// The message in the inbox is applied; where there is none and one is there, it is pulled.
+fn inbox_duty(records: &Records, sent: &Sents, node: Id, agent: &Agent, live: bool) -> Option<Duty>
+    requires { IsUsable (tables_of records.now) }
+    ensures { let w = looked_at (tables_of records.now) sent.now in
+        option_to_list result ≡ inbox_duties w (at_node node agent.now) live agent.now.inbox }
+{
+    if agent.has_message() {
+        return Some(Duty::Apply(node));
+    }
+    if live && sent.is_due(records, node) {
+        return Some(Duty::Pull(node));
+    }
+    None
+}
+
+// The first executor that has a step to make.
+fn first_step(records: &Records, node: Id, agent: &Agent) -> Option<Duty>
+    ensures { let t = tables_of records.now in
+        result ≡ first_of (duty_where (has_step t.clock) (λ e. Duty.Exec node e.task) agent.now.executors) }
+{
+    what_is_found_is_the_first_duty();
+    match agent.step_due(records.now()) {
+        Some(task) => Some(Duty::Exec(node, task)),
+        None => None,
+    }
+}
+
+fn has_task(records: &Records, task: Id) -> bool
+    ensures { result ≡ has_row task_id task (tables_of records.now).tasks }
+{
+    records.task(task).is_some()
+}
+
+// The first that has news of a task that is there.
+fn first_report(records: &Records, sent: &Sents, node: Id, agent: &Agent) -> Option<Duty>
+    requires { RisesFrom executor_task 0 agent.now.executors }
+    ensures { let w = looked_at (tables_of records.now) sent.now in
+        result ≡ first_of (report_duties w (at_node node agent.now) true) }
+{
+    let mut after = 0;
+    while let Some((task, _)) = agent.report_due(after) {
+        if has_task(records, task) {
+            return Some(Duty::Report(node, task));
+        }
+        after = task;
+    }
+    None
+}
+
+// The first that is forgotten.
+fn first_forgotten(node: Id, agent: &Agent) -> Option<Duty>
+    ensures { result ≡ first_of (duty_where is_forgotten (λ e. Duty.Forget node e.task) agent.now.executors) }
+{
+    what_is_found_is_the_first_duty();
+    match agent.forget_due() {
+        Some(task) => Some(Duty::Forget(node, task)),
+        None => None,
+    }
+}
+
+// The first about executors, behind their steps.
+fn first_told(records: &Records, sent: &Sents, node: Id, agent: &Agent, live: bool) -> Option<Duty>
+    requires { RisesFrom executor_task 0 agent.now.executors }
+    ensures { let w = looked_at (tables_of records.now) sent.now in let a = at_node node agent.now in
+        result ≡ first_of (report_duties w a live
+        ++ duty_where is_forgotten (λ e. Duty.Forget node e.task) a.executors) }
+{
+    if live {
+        if let Some(duty) = first_report(records, sent, node, agent) {
+            return Some(duty);
+        }
+    }
+    first_forgotten(node, agent)
+}
+
+// The first about executors.
+fn first_executed(
+    records: &Records,
+    sent: &Sents,
+    node: Id,
+    agent: &Agent,
+    live: bool,
+) -> Option<Duty>
+    requires { RisesFrom executor_task 0 agent.now.executors }
+    ensures { let t = tables_of records.now in
+        let w = looked_at t sent.now in let a = at_node node agent.now in
+        result ≡ first_of (duty_where (has_step t.clock) (λ e. Duty.Exec node e.task) a.executors
+        ++ report_duties w a live
+        ++ duty_where is_forgotten (λ e. Duty.Forget node e.task) a.executors) }
+{
+    match first_step(records, node, agent) {
+        Some(duty) => Some(duty),
+        None => first_told(records, sent, node, agent, live),
+    }
+}
+
+// The first behind that about the session.
+fn first_within(
+    records: &Records,
+    sent: &Sents,
+    node: Id,
+    agent: &Agent,
+    live: bool,
+) -> Option<Duty>
+    requires usable { IsUsable (tables_of records.now) }
+    requires rises { RisesFrom executor_task 0 agent.now.executors }
+    ensures { let t = tables_of records.now in
+        let w = looked_at t sent.now in let a = at_node node agent.now in
+        result ≡ first_of (inbox_duties w a live a.inbox
+        ++ duty_where (has_step t.clock) (λ e. Duty.Exec node e.task) a.executors
+        ++ report_duties w a live
+        ++ duty_where is_forgotten (λ e. Duty.Forget node e.task) a.executors) }
+{
+    match inbox_duty(records, sent, node, agent, live) {
+        Some(duty) => Some(duty),
+        None => first_executed(records, sent, node, agent, live),
+    }
+}
+
+// The first of an agent that is on, whose session is live or isn't.
+fn first_on(records: &Records, sent: &Sents, node: Id, agent: &Agent, live: bool) -> Option<Duty>
+    requires usable { IsUsable (tables_of records.now) }
+    requires rises { RisesFrom executor_task 0 agent.now.executors }
+    ensures { let w = looked_at (tables_of records.now) sent.now in
+        result ≡ first_of (duties_on w (at_node node agent.now) live) }
+{
+    match session_duty(records, sent, node, agent, live) {
+        Some(duty) => Some(duty),
+        None => first_within(records, sent, node, agent, live),
+    }
+}
+
+// The first of the node's agent.
+fn agent_first(records: &Records, sent: &Sents, node: Id, agent: &Agent) -> Option<Duty>
+    requires usable { IsUsable (tables_of records.now) }
+    requires rises { RisesFrom executor_task 0 agent.now.executors }
+    ensures { let w = looked_at (tables_of records.now) sent.now in
+        result ≡ first_of (agent_duties w (at_node node agent.now)) }
+{
+    if is_on(agent) {
+        first_on(records, sent, node, agent, records.session_live(node))
+    } else {
+        None
+    }
+}
+
+/// The first duty of the agents' loop.
+pub fn agents_first(records: &Records, sent: &Sents, agents: &Agents) -> Option<Duty>
+    requires usable { IsUsable (tables_of records.now) }
+    requires rises { EachRises agents.now }
+    ensures { let w = looked_at (tables_of records.now) sent.now in
+        result ≡ first_of (flat_map (agent_duties w) agents.now) }
+{
+    times_that_no_step_looks_at();
+    for (node, agent) in agents.iter() {
+        match agent_first(records, sent, *node, agent) {
+            Some(duty) => return Some(duty),
+            None => {}
+        }
+    }
+    None
+}

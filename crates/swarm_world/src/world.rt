@@ -1,0 +1,269 @@
+// The world with its history.
+ghost use Rattle.std.specs.Prelude.{◌≡◌, ◌<◌, [], IfOk, false, length};
+ghost use Rattle.swarm_objects.specs.CallWords.{is_halt};
+ghost use Rattle.swarm_model.specs.History.{IsLegal, replay};
+ghost use Rattle.swarm_model.specs.Settle.{settle_answer};
+ghost use Rattle.swarm_objects.specs.Duties.{duties};
+ghost use Rattle.swarm_objects.specs.Rows.{first_of};
+ghost use Rattle.swarm_objects.specs.Usable.{IsUsable};
+ghost use Rattle.swarm_world.specs.Inside.Records.{tables_of};
+ghost use Rattle.swarm_world.specs.Laws.{IsLawful};
+ghost use Rattle.swarm_world.specs.Work.{Calls, Turns};
+
+use crate::parts::Parts;
+use crate::records::Records;
+use crate::turns::Turn;
+use std::alloc::Global;
+use std::marker::Model;
+use swarm_objects::limits::MOST_ENTRIES;
+use swarm_objects::{
+    Call, Duty, Entry, Id, Ms, Network, NoMemory, Node, Place, Refusal, Reply, Role, Rows, Service,
+    Settings, Settle, Task, Version, What,
+};
+use turn_cell::Counted;
+
+/// The world with its history. Contracts see the history: the world is its replay.
+#[derive(Drop)]
+pub struct World {
+    parts: Parts,
+    history: Vec<Entry>,
+}
+
+impl Model for World {
+    ghost use Rattle.std.specs.Prelude.{List};
+    ghost use Rattle.swarm_objects.specs.declared.calls.Entry.{Entry};
+    ghost use Rattle.swarm_world.specs.Inside.Kept.{IsKept};
+
+    ghost Value = { List Entry };
+
+    ghost view = { λ w. w.history.items };
+
+    ghost invariant = { IsKept };
+}
+
+impl World {
+    /// The empty history, with room for Halt.
+    pub fn new(alloc: Global) -> Result<World, NoMemory>
+        ensures { IfOk result (λ world. world ≡ []) }
+    {
+        let Ok(history) = Vec::with_capacity(alloc, 1) else {
+            return Err(NoMemory);
+        };
+        let Ok(parts) = Parts::new(alloc) else {
+            return Err(NoMemory);
+        };
+        Ok(World { parts, history })
+    }
+
+    // The rows that control loops read.
+    fn rows(&self) -> &Records
+        ensures tables { tables_of result.now ≡ (replay self.now).tables }
+        ensures usable { IsUsable (tables_of result.now) }
+    {
+        &self.parts.records
+    }
+
+    // The first duty of the control loop.
+    fn first(&self, role: Role) -> Option<Duty>
+        ensures { result ≡ first_of (duties role (replay self.now)) }
+    {
+        self.parts.first(role)
+    }
+
+    // Appends Halt to a history without it. It takes no memory.
+    fn halt(&mut self, by: u64) -> Reply
+        requires { (replay self.old).halted ≡ false }
+        ensures calls { Calls by Call.Halt self.old self.new result }
+        ensures legal { IsLegal self.new }
+    {
+        self.parts.halt();
+        let entry = Entry {
+            by,
+            what: What::Call(Call::Halt),
+        };
+        match self.history.push(entry) {
+            Ok(()) => Reply::HaltDone,
+            Err(_) => unreachable!(),
+        }
+    }
+
+    // Appends another call, where memory is there.
+    fn append(&mut self, by: u64, call: Call) -> Reply
+        requires running { (replay self.old).halted ≡ false }
+        requires room { length self.old < 300000 }
+        requires other { is_halt call ≡ false }
+        ensures calls { Calls by call self.old self.new result }
+        ensures legal { IsLegal self.new }
+    {
+        // an entry and Halt
+        let Ok(()) = self.history.reserve(2) else {
+            return Reply::Refused(Refusal::NoMemory);
+        };
+        let version = self.history.len() as u64 + 1;
+        let Ok(reply) = self.parts.enter(version, &call) else {
+            return Reply::Refused(Refusal::NoMemory);
+        };
+        let entry = Entry {
+            by,
+            what: What::Call(call),
+        };
+        match self.history.push(entry) {
+            Ok(()) => reply,
+            Err(_) => unreachable!(),
+        }
+    }
+
+    /// The caller's call. It is the next entry, or `Halted`, `Full` or `NoMemory` says why it is none.
+    #[tactic(auto, using(crate::proofs::Lawful::lawful))]
+    pub fn call(&mut self, by: u64, call: Call) -> Reply
+        ensures calls { Calls by call self.old self.new result }
+        ensures lawful { IsLawful self.new }
+    {
+        if self.parts.halted {
+            return Reply::Refused(Refusal::Halted);
+        }
+        let count = self.history.len() as u64;
+        match call {
+            Call::Halt => self.halt(by),
+            _ if count >= MOST_ENTRIES => Reply::Refused(Refusal::Full(count)),
+            other => self.append(by, other),
+        }
+    }
+
+    /// The caller does the first duty of the control loop.
+    #[tactic(auto, using(crate::proofs::Lawful::lawful))]
+    pub fn turn(&mut self, by: u64, role: Role) -> Turn
+        ensures turns { Turns by role self.old self.new result }
+        ensures lawful { IsLawful self.new }
+    {
+        if self.parts.halted {
+            return Turn::Halted;
+        }
+        let count = self.history.len() as u64;
+        if count >= MOST_ENTRIES {
+            return Turn::Full(count);
+        }
+        let Some(duty) = self.first(role) else {
+            return Turn::Idle;
+        };
+        // an entry and Halt
+        let Ok(()) = self.history.reserve(2) else {
+            return Turn::NoMemory;
+        };
+        let Ok(()) = self.parts.take(count + 1, role, duty) else {
+            return Turn::NoMemory;
+        };
+        let entry = Entry {
+            by,
+            what: What::Duty(duty),
+        };
+        match self.history.push(entry) {
+            Ok(()) => Turn::Did(duty),
+            Err(_) => unreachable!(),
+        }
+    }
+
+    /// The settle test: the first duty of the first control loop that has one; else what is waited for, held or paused,
+    /// or that all is settled. Then what runs matches the specifications. It takes no memory.
+    #[tactic(auto, using(crate::proofs::Lawful::lawful))]
+    pub fn settled(&self) -> Settle
+        ensures answer { result ≡ settle_answer (replay self.now) }
+        ensures lawful { IsLawful self.now }
+    {
+        self.parts.settled()
+    }
+
+    /// All entries, in order.
+    #[tactic(auto, using(crate::proofs::Lawful::lawful))]
+    pub fn history(&self) -> &[Entry]
+        ensures entries { result.now ≡ self.now }
+        ensures lawful { IsLawful self.now }
+    {
+        self.history.as_slice()
+    }
+
+    /// How many entries there are.
+    #[tactic(auto, using(crate::proofs::Lawful::lawful))]
+    pub fn len(&self) -> u64
+        ensures count { result ≡ length self.now }
+        ensures lawful { IsLawful self.now }
+    {
+        self.history.len() as u64
+    }
+}
+
+impl Counted for World {
+    type Item = Entry;
+
+    ghost entries = { λ w. w };
+
+    ghost caller = { λ e. e.by };
+
+    fn count(&self) -> u64 {
+        self.len()
+    }
+}
+
+impl Rows for World {
+    ghost tables = { λ h. (replay h).tables };
+
+    fn now(&self) -> Ms {
+        self.rows().now()
+    }
+
+    fn next_id(&self) -> Id {
+        self.rows().next_id()
+    }
+
+    fn settings(&self) -> Settings {
+        self.rows().settings()
+    }
+
+    fn node(&self, id: Id) -> Option<&Node> {
+        self.rows().node(id)
+    }
+
+    fn service(&self, id: Id) -> Option<&Service> {
+        self.rows().service(id)
+    }
+
+    fn task(&self, id: Id) -> Option<&Task> {
+        self.rows().task(id)
+    }
+
+    fn network(&self, id: Id) -> Option<&Network> {
+        self.rows().network(id)
+    }
+
+    fn next_node(&self, after: Id) -> Option<&Node> {
+        self.rows().next_node(after)
+    }
+
+    fn next_service(&self, after: Id) -> Option<&Service> {
+        self.rows().next_service(after)
+    }
+
+    fn next_task(&self, after: Id) -> Option<&Task> {
+        self.rows().next_task(after)
+    }
+
+    fn next_network(&self, after: Id) -> Option<&Network> {
+        self.rows().next_network(after)
+    }
+
+    fn next_task_of(&self, service: Id, after: Id) -> Option<&Task> {
+        self.rows().next_task_of(service, after)
+    }
+
+    fn next_task_on(&self, node: Id, after: Id) -> Option<&Task> {
+        self.rows().next_task_on(node, after)
+    }
+
+    fn session_live(&self, node: Id) -> bool {
+        self.rows().session_live(node)
+    }
+
+    fn attempts(&self, service: Id, place: Place, version: Version, window: Ms) -> u64 {
+        self.rows().attempts(service, place, version, window)
+    }
+}
