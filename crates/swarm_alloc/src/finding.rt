@@ -68,8 +68,8 @@ fn has_free_addresses<R: Rows>(rows: &R, networks: &[Id]) -> bool
         .all(|network| has_free_address(rows, *network))
 }
 
-// The task can get its addresses.
-fn gets_address<R: Rows>(rows: &R, task: &Task) -> bool
+/// The task can get its addresses.
+pub fn gets_address<R: Rows>(rows: &R, task: &Task) -> bool
     requires { IsUsable (R.tables rows.now) }
     ensures { result ≡ gets_address (R.tables rows.now) task.now }
 {
@@ -150,8 +150,8 @@ pub fn same_note(one: Note, two: Note) -> bool
     }
 }
 
-// The task can get no address, for another reason than its note says.
-fn wants_note<R: Rows>(rows: &R, task: &Task) -> bool
+/// The task can get no address, for another reason than its note says.
+pub fn wants_note<R: Rows>(rows: &R, task: &Task) -> bool
     requires { IsUsable (R.tables rows.now) }
     ensures { result ≡ wants_note (R.tables rows.now) task.now }
 {
@@ -164,8 +164,8 @@ fn wants_note<R: Rows>(rows: &R, task: &Task) -> bool
     }
 }
 
-// The first port of the service that can get a number.
-fn port_of<R: Rows>(rows: &R, service: &Service) -> Option<Duty>
+/// The first port of the service that can get a number.
+pub fn port_of<R: Rows>(rows: &R, service: &Service) -> Option<Duty>
     requires { IsUsable (R.tables rows.now) }
     ensures { result ≡ first_of (port_duties (R.tables rows.now) service.now) }
 {

@@ -9,6 +9,6 @@ mod pooling;
 mod ports;
 
 pub use changing::changes;
-pub use finding::{has_numbered_ports, least, same_note};
+pub use finding::{gets_address, has_numbered_ports, least, port_of, same_note, wants_note};
 pub use free_numbers::holds_address;
 pub use ports::is_unnumbered;

@@ -26,8 +26,8 @@ fn is_missing<R: Rows>(rows: &R, service: &Service, node: &Node) -> bool
     wants_here(service, node) && !is_held_place(rows, service, node.id)
 }
 
-// The first node that the service comes to.
-fn come_of<R: Rows>(rows: &R, service: &Service) -> Option<Duty>
+/// The first node that the service comes to.
+pub fn come_of<R: Rows>(rows: &R, service: &Service) -> Option<Duty>
     requires { IsUsable (R.tables rows.now) }
     ensures { result ≡ first_of (come_duties (R.tables rows.now) service.now service.now.spec.mode) }
 {

@@ -34,8 +34,8 @@ fn is_to_leave<R: Rows>(rows: &R, service: &Service, node: Id) -> bool
     is_held_place(rows, service, node) && !may_stay_on(rows, service, node)
 }
 
-// The first node that the service leaves.
-fn leave_of<R: Rows>(rows: &R, service: &Service) -> Option<Duty>
+/// The first node that the service leaves.
+pub fn leave_of<R: Rows>(rows: &R, service: &Service) -> Option<Duty>
     requires { IsUsable (R.tables rows.now) }
     ensures { result ≡ first_of (leave_duties (R.tables rows.now) service.now service.now.spec.mode) }
 {

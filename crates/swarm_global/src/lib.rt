@@ -13,8 +13,8 @@ ghost use Rattle.swarm_objects.specs.Usable.{IsUsable};
 use crate::coming::first_come;
 use crate::leaving::first_leave;
 pub use changing::changes;
-pub use coming::wants_here;
-pub use leaving::may_stay_on;
+pub use coming::{come_of, wants_here};
+pub use leaving::{leave_of, may_stay_on};
 use swarm_objects::{Duty, Rows};
 
 /// The first duty on global services.

@@ -10,9 +10,8 @@ ghost use Rattle.swarm_objects.specs.Loops.Words.{duty_where};
 ghost use Rattle.swarm_objects.specs.Rows.{first_of};
 ghost use Rattle.swarm_objects.specs.Usable.{IsUsable};
 
-use crate::slots::next_duty;
 pub use changing::changes;
-pub use slots::is_old_of;
+pub use slots::{is_old_of, next_duty};
 use swarm_objects::walks::{services, tasks};
 use swarm_objects::{Duty, Rows, Task};
 

@@ -17,13 +17,13 @@ ghost use Rattle.swarm_objects.specs.Loops.Words.{duty_where};
 ghost use Rattle.swarm_objects.specs.Rows.{first_of};
 ghost use Rattle.swarm_objects.specs.Usable.{IsUsable};
 
-use crate::slots::{create_duty, down_duty};
 pub use changing::changes;
+pub use slots::{create_duty, down_duty};
 use swarm_objects::walks::{services, tasks};
 use swarm_objects::{Duty, Rows, Task};
 
-// The service of the task is gone, and the task isn't to be removed yet.
-fn is_gone<R: Rows>(rows: &R, task: &Task) -> bool
+/// The service of the task is gone, and the task isn't to be removed yet.
+pub fn is_gone<R: Rows>(rows: &R, task: &Task) -> bool
     ensures { result ≡ is_gone (R.tables rows.now) task.now }
 {
     !task.has_service(rows) && task.is_kept()

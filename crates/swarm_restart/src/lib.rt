@@ -12,11 +12,10 @@ ghost use Rattle.swarm_objects.specs.Loops.Words.{duty_where};
 ghost use Rattle.swarm_objects.specs.Rows.{first_of};
 ghost use Rattle.swarm_objects.specs.Usable.{IsUsable};
 
-use crate::waiting::wants_raise;
 pub use changing::changes;
 use swarm_objects::walks::tasks;
 use swarm_objects::{Duty, Rows};
-pub use waiting::{holds_up, is_current, wants_restart};
+pub use waiting::{holds_up, is_current, wants_raise, wants_restart};
 
 // The first live task that is over.
 fn first_restart<R: Rows>(rows: &R) -> Option<Duty>

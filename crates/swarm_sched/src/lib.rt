@@ -46,8 +46,8 @@ fn explanation<R: Rows>(rows: &R, task: &Task) -> Option<Duty>
     }
 }
 
-// What there is to do about the task.
-fn schedule<R: Rows>(rows: &R, task: &Task) -> Option<Duty>
+/// What there is to do about the task.
+pub fn schedule<R: Rows>(rows: &R, task: &Task) -> Option<Duty>
     requires { IsUsable (R.tables rows.now) }
     ensures { result ≡ first_of (schedule (R.tables rows.now) task.now) }
 {

@@ -104,9 +104,9 @@ fn run_duty<R: Rows>(rows: &R, service: &Service) -> Option<Duty>
     }
 }
 
-// What there is to do about the service.
+/// What there is to do about the service.
 #[tactic(auto, using(crate::proofs::Steps::first_steps))]
-fn update_duty<R: Rows>(rows: &R, service: &Service) -> Option<Duty>
+pub fn update_duty<R: Rows>(rows: &R, service: &Service) -> Option<Duty>
     requires { IsUsable (R.tables rows.now) }
     ensures { result ≡ first_of (update_duties (R.tables rows.now) service.now service.now.spec.mode) }
 {

@@ -16,8 +16,8 @@ pub fn breaks_constraints(task: &Task, node: &Node) -> bool
     !meets_all(task.template.constraints.as_slice(), node)
 }
 
-// It is live, on a node that doesn't meet its constraints any more.
-fn is_misplaced<R: Rows>(rows: &R, task: &Task) -> bool
+/// It is live, on a node that doesn't meet its constraints any more.
+pub fn is_misplaced<R: Rows>(rows: &R, task: &Task) -> bool
     ensures { result ≡ is_misplaced (R.tables rows.now) task.now }
 {
     task.is_live()

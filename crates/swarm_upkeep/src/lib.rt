@@ -6,5 +6,5 @@ mod enforcing;
 mod reaping;
 
 pub use changing::changes;
-pub use enforcing::{breaks_constraints, least_enforcer};
-pub use reaping::{is_past, is_removable, least_reaper};
+pub use enforcing::{breaks_constraints, is_misplaced, least_enforcer};
+pub use reaping::{is_past, is_removable, is_trimmed_past, least_reaper};

@@ -124,8 +124,8 @@ fn first_removable<R: Rows>(rows: &R) -> Option<Duty>
     None
 }
 
-// It ended and was to stop, and is the oldest such one of its place. What the task itself shows is looked at first.
-fn is_trimmed_past<R: Rows>(rows: &R, task: &Task) -> bool
+/// It ended and was to stop, and is the oldest such one of its place. What the task itself shows is looked at first.
+pub fn is_trimmed_past<R: Rows>(rows: &R, task: &Task) -> bool
     requires { IsUsable (R.tables rows.now) }
     ensures { result ≡ (is_past task.now && is_trimmed (R.tables rows.now) task.now) }
 {
