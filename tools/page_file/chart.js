@@ -227,9 +227,12 @@ class Chart {
     const chosen = bar.life === this.chosen;
     if (!chosen && !this.layout.size.text) return;
     const right = ended && ended.from < bar.shownTo ? xOf(this.axis, ended.from) + END : this.end(bar.shownTo);
+    // around what is chosen, so that its colours stay in sight
+    const outside = chosen ? 1 : -0.5;
     context.strokeStyle = chosen ? INK : "#1d273340";
     context.lineWidth = chosen ? 2 : 1;
-    context.strokeRect(left + 0.5, top + 0.5, Math.max(right - left, 3) - 1, this.layout.size.track - 3);
+    const [width, height] = [Math.max(right - left, 3), this.layout.size.track - 2];
+    context.strokeRect(left - outside, top - outside, width + 2 * outside, height + 2 * outside);
   }
 
   labelsOf(lane, bar) {
