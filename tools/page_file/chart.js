@@ -1,6 +1,6 @@
 // The lanes on a canvas: only what can be seen is drawn.
 
-const SCRIPT = 52; // the height of the lines of the script above the lanes
+const SCRIPT = 58; // the height of the lines of the script above the lanes
 const SCRIPT_ROWS = 3;
 const END = 5; // the width of the block at which a task ends
 
