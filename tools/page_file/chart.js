@@ -106,7 +106,7 @@ class Chart {
     context.save();
     context.translate(0, SCRIPT - top);
     const seen = layout.lanes.filter((lane) => lane.top + lane.height > top && lane.top < bottom);
-    seen.forEach((lane) => this.drawLane(lane));
+    seen.forEach((lane) => this.drawLane(lane, top, bottom));
     context.restore();
     this.drawScript();
     this.drawCursor();
@@ -118,19 +118,19 @@ class Chart {
     this.context.clip();
   }
 
-  drawLane(lane) {
-    const { context, frame, width } = this;
+  drawLane(lane, from, to) {
+    const { context, width } = this;
     context.fillStyle = INK;
     context.font = `600 12px ${FONT}`;
     context.textBaseline = "middle";
     // the name stays in sight as long as its lane does
-    const middle = Math.min(Math.max(lane.top, frame.scrollTop) + 12, lane.top + lane.height - 8);
+    const middle = Math.min(Math.max(lane.top, from) + 12, lane.top + lane.height - 8);
     context.fillText(shortened(context, lane.name, LABELS - 20), 10, middle);
     context.save();
     this.clipToPlot(lane.top, lane.height);
     lane.bands.forEach((band) => this.drawBand(lane, band));
     this.drawClockLines(lane.top, lane.height);
-    lane.tracks.forEach((bars, track) => this.drawTrack(lane, bars, track));
+    this.drawTracks(lane, from, to);
     lane.bands.forEach((band) => this.drawBandText(lane, band));
     const head = lane.top + lane.head / 2 + 1;
     lane.marks.forEach((mark) => drawMark(context, mark.kind, xOf(this.axis, mark.entry), head));
@@ -178,6 +178,13 @@ class Chart {
 
   end(entry) {
     return xOf(this.axis, Math.min(entry, this.history.count + 1));
+  }
+
+  // Those between two heights.
+  drawTracks(lane, from, to) {
+    const trackAt = (height) => (height - lane.top - lane.head) / this.layout.size.track;
+    const [first, last] = [Math.max(0, Math.floor(trackAt(from))), Math.ceil(trackAt(to))];
+    lane.tracks.slice(first, last).forEach((bars, i) => this.drawTrack(lane, bars, first + i));
   }
 
   drawTrack(lane, bars, track) {
