@@ -1,0 +1,14 @@
+pub mod Alike
+pub mod Blocked
+pub mod Firsts
+pub mod Grown
+pub mod InSpans
+pub mod Lines
+pub mod Made
+pub mod Moved
+pub mod Nexts
+pub mod Scheduling
+pub mod Services
+pub mod Told
+pub mod Touches
+pub mod Waiting

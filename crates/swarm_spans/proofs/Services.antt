@@ -1,0 +1,10 @@
+pub mod Alike
+pub mod GoesOn
+pub mod Held
+pub mod Outcomes
+pub mod Spans
+pub mod Tests
+pub mod Touching
+pub mod Trimmed
+pub mod Trimming
+pub mod Updated

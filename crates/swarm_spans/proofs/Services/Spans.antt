@@ -1,0 +1,253 @@
+-- All spans of the lines over services, over one list of changes.
+use Rattle.std.proofs.Common.{List, [], false, inl, inr, refl, subst, sym, true, ℕ, arith, ◌<◌, ◌≤◌, ◌-◌, ◌∷◌, ◌≡◌}
+use Rattle.std.proofs.lemmas.Bool.Decides.{nat_tests}
+use Rattle.std.specs.List.{list_any}
+use Rattle.std.specs.Prelude.{max, min, ◌^◌}
+use Rattle.swarm_objects.proofs.RowLemmas.{number_above}
+use Rattle.swarm_objects.specs.Bounds.{far_end}
+use Rattle.swarm_objects.specs.ChangeLists.{apply_changes}
+use Rattle.swarm_objects.specs.Loops.Allocator.{port_duties}
+use Rattle.swarm_objects.specs.Rows.{Has, IsBelow, row_at, service_id, task_id}
+use Rattle.swarm_objects.specs.Usable.{IsUsable}
+use Rattle.swarm_objects.specs.World.{Tables}
+use Rattle.swarm_objects.specs.declared.duties.Duty.{Duty}
+use Rattle.swarm_objects.specs.declared.rows.Change.{Change}
+use Rattle.swarm_objects.specs.declared.services.Service.{Service}
+use Rattle.swarm_objects.specs.declared.tasks.Task.{Task}
+use Rattle.swarm_spans.proofs.Services.GoesOn.{come_goes_on, create_goes_on, down_goes_on, leave_goes_on, next_goes_on, port_goes_on}
+use Rattle.swarm_spans.proofs.Services.Outcomes.{no-node-put, no-service-put, same-clock, same-settings}
+use Rattle.swarm_spans.proofs.Services.Touching.{number-wider, service_of-wider}
+use Rattle.swarm_spans.proofs.Services.Trimmed.{trim_goes_on}
+use Rattle.swarm_spans.proofs.Services.Updated.{update_goes_on}
+use Rattle.swarm_spans.specs.Services.Lines.{AreRising, MovedLaw, PlacedLaw, comes, creates, downs, job_creates, leaves, trims, updates}
+use Rattle.swarm_spans.specs.Services.Standings.{progress, standing}
+use Rattle.swarm_spans.specs.Services.Steps.{HasEach, HasRemains, HasShifted}
+use Rattle.swarm_spans.specs.Services.Touches.{AreCovered, Joins, JoinsForNodes, JoinsForPorts, puts_node, puts_service}
+use Rattle.swarm_spans.specs.Spans.{CoversServices, CoversTasks, IsWider, full, is_in}
+use Rattle.swarm_spans.specs.declared.service_spans.ServiceSpans.{ServiceSpans}
+use Rattle.swarm_spans.specs.declared.span.Span.{Span}
+
+-- Two spans as one.
+
+pub joined : (span more : Span)
+    → Joins (record { after = min span.after more.after; high = max span.high more.high }) span more
+joined span more = record {
+  span = record { has = λ id h. grind (arith, nat_tests, h) };
+  more = record { has = λ id h. grind (arith, nat_tests, h) };
+}
+
+pub nodes_full : (cs : List Change) (one span more : Span) → true ≡ list_any puts_node cs → one ≡ full
+    → JoinsForNodes cs one span more
+nodes_full cs one span more puts is = record { either = inl (sym puts, is) }
+
+pub nodes_joined : (cs : List Change) (one span more : Span) → false ≡ list_any puts_node cs → Joins one span more
+    → JoinsForNodes cs one span more
+nodes_joined cs one span more puts joins = record { either = inr (sym puts, joins) }
+
+pub ruleset node_steps = (nodes_full, nodes_joined)
+
+pub ports_full : (cs : List Change) (one span : Span) → true ≡ list_any puts_service cs → one ≡ full
+    → JoinsForPorts cs one span
+ports_full cs one span puts is = record { either = inl (sym puts, is) }
+
+pub ports_same : (cs : List Change) (span : Span) → false ≡ list_any puts_service cs → JoinsForPorts cs span span
+ports_same cs span puts = record { either = inr (sym puts, refl) }
+
+pub ruleset port_steps = (ports_full, ports_same)
+
+-- Every row is in the full span.
+
+is-below : {X : Type 0} (key : X → ℕ) (n : ℕ) (rows : List X) (x : X) → IsBelow key n rows → Has rows x → key x < n
+is-below key n [] x b h = absurd h
+is-below key n (y ∷ rows) x b (inl e) = subst (λ z. key z < n) e b.0
+is-below key n (y ∷ rows) x b (inr h) = is-below key n rows x b.1 h
+
+in-full : (id : ℕ) → 0 < id → id < 2 ^ 60 → is_in full id ≡ true
+in-full id above below =
+    let le : id ≤ 2 ^ 64 - 1 = omega (arith, below) in
+    grind (arith, nat_tests, above, le)
+
+near : (id bound : ℕ) → id < bound → bound < far_end → id < 2 ^ 60
+near id bound a b = omega (arith, a, b)
+
+pub each-full : (t : Tables) → IsUsable t → HasEach full t
+each-full t usable s h =
+    in-full s.id (number_above service_id 0 t.services s usable.sound.ordered.services h)
+    (near s.id t.next_id (is-below service_id t.next_id t.services s usable.sound.below.services h) usable.next_id)
+
+services-full : (line : Tables → Service → List Duty) (t : Tables) → IsUsable t → CoversServices line t full
+services-full line t usable = record { has = λ s h passes. each-full t usable s h }
+
+tasks-full : (line : Tables → Task → List Duty) (t : Tables) → IsUsable t → CoversTasks line t full
+tasks-full line t usable = record {
+  has = λ x h passes.
+      in-full x.id (number_above task_id 0 t.tasks x usable.sound.ordered.tasks h)
+      (near x.id t.next_id (is-below task_id t.next_id t.tasks x usable.sound.below.tasks h) usable.next_id);
+}
+
+pub all_full : (d c l m j p u r : Span) → d ≡ full → c ≡ full → l ≡ full → m ≡ full → j ≡ full → p ≡ full → u ≡ full
+    → r ≡ full → (t : Tables) → IsUsable t
+    → AreCovered t (record {
+      downs = d;
+      creates = c;
+      leaves = l;
+      comes = m;
+      job_creates = j;
+      ports = p;
+      updates = u;
+      trims = r;
+    })
+all_full d c l m j p u r ds cs ls ms js ps us rs t usable = record {
+  downs = subst (CoversServices downs t) (sym ds) (services-full downs t usable);
+  creates = subst (CoversServices creates t) (sym cs) (services-full creates t usable);
+  leaves = subst (CoversServices leaves t) (sym ls) (services-full leaves t usable);
+  comes = subst (CoversServices comes t) (sym ms) (services-full comes t usable);
+  job_creates = subst (CoversServices job_creates t) (sym js) (services-full job_creates t usable);
+  ports = subst (CoversServices port_duties t) (sym ps) (services-full port_duties t usable);
+  updates = subst (CoversServices updates t) (sym us) (services-full updates t usable);
+  trims = subst (CoversTasks trims t) (sym rs) (tasks-full trims t usable);
+}
+
+-- A wider span covers too.
+
+wider-covers : (line : Tables → Service → List Duty) (t : Tables) (span wide : Span) → IsWider wide span
+    → CoversServices line t span → CoversServices line t wide
+wider-covers line t span wide w c = record { has = λ x h e. w.has x.id (c.has x h e) }
+
+pub shifted-wider : {S : Type 0} (show : Task → S) (t u : Tables) (span wide : Span) → IsWider wide span
+    → HasShifted show span t u → HasShifted show wide t u
+shifted-wider show t u span wide w has = record {
+  services = record {
+    rows = λ id.
+        elim (has.services.rows id) [
+          | inl same ↦ inl same
+          | inr in-span ↦ inr (number-wider id span wide w in-span)
+        ];
+  };
+  tasks = λ id.
+      elim (has.tasks id) [
+        | inl same ↦ inl same
+        | inr two ↦ inr (
+          service_of-wider (row_at task_id id t.tasks) span wide w two.0,
+          service_of-wider (row_at task_id id u.tasks) span wide w two.1,
+        )
+      ];
+}
+
+nodes-cover : (line : Tables → Service → List Duty) (t : Tables) (cs : List Change) (one span moved : Span)
+    → IsUsable t → JoinsForNodes cs one span moved → CoversServices line t span → CoversServices line t one
+nodes-cover line t cs one span moved usable joins c =
+    elim joins.either [
+      | inl two ↦ subst (CoversServices line t) (sym two.1) (services-full line t usable)
+      | inr two ↦ wider-covers line t span one two.1.span c
+    ]
+
+ports-cover : (t : Tables) (cs : List Change) (one span : Span) → IsUsable t → JoinsForPorts cs one span
+    → CoversServices port_duties t span → CoversServices port_duties t one
+ports-cover t cs one span usable joins c =
+    elim joins.either [
+      | inl two ↦ subst (CoversServices port_duties t) (sym two.1) (services-full port_duties t usable)
+      | inr two ↦ subst (CoversServices port_duties t) (sym two.1) c
+    ]
+
+-- After the changes.
+
+rising : (t u : Tables) → IsUsable t → IsUsable u → AreRising t u
+rising t u before after = record {
+  before = before.sound.ordered.tasks;
+  after = after.sound.ordered.tasks;
+  services = after.sound.ordered.services;
+}
+
+moved-on : (line : Tables → Service → List Duty) (t u : Tables) (one span moved : Span) → MovedLaw line → IsUsable t
+    → IsUsable u → HasShifted standing moved t u → Joins one span moved → CoversServices line t span
+    → CoversServices line u one
+moved-on line t u one span moved law before after has joins c =
+    law t u one (rising t u before after) (shifted-wider standing t u moved one joins.more has)
+    (wider-covers line t span one joins.span c)
+
+placed-on : (line : Tables → Service → List Duty) (t : Tables) (cs : List Change) (one span moved : Span)
+    → PlacedLaw line → IsUsable t → IsUsable (apply_changes t cs) → HasShifted standing moved t (apply_changes t cs)
+    → JoinsForNodes cs one span moved → CoversServices line t span → CoversServices line (apply_changes t cs) one
+placed-on line t cs one span moved law before after has joins c =
+    elim joins.either [
+      | inl two ↦
+          subst (CoversServices line (apply_changes t cs)) (sym two.1) (services-full line (apply_changes t cs) after)
+      | inr two ↦
+          law t (apply_changes t cs) one (rising t (apply_changes t cs) before after)
+          (shifted-wider standing t (apply_changes t cs) moved one two.1.more has)
+          (record { nodes = inl (no-node-put t cs two.0) }) (wider-covers line t span one two.1.span c)
+    ]
+
+ports-on : (t : Tables) (cs : List Change) (one span : Span) → IsUsable (apply_changes t cs)
+    → JoinsForPorts cs one span → CoversServices port_duties t span
+    → CoversServices port_duties (apply_changes t cs) one
+ports-on t cs one span after joins c =
+    elim joins.either [
+      | inl two ↦
+          subst (CoversServices port_duties (apply_changes t cs)) (sym two.1)
+          (services-full port_duties (apply_changes t cs) after)
+      | inr two ↦
+          port_goes_on t (apply_changes t cs) one (record { services = inl (no-service-put t cs two.0) })
+          (subst (CoversServices port_duties t) (sym two.1) c)
+    ]
+
+pub covered_stays : (t : Tables) (cs : List Change) (b : ServiceSpans) (moved d c l m j p u r : Span) → IsUsable t
+    → AreCovered t b → Joins d b.downs moved → Joins c b.creates moved → JoinsForNodes cs l b.leaves moved
+    → JoinsForNodes cs m b.comes moved → Joins j b.job_creates moved → JoinsForPorts cs p b.ports
+    → IsWider u b.updates → IsWider r b.trims
+    → AreCovered t (record {
+      downs = d;
+      creates = c;
+      leaves = l;
+      comes = m;
+      job_creates = j;
+      ports = p;
+      updates = u;
+      trims = r;
+    })
+covered_stays t cs b moved d c l m j p u r usable are ds crs ls ms js ps us rs = record {
+  downs = wider-covers downs t b.downs d ds.span are.downs;
+  creates = wider-covers creates t b.creates c crs.span are.creates;
+  leaves = nodes-cover leaves t cs l b.leaves moved usable ls are.leaves;
+  comes = nodes-cover comes t cs m b.comes moved usable ms are.comes;
+  job_creates = wider-covers job_creates t b.job_creates j js.span are.job_creates;
+  ports = ports-cover t cs p b.ports usable ps are.ports;
+  updates = wider-covers updates t b.updates u us are.updates;
+  trims = record { has = λ x h e. rs.has x.id (are.trims.has x h e) };
+}
+
+pub covered_on : (t : Tables) (cs : List Change) (b : ServiceSpans) (moved d c l m j p u r : Span) → IsUsable t
+    → AreCovered t b → HasShifted standing moved t (apply_changes t cs) → Joins d b.downs moved
+    → Joins c b.creates moved → JoinsForNodes cs l b.leaves moved → JoinsForNodes cs m b.comes moved
+    → Joins j b.job_creates moved → JoinsForPorts cs p b.ports → IsWider u b.updates
+    → HasShifted (progress t) u t (apply_changes t cs) → IsWider r b.trims → HasRemains r t (apply_changes t cs)
+    → IsUsable (apply_changes t cs)
+    → AreCovered (apply_changes t cs) (record {
+      downs = d;
+      creates = c;
+      leaves = l;
+      comes = m;
+      job_creates = j;
+      ports = p;
+      updates = u;
+      trims = r;
+    })
+covered_on t cs b moved d c l m j p u r usable are has ds crs ls ms js ps us progressed rs remain after = record {
+  downs = moved-on downs t (apply_changes t cs) d b.downs moved down_goes_on usable after has ds are.downs;
+  creates = moved-on creates t (apply_changes t cs) c b.creates moved create_goes_on usable after has crs are.creates;
+  leaves = placed-on leaves t cs l b.leaves moved leave_goes_on usable after has ls are.leaves;
+  comes = placed-on comes t cs m b.comes moved come_goes_on usable after has ms are.comes;
+  job_creates =
+      moved-on job_creates t (apply_changes t cs) j b.job_creates moved next_goes_on usable after has js
+      are.job_creates;
+  ports = ports-on t cs p b.ports after ps are.ports;
+  updates =
+      update_goes_on t (apply_changes t cs) u (rising t (apply_changes t cs) usable after) (same-clock t cs) progressed
+      (wider-covers updates t b.updates u us are.updates);
+  trims =
+      trim_goes_on t (apply_changes t cs) r (rising t (apply_changes t cs) usable after) (same-settings t cs) remain
+      (record { has = λ x h e. rs.has x.id (are.trims.has x h e) });
+}
+
+pub ruleset touch_steps = (covered_stays, covered_on)

@@ -1,0 +1,208 @@
+-- What there is to do about a service's update, by its own tasks.
+use Rattle.std.proofs.Common.{Bool, List, None, Option, Some, [], ap, cond, false, inl, inr, refl, sym, true, ℕ, ◌∙◌, ◌+◌, ◌*◌, ◌++◌, ◌∷◌, ◌≡◌, arith}
+use Rattle.std.proofs.lemmas.Bool.Decides.{nat_tests}
+use Rattle.std.specs.List.{list_all, list_any}
+use Rattle.std.specs.Prelude.{is_some, map, nat_lt, not, ◌&&◌, ◌||◌, ◌==◌}
+use Rattle.swarm_objects.proofs.PlaceLemmas.{and_left, count_again, in_place_of_service}
+use Rattle.swarm_objects.proofs.RowLemmas.{Has-filter_cases, sum_by-same}
+use Rattle.swarm_objects.specs.Loops.Update.{is_watched, open_duties, run_duties, update_duties}
+use Rattle.swarm_objects.specs.Loops.Words.{places_where, when}
+use Rattle.swarm_objects.specs.Rows.{Has, first_of, is_some_and, row_at, service_id}
+use Rattle.swarm_objects.specs.Services.Runs.{counts_as_failure, fails, failures, goes_on, has_open_run, in_flight, is_failure, is_flying, is_in_flight, is_of_version, is_present, is_under_way}
+use Rattle.swarm_objects.specs.Services.Words.{is_dirty, is_job, is_live_clean, is_live_dirty}
+use Rattle.swarm_objects.specs.Same.{same_template}
+use Rattle.swarm_objects.specs.Tasks.Places.{closes_dirty, has_dirty_place, is_dirty_place, is_in_place, newest, place_at, place_numbers, place_tasks, tasks_of_place}
+use Rattle.swarm_objects.specs.Tasks.Words.{is_live, is_of, is_running}
+use Rattle.swarm_objects.specs.World.{Tables, empty_tables}
+use Rattle.swarm_objects.specs.declared.duties.Duty.TheVariants as duty
+use Rattle.swarm_objects.specs.declared.services.Mode.{Mode}
+use Rattle.swarm_objects.specs.declared.services.Mode.TheVariants as mode
+use Rattle.swarm_objects.specs.declared.services.Replaced.{Replaced}
+use Rattle.swarm_objects.specs.declared.services.Service.{Service}
+use Rattle.swarm_objects.specs.declared.services.UpdateRun.{UpdateRun}
+use Rattle.swarm_objects.specs.declared.tasks.Task.{Task}
+use Rattle.swarm_objects.specs.declared.templates.Template.{Template}
+use Rattle.swarm_spans.proofs.Services.Alike.{Reads, any-alike, filter-alike, last-alike, map-alike, some-alike}
+use Rattle.swarm_spans.proofs.Services.GoesOn.{goes-on}
+use Rattle.swarm_spans.proofs.Services.Held.{closes-read, live-read, numbers-alike, numbers-of, own, place-read}
+use Rattle.swarm_spans.specs.Services.Lines.{UpdateLaw, updates}
+use Rattle.swarm_spans.specs.Services.Standings.{Progress, Standing, is_updated, progress, standing}
+
+-- With a run under way: all by the service's tasks and the time.
+
+abbrev alone : List Task → ℕ → Tables
+alone tasks clock = record empty_tables { clock = clock; tasks = tasks }
+
+abbrev by-own : Tables → Service → Tables
+by-own t s = alone (own t s) t.clock
+
+place-alone : (t : Tables) (s : Service) (k : ℕ) → place_tasks (by-own t s) s k ≡ place_tasks t s k
+place-alone t s k = in_place_of_service s (place_at s.spec.mode k) t.tasks
+
+failures-alone : (t : Tables) (s : Service) (run : UpdateRun) → failures (by-own t s) s run ≡ failures t s run
+failures-alone t s run =
+    count_again (is_failure s run) (is_of s.id) t.tasks
+    (λ x e. and_left (is_of s.id x) (x.born == run.version)
+    (and_left (is_of s.id x && x.born == run.version) (counts_as_failure x.state)
+    (and_left (is_of s.id x && x.born == run.version && counts_as_failure x.state)
+    (nat_lt x.since (x.created + s.spec.update.monitor)) e)))
+
+fails-alone : (t : Tables) (s : Service) (run : UpdateRun) → fails (by-own t s) s run ≡ fails t s run
+fails-alone t s run =
+    ap (λ n. is_present s run && not (goes_on s.spec.update.action)
+    && nat_lt (s.spec.update.ratio * run.total) (1000 * n)) (failures-alone t s run)
+
+in-flight-alone : (t : Tables) (s : Service) (item : Replaced)
+    → is_in_flight (by-own t s) s item ≡ is_in_flight t s item
+in-flight-alone t s item = ap (list_any (is_flying t s)) (in_place_of_service s item.place t.tasks)
+
+flying-alone : (t : Tables) (s : Service) (run : UpdateRun) → in_flight (by-own t s) s run ≡ in_flight t s run
+flying-alone t s run =
+    sum_by-same (λ i. cond (is_in_flight (by-own t s) s i) 1 0) (λ i. cond (is_in_flight t s i) 1 0) run.replaced
+    (λ i. ap {B = ℕ} (λ b. cond b 1 0) (in-flight-alone t s i))
+
+dirty-alone : (t : Tables) (s : Service) (k : ℕ) → is_dirty_place (by-own t s) s k ≡ is_dirty_place t s k
+dirty-alone t s k =
+    ap (λ xs. list_any (is_live_dirty s) xs || (not (list_any is_live xs) && is_some_and (closes_dirty s) (newest xs)))
+    (place-alone t s k)
+
+has-dirty-alone : (t : Tables) (s : Service) → has_dirty_place (by-own t s) s ≡ has_dirty_place t s
+has-dirty-alone t s = λ i. list_any (λ k. dirty-alone t s k i) (numbers-of s t.tasks i)
+
+open-alone : (t : Tables) (s : Service) (run : UpdateRun) → open_duties (by-own t s) s run ≡ open_duties t s run
+open-alone t s run = λ i.
+    when (fails-alone t s run i) (duty.Fail s.id)
+    ++ places_where (is_of_version s run)
+    (λ k. list_any (λ x. is_live_clean s x && is_running x) (place-alone t s k i)
+    && list_any (is_live_dirty s) (place-alone t s k i))
+    (duty.Swap s.id) (numbers-of s t.tasks i)
+    ++ places_where
+    (is_of_version s run
+    && ((s.spec.update.parallelism == 0 || nat_lt (flying-alone t s run i) s.spec.update.parallelism)
+    && not (fails-alone t s run i)))
+    (λ k. dirty-alone t s k i && not (list_any (is_live_clean s) (place-alone t s k i)))
+    (duty.Replace s.id) (numbers-of s t.tasks i)
+    ++ when (not (has-dirty-alone t s i) && list_all (is_watched t s) run.replaced && not (fails-alone t s run i))
+    (duty.Finish s.id)
+
+run-alone : (t : Tables) (s : Service) (o : Option UpdateRun) → run_duties (by-own t s) s o ≡ run_duties t s o
+run-alone t s None = refl
+run-alone t s (Some run) = ap (λ ds. cond (is_under_way run) ds []) (open-alone t s run)
+
+update-alone : (t : Tables) (s : Service) (m : Mode) → update_duties (by-own t s) s m ≡ update_duties t s m
+update-alone t s (mode.Replicated n) = λ i.
+    when (has-dirty-alone t s i && not (is_some_and (is_of_version s) s.run)) (duty.Start s.id)
+    ++ run-alone t s s.run i
+update-alone t s mode.Global = λ i.
+    when (has-dirty-alone t s i && not (is_some_and (is_of_version s) s.run)) (duty.Start s.id)
+    ++ run-alone t s s.run i
+update-alone t s (mode.Job concurrent total) = refl
+
+-- the whole of a task whose service has one
+whole-is : (t : Tables) (x y : Task) → is_updated t x ≡ true → is_updated t y ≡ true → progress t x ≡ progress t y
+    → x ≡ y
+whole-is t x y one two e =
+    let whole : cond (is_updated t x) (Some x) None ≡ cond (is_updated t y) (Some y) None = ap (λ (p : Progress). p.whole) e in
+    go (is_updated t x) (is_updated t y) one two whole
+  where
+    go : (a b : Bool) → a ≡ true → b ≡ true → cond a (Some x) None ≡ cond b (Some y) None → x ≡ y
+    go true true p q k = cc
+    go false b p q k = absurd cc
+    go true false p q k = absurd cc
+
+wholes-are : (t : Tables) (xs ys : List Task) → ((x : Task) → Has xs x → is_updated t x ≡ true)
+    → ((y : Task) → Has ys y → is_updated t y ≡ true) → map (progress t) xs ≡ map (progress t) ys → xs ≡ ys
+wholes-are t [] [] one two e = refl
+wholes-are t [] (y ∷ ys) one two e = absurd cc
+wholes-are t (x ∷ xs) [] one two e = absurd cc
+wholes-are t (x ∷ xs) (y ∷ ys) one two e =
+    let head : progress t x ≡ progress t y = cc in
+    let tail : map (progress t) xs ≡ map (progress t) ys = cc in
+    ap (λ z. z ∷ xs) (whole-is t x y (one x (inl refl)) (two y (inl refl)) head)
+    ∙ ap (λ zs. y ∷ zs) (wholes-are t xs ys (λ z h. one z (inr h)) (λ z h. two z (inr h)) tail)
+
+own-updated : (t u : Tables) (s : Service) → row_at service_id s.id t.services ≡ Some s → has_open_run s ≡ true
+    → (x : Task) → Has (own u s) x → is_updated t x ≡ true
+own-updated t u s row runs x h =
+    let of : is_of s.id x ≡ true = (Has-filter_cases (is_of s.id) u.tasks x h).1 in
+    let same : x.service ≡ s.id = grind (arith, nat_tests, of) in
+    ap (λ k. is_some_and has_open_run (row_at service_id k t.services)) same ∙ ap (is_some_and has_open_run) row ∙ runs
+
+-- With none: all by how the tasks stand and by their templates.
+
+abbrev laid : Task → Standing × Template
+laid x = (standing x, x.template)
+
+standing-laid : Reads laid standing
+standing-laid x y e = ap (λ (p : Standing × Template). p.0) e
+
+dirty-read : (s : Service) → Reads laid (is_dirty s)
+dirty-read s x y e =
+    ap (λ (p : Standing × Template).
+    not (same_template p.1 s.spec.template && (not (is_job s.spec.mode) || p.0.iteration == s.iteration))) e
+
+dirty-alike : (s : Service) (k : ℕ) (xs ys : List Task) → map laid xs ≡ map laid ys
+    → is_dirty_place (alone xs 0) s k ≡ is_dirty_place (alone ys 0) s k
+dirty-alike s k xs ys e =
+    let p = place_at s.spec.mode k in
+    let placed =
+    filter-alike laid (λ x. is_in_place s p x) xs ys (λ x y h. place-read s p x y (standing-laid x y h)) e in
+    let some =
+    any-alike laid (is_live_dirty s) (tasks_of_place s p xs) (tasks_of_place s p ys)
+    (λ x y h i. live-read x y (standing-laid x y h) i && dirty-read s x y h i) placed in
+    let live =
+    any-alike laid is_live (tasks_of_place s p xs) (tasks_of_place s p ys)
+    (λ x y h. live-read x y (standing-laid x y h)) placed in
+    let last =
+    some-alike laid (closes_dirty s) (newest (tasks_of_place s p xs)) (newest (tasks_of_place s p ys))
+    (λ x y h i. closes-read x y (standing-laid x y h) i && dirty-read s x y h i)
+    (last-alike laid None None (tasks_of_place s p xs) (tasks_of_place s p ys) refl placed) in
+    λ i. some i || (not (live i) && last i)
+
+has-dirty-same : (t u : Tables) (s : Service) → map laid (own u s) ≡ map laid (own t s)
+    → has_dirty_place u s ≡ has_dirty_place t s
+has-dirty-same t u s e =
+    sym (has-dirty-alone u s) ∙ between ∙ has-dirty-alone t s
+  where
+    numbers : place_numbers (alone (own u s) 0) s ≡ place_numbers (alone (own t s) 0) s
+    numbers = numbers-alike s (own u s) (own t s) (map-alike laid standing (own u s) (own t s) standing-laid e)
+
+    between : has_dirty_place (by-own u s) s ≡ has_dirty_place (by-own t s) s
+    between = λ i. list_any (λ k. dirty-alike s k (own u s) (own t s) e i) (numbers i)
+
+unrun : (t : Tables) (s : Service) (o : Option UpdateRun) → is_some_and is_under_way o ≡ false → run_duties t s o ≡ []
+unrun t s None e = refl
+unrun t s (Some run) e = ap (λ b. cond b (open_duties t s run) []) e
+
+unrun-same : (t u : Tables) (s : Service) (m : Mode) → has_open_run s ≡ false
+    → map laid (own u s) ≡ map laid (own t s) → update_duties u s m ≡ update_duties t s m
+unrun-same t u s (mode.Replicated n) e same = λ i.
+    when (has-dirty-same t u s same i && not (is_some_and (is_of_version s) s.run)) (duty.Start s.id)
+    ++ (unrun u s s.run e ∙ sym (unrun t s s.run e)) i
+unrun-same t u s mode.Global e same = λ i.
+    when (has-dirty-same t u s same i && not (is_some_and (is_of_version s) s.run)) (duty.Start s.id)
+    ++ (unrun u s s.run e ∙ sym (unrun t s s.run e)) i
+unrun-same t u s (mode.Job concurrent total) e same = refl
+
+laid-read : (t : Tables) → Reads (progress t) laid
+laid-read t x y e = ap (λ (p : Progress). (p.standing, p.template)) e
+
+update-same : (t u : Tables) (s : Service) → u.clock ≡ t.clock → row_at service_id s.id t.services ≡ Some s
+    → map (progress t) (own u s) ≡ map (progress t) (own t s) → update_duties u s s.spec.mode
+    ≡ update_duties t s s.spec.mode
+update-same t u s clock row e = go (has_open_run s) refl
+  where
+    go : (b : Bool) → has_open_run s ≡ b → update_duties u s s.spec.mode ≡ update_duties t s s.spec.mode
+    go false none =
+        unrun-same t u s s.spec.mode none (map-alike (progress t) laid (own u s) (own t s) (laid-read t) e)
+    go true runs =
+        let lists : own u s ≡ own t s =
+        wholes-are t (own u s) (own t s) (own-updated t u s row runs) (own-updated t t s row runs) e in
+        sym (update-alone u s s.spec.mode)
+        ∙ (λ i. update_duties (alone (lists i) (clock i)) s s.spec.mode)
+        ∙ update-alone t s s.spec.mode
+
+pub update_goes_on : UpdateLaw
+update_goes_on t u span rising clock moved c =
+    goes-on (progress t) updates t u span (λ x y e. ap (λ (p : Progress). p.standing.service) e) rising
+    moved.services moved.tasks (λ s row e. ap (λ ds. is_some (first_of ds)) (update-same t u s clock row e)) c

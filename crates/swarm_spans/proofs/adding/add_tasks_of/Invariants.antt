@@ -1,0 +1,8 @@
+use Rattle.std.specs.Prelude.{filter}
+use Rattle.swarm_spans.specs.Grown.{Adding}
+use Rattle.swarm_objects.specs.Tasks.Words.{is_of}
+use Rattle.swarm_spans.proofs.adding.add_tasks_of.Given as goal
+
+abbrev pub invariant-loop-task : goal.invariant-loop-task
+invariant-loop-task g l =
+    Adding (filter (is_of l.service) (g.R.Rows.tables l.rows).tasks) l.task-iterator l.initial.span l.span

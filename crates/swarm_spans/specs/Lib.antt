@@ -1,0 +1,9 @@
+pub mod Blocked
+pub mod Grown
+pub mod Kept
+pub mod Lines
+pub mod Moved
+pub mod Services
+pub mod Spans
+pub mod Told
+pub mod Touched

@@ -1,0 +1,4 @@
+pub mod Lines
+pub mod Standings
+pub mod Steps
+pub mod Touches

@@ -1,0 +1,45 @@
+// Spans over the lines of duties: what lets a step of a world cost what changed, and not what is there.
+//
+// A *line* is a part of a loop's list of duties that goes row by row over one table. For each line a world keeps a span
+// of numbers in which every row with a duty of the line has its id. The line's first duty is found by trying the rows
+// of its span in order; those without a duty leave the span. A step widens the spans by the rows whose duties may have
+// appeared. A span takes no memory, so none of this can fail.
+//
+// This crate stands below those of the loops. So what there is to do for a row comes by a trait (`TaskLine`,
+// `ServiceLine`, `NodeLine`), which the world gives for each line by the loop's own question of one row.
+//
+// A commit of a list of changes touches each line's span before it applies them, with the rows as they are: by
+// `touch_tasks` with what the line reads (`reads`), and by `touch_blocked` and `touch_moved` where other rows may let a
+// waiting task go on. Those two take the span of all that wait, which is kept like a line of its own. Afterwards the
+// lines' laws (`tasks_go_on`, `waiting_go_on`) say that each span covers in the tables that the changes made. What
+// else changes (clock, settings, sessions, networks, rows that calls make or remove) makes the spans that read it full;
+// a session that begins, is lengthened or ends adds its node to the nodes' line. Where only a step's events are known,
+// `events_tell_all` says that what they don't name is as it was.
+#![tactic(auto)]
+
+mod adding;
+mod blocking;
+mod first;
+mod laws;
+mod next;
+pub mod reads;
+mod service_laws;
+mod service_spans;
+mod service_touches;
+mod service_trims;
+mod span;
+mod touching;
+
+pub use adding::{add_tasks_of, add_tasks_on};
+pub use blocking::{touch_blocked, touch_moved};
+pub use first::{
+    NodeLine, ServiceLine, TaskLine, first_of_nodes, first_of_services, first_of_tasks,
+};
+pub use laws::{events_tell_all, tasks_go_on, waiting_go_on};
+pub use next::{next_node_in, next_service_in, next_task_in};
+pub use service_laws::{places_go_on, slots_go_on, upkeep_goes_on};
+pub use service_spans::ServiceSpans;
+pub use service_touches::{Places, Sight, Updates, add_shifted};
+pub use service_trims::add_remains;
+pub use span::Span;
+pub use touching::{NodeReads, ServiceReads, TaskReads, touch_nodes, touch_tasks};

@@ -1,0 +1,131 @@
+// The spans of the lines over services, and what changes touch of them.
+ghost use Rattle.std.specs.Prelude.{◌≡◌};
+ghost use Rattle.std.specs.List.{list_any};
+ghost use Rattle.swarm_objects.specs.ChangeLists.{apply_changes};
+ghost use Rattle.swarm_objects.specs.Usable.{IsUsable};
+ghost use Rattle.swarm_objects.specs.World.{Tables};
+ghost use Rattle.swarm_spans.specs.Services.Touches.{AreCovered, Joins, JoinsForNodes, JoinsForPorts, puts_node, puts_service};
+
+use crate::service_touches::{Places, Updates, add_shifted};
+use crate::service_trims::add_remains;
+use crate::span::Span;
+use swarm_objects::{Change, Rows};
+
+/// A span for each line over services, and for the line over old tasks.
+#[derive(Clone, Copy, Drop)]
+pub struct ServiceSpans {
+    pub downs: Span,
+    pub creates: Span,
+    pub leaves: Span,
+    pub comes: Span,
+    pub job_creates: Span,
+    pub ports: Span,
+    pub updates: Span,
+    pub trims: Span,
+}
+
+// A node is put.
+fn puts_node(change: &Change) -> bool
+    ensures { result ≡ puts_node change.now }
+{
+    matches!(change, Change::PutNode(_))
+}
+
+// A service is put.
+fn puts_service(change: &Change) -> bool
+    ensures { result ≡ puts_service change.now }
+{
+    matches!(change, Change::PutService(_))
+}
+
+fn put_nodes(changes: &[Change]) -> bool
+    ensures { result ≡ list_any puts_node changes.now }
+{
+    changes.iter().any(puts_node)
+}
+
+fn put_services(changes: &[Change]) -> bool
+    ensures { result ≡ list_any puts_service changes.now }
+{
+    changes.iter().any(puts_service)
+}
+
+// The numbers of both, and what lies between.
+#[tactic(auto, using(crate::proofs::Services::Spans::joined))]
+fn joined(span: Span, more: Span) -> Span
+    ensures { Joins result span more }
+{
+    Span {
+        after: span.after.min(more.after),
+        high: span.high.max(more.high),
+    }
+}
+
+// The same, for a line that reads nodes: a node that is put may concern every service.
+#[tactic(auto, using(crate::proofs::Services::Spans::node_steps))]
+fn joined_for_nodes(changes: &[Change], span: Span, more: Span) -> Span
+    ensures { JoinsForNodes changes.now result span more }
+{
+    if put_nodes(changes) {
+        return Span::full();
+    }
+    joined(span, more)
+}
+
+// For the line over ports: a service that is put may set a number free for every other.
+#[tactic(auto, using(crate::proofs::Services::Spans::port_steps))]
+fn joined_for_ports(changes: &[Change], span: Span) -> Span
+    ensures { JoinsForPorts changes.now result span }
+{
+    if put_services(changes) {
+        return Span::full();
+    }
+    span
+}
+
+impl ServiceSpans {
+    /// Every row may have a duty: after a call, or where settings, networks or the set of rows changed otherwise than
+    /// by changes of the loops.
+    #[tactic(auto, using(crate::proofs::Services::Spans::all_full))]
+    pub fn full() -> ServiceSpans
+        ensures covers { (t : Tables) → IsUsable t → AreCovered t result }
+    {
+        ServiceSpans {
+            downs: Span::full(),
+            creates: Span::full(),
+            leaves: Span::full(),
+            comes: Span::full(),
+            job_creates: Span::full(),
+            ports: Span::full(),
+            updates: Span::full(),
+            trims: Span::full(),
+        }
+    }
+
+    /// With what these changes touch: asked before they are made. The spans then cover the rows as they are, and as the
+    /// changes make them.
+    #[tactic(auto, using(crate::proofs::Services::Spans::touch_steps))]
+    pub fn touched<R: Rows>(self, rows: &R, changes: &[Change]) -> ServiceSpans
+        requires usable { IsUsable (R.tables rows.now) }
+        requires covers { AreCovered (R.tables rows.now) self }
+        ensures stays { AreCovered (R.tables rows.now) result }
+        ensures goes_on { let u = apply_changes (R.tables rows.now) changes.now in IsUsable u → AreCovered u result }
+    {
+        let mut moved = Span::empty();
+        add_shifted::<Places, R>(rows, changes, &mut moved);
+        let mut updates = self.updates;
+        add_shifted::<Updates, R>(rows, changes, &mut updates);
+        let mut trims = self.trims;
+        add_remains(rows, changes, &mut trims);
+        ServiceSpans {
+            downs: joined(self.downs, moved),
+            creates: joined(self.creates, moved),
+            leaves: joined_for_nodes(changes, self.leaves, moved),
+            comes: joined_for_nodes(changes, self.comes, moved),
+            job_creates: joined(self.job_creates, moved),
+            ports: joined_for_ports(changes, self.ports),
+            updates,
+            trims,
+        }
+    }
+}
