@@ -9,7 +9,7 @@ use Rattle.swarm_objects.proofs.SameLemmas.{Decides-option_eq, Decides-same_numb
 use Rattle.swarm_objects.proofs.Tests.{both, both_are, has-any, never-both, same_bool_is, some-and}
 use Rattle.swarm_objects.specs.ChangeLists.{apply_change, apply_changes, put_task}
 use Rattle.swarm_objects.specs.Nodes.Words.{is_valid_node}
-use Rattle.swarm_objects.specs.Rows.{Has, has_row, node_id, put_row, row_at, task_id}
+use Rattle.swarm_objects.specs.Rows.{Has, has_row, node_id, put_row, RisesFrom, row_at, task_id}
 use Rattle.swarm_objects.specs.Same.{same_bool, same_number, same_place}
 use Rattle.swarm_objects.specs.Tasks.New.{with_task}
 use Rattle.swarm_objects.specs.Tasks.Words.{is_to_wait}
@@ -22,8 +22,9 @@ use Rattle.swarm_spans.proofs.Lines.{has-when}
 use Rattle.swarm_spans.proofs.Made.{nodes-made}
 use Rattle.swarm_spans.specs.Blocked.{BlockedLaw, still_blocks, unblocks}
 use Rattle.swarm_spans.specs.Kept.{IsAlike}
-use Rattle.swarm_spans.specs.Lines.{AlikeValid, blocks, KeepsBlocked, KeepsBlockedOn, StillBlocks}
-use Rattle.swarm_spans.specs.Spans.{is_in}
+use Rattle.swarm_spans.specs.Lines.{AlikeValid, blocks, KeepsBlocked, KeepsBlockedOn, StillBlocks, to_wait}
+use Rattle.swarm_spans.specs.Spans.{CoversTasks, is_in, IsWider}
+use Rattle.swarm_spans.specs.declared.span.Span.{Span}
 
 -- A task that was there is there after the changes, as it was or as one put it, or one drops it.
 
@@ -113,8 +114,10 @@ still-is z y e =
       (Decides-option_eq same_number Decides-same_number y.node z.node).0 node.1,
     )
 
-pub blocked_keeps : BlockedLaw
-blocked_keeps t u cs waiting wide rises makes c wider = go (list_any (unblocks t) cs) refl
+pub blocked_kept : (t u : Tables) (cs : List Change) (waiting wide : Span) → RisesFrom task_id 0 t.tasks
+    → apply_changes t cs ≡ u → CoversTasks to_wait t waiting → (list_any (unblocks t) cs ≡ true → IsWider wide waiting)
+    → KeepsBlocked t u wide × KeepsBlockedOn t u wide
+blocked_kept t u cs waiting wide rises gives c wider = go (list_any (unblocks t) cs) refl
   where
     waits : (x : Task) → Has t.tasks x → is_to_wait x ≡ true → list_any (unblocks t) cs ≡ true
         → is_in wide x.id ≡ true
@@ -136,7 +139,7 @@ blocked_keeps t u cs waiting wide rises makes c wider = go (list_any (unblocks t
             let k = still-is z w s in (
               w,
               record {
-                is = subst (λ v. Has v.tasks w) makes.gives now;
+                is = subst (λ v. Has v.tasks w) gives now;
                 id = id;
                 service = k.1;
                 place = k.2;
@@ -154,7 +157,7 @@ blocked_keeps t u cs waiting wide rises makes c wider = go (list_any (unblocks t
         by (inl (w, now, id, inl same)) = (
           w,
           record {
-            is = subst (λ v. Has v.tasks w) makes.gives now;
+            is = subst (λ v. Has v.tasks w) gives now;
             id = id;
             service = ap (λ v. v.service) same;
             place = ap (λ v. v.place) same;
@@ -183,9 +186,9 @@ blocked_keeps t u cs waiting wide rises makes c wider = go (list_any (unblocks t
             ⊎ ((a m : Node) × (row_at node_id n t.nodes ≡ Some a) × (m.id ≡ n) × Has cs (change.PutNode m)
             × (row_at node_id n (apply_changes t cs).nodes ≡ Some m)))
             → IsAlike AlikeValid (row_at node_id n t.nodes) (row_at node_id n u.nodes)
-        by (inl same) = inl (ap (λ v. row_at node_id n v.nodes) (sym makes.gives) ∙ same)
+        by (inl same) = inl (ap (λ v. row_at node_id n v.nodes) (sym gives) ∙ same)
         by (inr (a, m, was, id, has, now)) =
-            put a m was id has (ap (λ v. row_at node_id n v.nodes) (sym makes.gives) ∙ now)
+            put a m was id has (ap (λ v. row_at node_id n v.nodes) (sym gives) ∙ now)
             (same_bool (is_valid_node a) (is_valid_node m)) refl
 
     go : (b : Bool) → list_any (unblocks t) cs ≡ b → KeepsBlocked t u wide × KeepsBlockedOn t u wide
@@ -197,3 +200,6 @@ blocked_keeps t u cs waiting wide rises makes c wider = go (list_any (unblocks t
       record { beside = λ x z h w there beside b. inr (still e z there b) },
       record { beside = λ x z n h w there beside b on. inr (valid e n) },
     )
+
+pub blocked_keeps : BlockedLaw
+blocked_keeps t u cs waiting wide rises makes = blocked_kept t u cs waiting wide rises makes.gives

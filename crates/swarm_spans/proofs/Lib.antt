@@ -9,6 +9,7 @@ pub mod Moved
 pub mod Nexts
 pub mod Scheduling
 pub mod Services
+pub mod TasksCovered
 pub mod Told
 pub mod Touches
 pub mod Waiting

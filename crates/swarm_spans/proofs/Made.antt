@@ -4,7 +4,7 @@ use Rattle.std.proofs.lemmas.Bool.Decides.{nat_tests}
 use Rattle.std.specs.Option.{option_map}
 use Rattle.std.specs.Prelude.{◌==◌, if◌then◌else◌, not}
 use Rattle.swarm_objects.proofs.RowLemmas.{Has-append_cases, Has-filter_cases, Has-from_row_at, Has-map_cases, number_above, row_at-map, row_at-Some}
-use Rattle.swarm_objects.specs.ChangeLists.{apply_change, apply_changes, Makes, put_task}
+use Rattle.swarm_objects.specs.ChangeLists.{apply_change, apply_changes, put_task}
 use Rattle.swarm_objects.specs.Nodes.Words.{is_ready}
 use Rattle.swarm_objects.specs.Rows.{Has, has_row, node_id, put_row, RisesFrom, row_at, service_id, task_id}
 use Rattle.swarm_objects.specs.Tasks.New.{with_task}
@@ -14,10 +14,10 @@ use Rattle.swarm_objects.specs.declared.rows.Change.{Change}
 use Rattle.swarm_objects.specs.declared.rows.Change.TheVariants as change
 use Rattle.swarm_objects.specs.declared.services.Service.{Service}
 use Rattle.swarm_objects.specs.declared.tasks.Task.{Task}
-use Rattle.swarm_spans.specs.Kept.{IsAlike, KeepsNodes, KeepsServices, KeepsTasks, Stays}
+use Rattle.swarm_spans.specs.Kept.{IsAlike, KeepsNodes, KeepsOwnNodes, KeepsServices, KeepsTasks, Stays}
 use Rattle.swarm_spans.specs.Spans.{is_in}
 use Rattle.swarm_spans.specs.Lines.{AlikeReady}
-use Rattle.swarm_spans.specs.Touched.{ReadyLaw, TouchesAll}
+use Rattle.swarm_spans.specs.Touched.{ReadyLaw, TouchesAll, TouchesAllReady}
 use Rattle.swarm_spans.specs.declared.span.Span.{Span}
 
 -- A task that is there after one change was put by it, or was there.
@@ -184,23 +184,23 @@ nodes-made = rows-made node_id (λ t. t.nodes) change.PutNode nodes-step
 
 -- What the laws ask for.
 
-pub made_tasks : (may : Task → Bool) (AlikeTask : Task → Task → Type 0) (AlikeService : Service → Service → Type 0)
+pub tasks_kept : (may : Task → Bool) (AlikeTask : Task → Task → Type 0) (AlikeService : Service → Service → Type 0)
     (AlikeNode : Node → Node → Type 0) (t u : Tables) (cs : List Change) (wide : Span) → RisesFrom task_id 0 t.tasks
-    → RisesFrom task_id 0 u.tasks → Makes t cs u → TouchesAll may AlikeTask AlikeService AlikeNode t wide cs
+    → RisesFrom task_id 0 u.tasks → apply_changes t cs ≡ u → TouchesAll may AlikeTask AlikeService AlikeNode t wide cs
     → KeepsTasks may AlikeTask t u wide
-made_tasks may AlikeTask AlikeService AlikeNode t u cs wide before after makes touches = record {
+tasks_kept may AlikeTask AlikeService AlikeNode t u cs wide before after gives touches = record {
   own = λ y h can.
-      elim (put-or-was cs t y (subst (λ v. Has v.tasks y) (sym makes.gives) h)) [
+      elim (put-or-was cs t y (subst (λ v. Has v.tasks y) (sym gives) h)) [
         | inl put ↦
             ((touches.each (change.PutTask y) put).task y refl).own (number_above task_id 0 u.tasks y after h) can
         | inr was ↦ inr (inl (sym (row_at-Some task_id 0 t.tasks y before was)))
       ];
 }
 
-pub made_services : (may : Task → Bool) (AlikeTask : Task → Task → Type 0) (AlikeService : Service → Service → Type 0)
-    (AlikeNode : Node → Node → Type 0) (t u : Tables) (cs : List Change) (wide : Span) → Makes t cs u
+pub services_kept : (may : Task → Bool) (AlikeTask : Task → Task → Type 0) (AlikeService : Service → Service → Type 0)
+    (AlikeNode : Node → Node → Type 0) (t u : Tables) (cs : List Change) (wide : Span) → apply_changes t cs ≡ u
     → TouchesAll may AlikeTask AlikeService AlikeNode t wide cs → KeepsServices AlikeService t u wide
-made_services may AlikeTask AlikeService AlikeNode t u cs wide makes touches = record {
+services_kept may AlikeTask AlikeService AlikeNode t u cs wide gives touches = record {
   of = λ x y stays. go x y stays (services-made cs t y.service);
 }
   where
@@ -210,19 +210,19 @@ made_services may AlikeTask AlikeService AlikeNode t u cs wide makes touches = r
         × Has cs (change.PutService s) × (row_at service_id y.service (apply_changes t cs).services ≡ Some s)))
         → (is_in wide y.id ≡ true)
         ⊎ IsAlike AlikeService (row_at service_id y.service t.services) (row_at service_id y.service u.services)
-    go x y stays (inl e) = inr (inl (ap (λ v. row_at service_id y.service v.services) (sym makes.gives) ∙ e))
+    go x y stays (inl e) = inr (inl (ap (λ v. row_at service_id y.service v.services) (sym gives) ∙ e))
     go x y stays (inr (a, s, was, id, has, now)) =
         elim (((touches.each (change.PutService s) has).service s refl).of a x
         (ap (λ k. row_at service_id k t.services) id ∙ was) stays.was (sym stays.service ∙ sym id)) [
           | inl i ↦ inl (subst (λ k. is_in wide k ≡ true) stays.id i)
           | inr alike ↦
-              inr (inr (a, s, was, ap (λ v. row_at service_id y.service v.services) (sym makes.gives) ∙ now, alike))
+              inr (inr (a, s, was, ap (λ v. row_at service_id y.service v.services) (sym gives) ∙ now, alike))
         ]
 
-pub made_nodes : (may : Task → Bool) (AlikeTask : Task → Task → Type 0) (AlikeService : Service → Service → Type 0)
-    (AlikeNode : Node → Node → Type 0) (t u : Tables) (cs : List Change) (wide : Span) → Makes t cs u
+pub nodes_kept : (may : Task → Bool) (AlikeTask : Task → Task → Type 0) (AlikeService : Service → Service → Type 0)
+    (AlikeNode : Node → Node → Type 0) (t u : Tables) (cs : List Change) (wide : Span) → apply_changes t cs ≡ u
     → TouchesAll may AlikeTask AlikeService AlikeNode t wide cs → KeepsNodes AlikeNode t u wide
-made_nodes may AlikeTask AlikeService AlikeNode t u cs wide makes touches = record {
+nodes_kept may AlikeTask AlikeService AlikeNode t u cs wide gives touches = record {
   on = λ x y n stays on. go x y n stays on (nodes-made cs t n);
 }
   where
@@ -231,21 +231,22 @@ made_nodes may AlikeTask AlikeService AlikeNode t u cs wide makes touches = reco
         ⊎ ((a m : Node) × (row_at node_id n t.nodes ≡ Some a) × (m.id ≡ n) × Has cs (change.PutNode m)
         × (row_at node_id n (apply_changes t cs).nodes ≡ Some m)))
         → (is_in wide y.id ≡ true) ⊎ IsAlike AlikeNode (row_at node_id n t.nodes) (row_at node_id n u.nodes)
-    go x y n stays on (inl e) = inr (inl (ap (λ v. row_at node_id n v.nodes) (sym makes.gives) ∙ e))
+    go x y n stays on (inl e) = inr (inl (ap (λ v. row_at node_id n v.nodes) (sym gives) ∙ e))
     go x y n stays on (inr (a, m, was, id, has, now)) =
         elim (((touches.each (change.PutNode m) has).node m refl).on a x
         (ap (λ k. row_at node_id k t.nodes) id ∙ was) stays.was (sym stays.node ∙ on ∙ ap Some (sym id))) [
           | inl i ↦ inl (subst (λ k. is_in wide k ≡ true) stays.id i)
-          | inr alike ↦ inr (inr (a, m, was, ap (λ v. row_at node_id n v.nodes) (sym makes.gives) ∙ now, alike))
+          | inr alike ↦ inr (inr (a, m, was, ap (λ v. row_at node_id n v.nodes) (sym gives) ∙ now, alike))
         ]
 
-pub ready_keeps : ReadyLaw
-ready_keeps t u cs wide rises makes touches = record {
+pub ready_kept : (t u : Tables) (cs : List Change) (wide : Span) → RisesFrom node_id 0 u.nodes → apply_changes t cs ≡ u
+    → TouchesAllReady wide cs → KeepsOwnNodes (λ n. is_ready n.state) AlikeReady t u wide
+ready_kept t u cs wide rises gives touches = record {
   own = λ m h ready. go m h ready (nodes-made cs t m.id);
 }
   where
     there : (m : Node) → Has u.nodes m → row_at node_id m.id (apply_changes t cs).nodes ≡ Some m
-    there m h = ap (λ v. row_at node_id m.id v.nodes) makes.gives ∙ row_at-Some node_id 0 u.nodes m rises h
+    there m h = ap (λ v. row_at node_id m.id v.nodes) gives ∙ row_at-Some node_id 0 u.nodes m rises h
 
     go : (m : Node) → Has u.nodes m → is_ready m.state ≡ true
         → ((row_at node_id m.id (apply_changes t cs).nodes ≡ row_at node_id m.id t.nodes)
@@ -258,3 +259,6 @@ ready_keeps t u cs wide rises makes touches = record {
         let same : k ≡ m = cc in
         inl ((touches.each (change.PutNode k) has).node m (ap change.PutNode same)
         (number_above node_id 0 u.nodes m rises h) ready)
+
+pub ready_keeps : ReadyLaw
+ready_keeps t u cs wide rises makes = ready_kept t u cs wide rises makes.gives

@@ -15,9 +15,12 @@ use Rattle.swarm_spans.proofs.Blocked.{left-all}
 use Rattle.swarm_spans.proofs.Lines.{has-when}
 use Rattle.swarm_spans.proofs.Made.{put-leaves, put-or-was}
 use Rattle.swarm_spans.proofs.Scheduling.{scheduled_as_before}
+use Rattle.swarm_spans.proofs.Services.Outcomes.{same-clock}
 use Rattle.swarm_spans.specs.Kept.{KeepsWhere}
-use Rattle.swarm_spans.specs.Lines.{is_to_schedule, ScheduledAsBefore}
+use Rattle.swarm_spans.specs.Lines.{is_to_schedule, ScheduledAsBefore, to_schedule}
 use Rattle.swarm_spans.specs.Moved.{MovedLaw, moves}
+use Rattle.swarm_spans.specs.Spans.{CoversTasks, IsWider}
+use Rattle.swarm_spans.specs.declared.span.Span.{Span}
 
 -- Rising lists with the same members are the same.
 
@@ -54,20 +57,9 @@ lists-same {X} key n m (x ∷ xs) (y ∷ ys) r q f g =
     joined : x ≡ y → xs ≡ ys → (x ∷ xs) ≡ (y ∷ ys)
     joined e k = ap (λ z. z ∷ xs) e ∙ ap (λ zs. y ∷ zs) k
 
--- Changes leave clock and sessions, and the nodes where none is put.
+-- Changes leave the sessions, and the nodes where none is put.
 
-clock-left : (cs : List Change) (t : Tables) → (apply_changes t cs).clock ≡ t.clock
-clock-left [] t = refl
-clock-left (c ∷ cs) t = clock-left cs (apply_change t c) ∙ one c
-  where
-    one : (c : Change) → (apply_change t c).clock ≡ t.clock
-    one (change.PutNode m) = refl
-    one (change.PutService s) = refl
-    one (change.PutTask x) = put-leaves (λ v. v.clock) t x refl refl
-    one (change.DropTask id) = refl
-    one (change.Keep a) = refl
-
-sessions-left : (cs : List Change) (t : Tables) → (apply_changes t cs).sessions ≡ t.sessions
+pub sessions-left : (cs : List Change) (t : Tables) → (apply_changes t cs).sessions ≡ t.sessions
 sessions-left [] t = refl
 sessions-left (c ∷ cs) t = sessions-left cs (apply_change t c) ∙ one c
   where
@@ -91,8 +83,11 @@ nodes-left (c ∷ cs) t none =
     one (change.DropTask id) never = refl
     one (change.Keep a) never = refl
 
-pub moved_keeps : MovedLaw
-moved_keeps t u cs waiting wide before after makes c wider = go (list_any (moves t) cs) refl
+pub moved_kept : (t u : Tables) (cs : List Change) (waiting wide : Span) → RisesFrom task_id 0 t.tasks
+    → RisesFrom task_id 0 u.tasks → apply_changes t cs ≡ u → CoversTasks to_schedule t waiting
+    → (list_any (moves t) cs ≡ true → IsWider wide waiting)
+    → KeepsWhere is_to_schedule (ScheduledAsBefore t u) t wide
+moved_kept t u cs waiting wide before after gives c wider = go (list_any (moves t) cs) refl
   where
     none : {A : Type 0} → list_any (moves t) cs ≡ false → (d : Change) → Has cs d → moves t d ≡ true → A
     none e d h k = never-both (list_any (moves t) cs) e (has-any (moves t) cs d h k)
@@ -101,7 +96,7 @@ moved_keeps t u cs waiting wide before after makes c wider = go (list_any (moves
         → Has (filter is_placed t.tasks) z
     placed-there e z h =
         let two = Has-filter_cases is_placed u.tasks z h in
-        elim (put-or-was cs t z (subst (λ v. Has v.tasks z) (sym makes.gives) two.0)) [
+        elim (put-or-was cs t z (subst (λ v. Has v.tasks z) (sym gives) two.0)) [
           | inl put ↦
               none e (change.PutTask z) put
               (or_left (is_placed z) (is_some_and is_placed (row_at task_id z.id t.tasks)) two.1)
@@ -123,7 +118,7 @@ moved_keeps t u cs waiting wide before after makes c wider = go (list_any (moves
                 → Has (filter is_placed u.tasks) z
             how (inl (w, now, id, inl same)) =
                 Has-filter is_placed u.tasks z
-                (subst (Has u.tasks) same (subst (λ v. Has v.tasks w) makes.gives now)) placed
+                (subst (Has u.tasks) same (subst (λ v. Has v.tasks w) gives now)) placed
             how (inl (w, now, id, inr has)) =
                 none e (change.PutTask w) has
                 (or_right (is_placed w) (is_some_and is_placed (row_at task_id w.id t.tasks))
@@ -138,10 +133,14 @@ moved_keeps t u cs waiting wide before after makes c wider = go (list_any (moves
     go false e = record {
       each = λ x h w.
           inr (scheduled_as_before t u
-          (ap (λ v. v.clock) (sym makes.gives) ∙ clock-left cs t)
-          (ap (λ v. v.nodes) (sym makes.gives) ∙ nodes-left cs t (λ m h. none e (change.PutNode m) h refl))
-          (ap (λ v. v.sessions) (sym makes.gives) ∙ sessions-left cs t)
+          (ap (λ v. v.clock) (sym gives) ∙ same-clock t cs)
+          (ap (λ v. v.nodes) (sym gives) ∙ nodes-left cs t (λ m h. none e (change.PutNode m) h refl))
+          (ap (λ v. v.sessions) (sym gives) ∙ sessions-left cs t)
           (lists-same task_id 0 0 (filter is_placed u.tasks) (filter is_placed t.tasks)
           (RisesFrom-filter task_id 0 is_placed u.tasks after) (RisesFrom-filter task_id 0 is_placed t.tasks before)
           (placed-there e) (placed-still e)) x);
     }
+
+pub moved_keeps : MovedLaw
+moved_keeps t u cs waiting wide before after makes =
+    moved_kept t u cs waiting wide before after makes.gives

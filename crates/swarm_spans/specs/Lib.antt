@@ -5,5 +5,6 @@ pub mod Lines
 pub mod Moved
 pub mod Services
 pub mod Spans
+pub mod TasksCovered
 pub mod Told
 pub mod Touched

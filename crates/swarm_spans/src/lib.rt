@@ -11,10 +11,11 @@
 // A commit of a list of changes touches each line's span before it applies them, with the rows as they are: by
 // `touch_tasks` with what the line reads (`reads`), and by `touch_blocked` and `touch_moved` where other rows may let a
 // waiting task go on. Those two take the span of all that wait, which is kept like a line of its own. Afterwards the
-// lines' laws (`tasks_go_on`, `waiting_go_on`) say that each span covers in the tables that the changes made. What
-// else changes (clock, settings, sessions, networks, rows that calls make or remove) makes the spans that read it full;
-// a session that begins, is lengthened or ends adds its node to the nodes' line. Where only a step's events are known,
-// `events_tell_all` says that what they don't name is as it was.
+// lines' laws (`tasks_go_on`, `waiting_go_on`) say that each span covers in the tables that the changes made.
+// `ServiceSpans` and `TaskSpans` have the spans of all lines, and do so for each of them (`touched`). Time and a node's
+// session are no rows: `with_time` and `with_session` say what they touch. What else changes (settings, networks, rows
+// that calls make or remove) makes all spans full. Where only a step's events are known, `events_tell_all` says that
+// what they don't name is as it was.
 #![tactic(auto)]
 
 mod adding;
@@ -28,6 +29,7 @@ mod service_spans;
 mod service_touches;
 mod service_trims;
 mod span;
+mod task_spans;
 mod touching;
 
 pub use adding::{add_tasks_of, add_tasks_on};
@@ -42,4 +44,5 @@ pub use service_spans::ServiceSpans;
 pub use service_touches::{Places, Sight, Updates, add_shifted};
 pub use service_trims::add_remains;
 pub use span::Span;
+pub use task_spans::TaskSpans;
 pub use touching::{NodeReads, ServiceReads, TaskReads, touch_nodes, touch_tasks};

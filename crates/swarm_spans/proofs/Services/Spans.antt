@@ -57,17 +57,17 @@ pub ruleset port_steps = (ports_full, ports_same)
 
 -- Every row is in the full span.
 
-is-below : {X : Type 0} (key : X → ℕ) (n : ℕ) (rows : List X) (x : X) → IsBelow key n rows → Has rows x → key x < n
+pub is-below : {X : Type 0} (key : X → ℕ) (n : ℕ) (rows : List X) (x : X) → IsBelow key n rows → Has rows x → key x < n
 is-below key n [] x b h = absurd h
 is-below key n (y ∷ rows) x b (inl e) = subst (λ z. key z < n) e b.0
 is-below key n (y ∷ rows) x b (inr h) = is-below key n rows x b.1 h
 
-in-full : (id : ℕ) → 0 < id → id < 2 ^ 60 → is_in full id ≡ true
+pub in-full : (id : ℕ) → 0 < id → id < 2 ^ 60 → is_in full id ≡ true
 in-full id above below =
     let le : id ≤ 2 ^ 64 - 1 = omega (arith, below) in
     grind (arith, nat_tests, above, le)
 
-near : (id bound : ℕ) → id < bound → bound < far_end → id < 2 ^ 60
+pub near : (id bound : ℕ) → id < bound → bound < far_end → id < 2 ^ 60
 near id bound a b = omega (arith, a, b)
 
 pub each-full : (t : Tables) → IsUsable t → HasEach full t
@@ -78,7 +78,7 @@ each-full t usable s h =
 services-full : (line : Tables → Service → List Duty) (t : Tables) → IsUsable t → CoversServices line t full
 services-full line t usable = record { has = λ s h passes. each-full t usable s h }
 
-tasks-full : (line : Tables → Task → List Duty) (t : Tables) → IsUsable t → CoversTasks line t full
+pub tasks-full : (line : Tables → Task → List Duty) (t : Tables) → IsUsable t → CoversTasks line t full
 tasks-full line t usable = record {
   has = λ x h passes.
       in-full x.id (number_above task_id 0 t.tasks x usable.sound.ordered.tasks h)

@@ -1,0 +1,6 @@
+pub mod Duties
+pub mod Executors
+pub mod Fit
+pub mod Keeping
+pub mod Steps
+pub mod World

@@ -1,0 +1,49 @@
+-- All spans of the lines over single tasks and over nodes, and what they cover.
+use Rattle.std.specs.Prelude.{List, ℕ, ◌≡◌, ◌⊎◌}
+use Rattle.swarm_objects.specs.Loops.Scheduler.{schedule}
+use Rattle.swarm_objects.specs.Rows.{row_at, session_node}
+use Rattle.swarm_objects.specs.Usable.{IsUsable}
+use Rattle.swarm_objects.specs.World.{Tables}
+use Rattle.swarm_objects.specs.declared.sessions.NodeSession.{NodeSession}
+use Rattle.swarm_spans.specs.Lines.{addresses, deletes, expires, goes, notes, olds, orphans, raises, rejects, restarts, to_allocate, to_schedule, to_wait}
+use Rattle.swarm_spans.specs.Spans.{CoversNodes, CoversTasks}
+use Rattle.swarm_spans.specs.declared.task_spans.TaskSpans.{TaskSpans}
+
+-- each line is covered
+pub record AreTasksCovered (t : Tables) (spans : TaskSpans) : Type 0 where
+  pub expires : CoversNodes expires t spans.expires
+  pub orphans : CoversTasks orphans t spans.orphans
+  pub rejects : CoversTasks rejects t spans.rejects
+  pub restarts : CoversTasks restarts t spans.restarts
+  pub raises : CoversTasks raises t spans.raises
+  pub goes : CoversTasks goes t spans.goes
+  pub olds : CoversTasks olds t spans.olds
+  pub deletes : CoversTasks deletes t spans.deletes
+  pub addresses : CoversTasks addresses t spans.addresses
+  pub notes : CoversTasks notes t spans.notes
+  pub schedules : CoversTasks schedule t spans.schedules
+  pub to_wait : CoversTasks to_wait t spans.to_wait
+  pub to_schedule : CoversTasks to_schedule t spans.to_schedule
+  pub to_allocate : CoversTasks to_allocate t spans.to_allocate
+
+-- with these sessions, of which one may be new
+abbrev pub with_sessions : ℕ → List NodeSession → Tables → Tables
+with_sessions next_id sessions t = record t { next_id = next_id; sessions = sessions }
+
+-- each node but this one has the session that it had
+pub record HasOthersSessions (node : ℕ) (t : Tables) (sessions : List NodeSession) : Type 0 where
+  pub others : (n : ℕ) → (n ≡ node) ⊎ (row_at session_node n sessions ≡ row_at session_node n t.sessions)
+
+-- the ones cover what the others do, whatever becomes of this node's session
+abbrev pub SessionLaw : ℕ → TaskSpans → TaskSpans → Type 0
+SessionLaw node spans wide =
+    (t : Tables) (next_id : ℕ) (sessions : List NodeSession) → IsUsable t → HasOthersSessions node t sessions
+    → AreTasksCovered t spans → AreTasksCovered (with_sessions next_id sessions t) wide
+
+abbrev pub at_time : ℕ → Tables → Tables
+at_time clock t = record t { clock = clock }
+
+-- the ones cover what the others do, at any time
+abbrev pub TimeLaw : TaskSpans → TaskSpans → Type 0
+TimeLaw spans wide =
+    (t : Tables) (clock : ℕ) → IsUsable t → AreTasksCovered t spans → AreTasksCovered (at_time clock t) wide
