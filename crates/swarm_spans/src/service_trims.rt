@@ -1,9 +1,10 @@
 // What a list of changes touches of the line over old tasks.
-ghost use Rattle.std.specs.Prelude.{◌≡◌, Some};
+ghost use Rattle.std.specs.Prelude.{◌≡◌, ◌==◌, Some};
 ghost use Rattle.swarm_objects.specs.ChangeLists.{apply_changes};
-ghost use Rattle.swarm_objects.specs.Loops.Reaper.{is_past};
 ghost use Rattle.swarm_objects.specs.Rows.{row_at, task_id};
 ghost use Rattle.swarm_objects.specs.Usable.{IsUsable};
+ghost use Rattle.swarm_objects.specs.Values.Ranks.{desired_rank};
+ghost use Rattle.swarm_objects.specs.declared.tasks.Desired.TheVariants as desired;
 ghost use Rattle.swarm_spans.specs.Services.Standings.{bounds_alike, remains_alike};
 ghost use Rattle.swarm_spans.specs.Services.Steps.{HasBesideOf, HasRemains, HasTasksOf};
 ghost use Rattle.swarm_spans.specs.Services.Touches.{AddsBeside, AddsNew, AddsOther, HasBounded, HasPlaces, HasTrimmed};
@@ -14,11 +15,11 @@ use crate::span::Span;
 use swarm_objects::walks::tasks_of;
 use swarm_objects::{Change, Desired, Id, Rows, Service, Task, desired_rank};
 
-// It ended, and was to stop.
-fn is_past(task: &Task) -> bool
-    ensures { result ≡ is_past task.now }
+// It was to stop.
+fn is_to_stop(task: &Task) -> bool
+    ensures { result ≡ (desired_rank task.now.desired == desired_rank desired.Shutdown) }
 {
-    task.has_ended() && desired_rank(task.desired) == desired_rank(Desired::Shutdown)
+    desired_rank(task.desired) == desired_rank(Desired::Shutdown)
 }
 
 // As much remains of the one as of the other.
@@ -28,7 +29,7 @@ fn remains_alike(one: &Task, two: &Task) -> bool
     one.service == two.service
         && one.place == two.place
         && one.iteration == two.iteration
-        && is_past(one) == is_past(two)
+        && (one.has_ended() && is_to_stop(one)) == (two.has_ended() && is_to_stop(two))
 }
 
 // The same tasks count for both, and both have an update under way, or neither.
