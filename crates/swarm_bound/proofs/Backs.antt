@@ -1,11 +1,10 @@
--- A service that goes back to its previous specification: no more comes of it than could before, and it has less before
--- it.
+-- A service that goes back to its previous specification: no more can come of it, and fewer of its ports lack a number.
 use Rattle.std.proofs.Common.{Bool, List, None, Option, Some, [], ap, arith, cond, false, refl, sym, true, ℕ, ◌+◌, ◌*◌, ◌-◌, ◌∙◌, ◌∷◌, ◌≡◌, ◌≤◌}
 use Rattle.std.proofs.lemmas.Bool.Decides.{nat_tests}
-use Rattle.std.proofs.lemmas.List.Sums.{length-filter, sum_by-cons}
+use Rattle.std.proofs.lemmas.List.Sums.{count_by-le-length, length-filter, sum_by-cons}
 use Rattle.std.specs.List.{list_any}
 use Rattle.std.specs.Prelude.{filter, is_none, is_some, length, not, sum_by, ◌&&◌, ◌==◌, ◌||◌}
-use Rattle.swarm_bound.proofs.PlaceSpans.{ends, held-counted, lost-counted, one_each, places_end, waiting-counted, where_held, where_not}
+use Rattle.swarm_bound.proofs.PlaceSpans.{ends, held-counted, lost-counted, one_each, places_end, where_held, where_not}
 use Rattle.swarm_bound.proofs.Spans.{span, span-join, span-le, span-none, span-rises, span-same}
 use Rattle.swarm_bound.proofs.Sums.{count-le, sum-fall}
 use Rattle.swarm_bound.specs.Coming.{coming_by_mode, coming_of, coming_on, goes_back, is_renewed, places_held, places_lost, replicas_before, replicas_in, waiting_places}
@@ -18,7 +17,7 @@ use Rattle.swarm_objects.specs.Loops.Update.{back_at, with_run}
 use Rattle.swarm_objects.specs.Rows.{Has, has_row, is_some_and, node_id, on_row, row_at}
 use Rattle.swarm_objects.specs.Services.Ports.{gives_number, is_open_in, is_unnumbered, kept_numbers}
 use Rattle.swarm_objects.specs.Services.Words.{is_job}
-use Rattle.swarm_objects.specs.Tasks.Places.{closes, is_held_place, newest, place_at, tasks_of_place}
+use Rattle.swarm_objects.specs.Tasks.Places.{closes, held_places, is_held_place, newest, place_at, tasks_of_place}
 use Rattle.swarm_objects.specs.Tasks.Words.{is_live}
 use Rattle.swarm_objects.specs.World.{Tables}
 use Rattle.swarm_objects.specs.declared.nodes.Node.{Node}
@@ -77,23 +76,6 @@ held-nodes t s =
   where
     go : (a b : Bool) →
         ◌≤◌ (cond {A = ℕ} a 1 0) (cond {A = ℕ} a (cond {A = ℕ} (not b) 1 0) 0 + cond {A = ℕ} b (cond {A = ℕ} a 1 0) 0)
-    go true true = omega arith
-    go true false = omega arith
-    go false true = omega arith
-    go false false = omega arith
-
-pub waiting-held : (m : ℕ) (t : Tables) (s : Service) → waiting_places m t s ≤ places_held t s
-waiting-held m t s =
-    let b = places_end t.tasks in
-    omega (
-      arith,
-      held-counted t s b (ends t.tasks),
-      waiting-counted m t s b (ends t.tasks),
-      span-le (where_held t s (where_not (is_renewed m t s))) (where_held t s one_each) 0 b
-          (λ k. go (is_held_place t s k) (is_renewed m t s k)),
-    )
-  where
-    go : (a b : Bool) → ◌≤◌ (cond {A = ℕ} a (cond {A = ℕ} (not b) 1 0) 0) (cond {A = ℕ} a 1 0)
     go true true = omega arith
     go true false = omega arith
     go false true = omega arith
@@ -160,7 +142,7 @@ coming-back m version run t s spec previous no_job alike =
         ∙ sym (held-counted t s b (ends t.tasks))
 
     waits : waiting_places m t v ≤ places_held t s
-    waits = omega (arith, waiting-held m t v, held)
+    waits = omega (arith, count_by-le-length (λ k. not (is_renewed m t v k)) (held_places t v), held)
 
     -- a node that holds a place lacks none
     on : (n : Node) → coming_on t v n + where_held t s one_each n.id ≤ coming_on t s n

@@ -5,8 +5,8 @@ pub mod ComingFills
 pub mod ComingSteps
 pub mod Counting
 pub mod ExecutorSteps
-pub mod Falls
 pub mod Falling
+pub mod Falls
 pub mod Few
 pub mod Looks
 pub mod Messages

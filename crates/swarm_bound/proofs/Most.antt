@@ -21,7 +21,6 @@ use Rattle.swarm_objects.specs.declared.services.Service.{Service}
 use Rattle.swarm_objects.specs.declared.services.ServiceSpec.{ServiceSpec}
 use Rattle.swarm_objects.specs.declared.tasks.TaskState.TheVariants as state
 use Rattle.swarm_objects.specs.declared.tasks.TaskState.{TaskState}
-use Rattle.swarm_objects.specs.declared.templates.Port.{Port}
 
 steps-most : (k : Option ℕ) (s : TaskState) → steps_left k s ≤ 6
 steps-most k state.Accepted = omega arith
@@ -48,7 +47,7 @@ node-most t n = go (is_session_live t n.id) (is_ready n.state) (is_some_and (is_
         none false = refl
     go false ready due = omega (arith, bit-most (ready && true))
 
-filter-most : (p : Port → Bool) (xs : List Port) → length (filter p xs) ≤ length xs
+pub filter-most : {X : Type 0} (p : X → Bool) (xs : List X) → length (filter p xs) ≤ length xs
 filter-most p xs = omega (arith, length-filter p xs, count_by-le-length p xs)
 
 before-most : (s : Service) (o : Option ServiceSpec) → Where IsProperSpec o →

@@ -63,7 +63,7 @@ executes task a = has_row executor_task task a.executors
 abbrev pub has_executor : World → Task → Bool
 has_executor w x = is_some_and (is_row_and agent_node (executes x.id) w.agents) x.node
 
--- each thing that is wanted, and the removal, is a duty, and is sent and applied; a life of an executor may be before it
+-- each thing that is wanted, and the removal, is a duty, and is sent and applied; an executor's life may be before it
 abbrev pub task_left : World → Task → ℕ
 task_left w x =
     states_left x.state + 3 * wishes_left x.desired + 3

@@ -1,4 +1,4 @@
--- The measure that every duty makes smaller, while the time stands and no call comes.
+-- The measure that every duty other than a note makes smaller, while the time stands and no call comes.
 use Rattle.std.specs.Prelude.{Bool, None, Option, Some, count_by, false, not, sum_by, ℕ, ◌&&◌, ◌*◌, ◌+◌, ◌||◌}
 use Rattle.swarm_bound.specs.Coming.{coming}
 use Rattle.swarm_bound.specs.Left.{agent_left, node_left, service_left, task_left}

@@ -173,7 +173,7 @@ one-own key b home low (x ∷ xs) rises = go (eqb (key x) home) refl (one-own ke
     go false e rest =
         omega (arith, rest, never-own b (eqb (key x) home) e, sum_by-cons (own key b home) x xs)
 
-sum-zero : {X : Type 0} (rows : List X) → sum_by (λ x. 0) rows ≡ 0
+pub sum-zero : {X : Type 0} (rows : List X) → sum_by (λ x. 0) rows ≡ 0
 sum-zero [] = refl
 sum-zero (x ∷ xs) = omega (arith, sum-zero xs, sum_by-cons (λ y. 0) x xs)
 

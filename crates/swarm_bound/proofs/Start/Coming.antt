@@ -3,6 +3,7 @@ use Rattle.std.proofs.Common.{Bool, List, None, Option, Some, [], arith, eqb, fa
 use Rattle.std.proofs.lemmas.Bool.Decides.{nat_tests}
 use Rattle.std.proofs.lemmas.List.Sums.{count_by-le-length, length-filter, sum_by-cons}
 use Rattle.std.specs.Prelude.{count_by, filter, fold, is_some, not, sum_by, ◌&&◌}
+use Rattle.swarm_bound.proofs.Most.{filter-most}
 use Rattle.swarm_bound.proofs.Positions.{bit-most}
 use Rattle.swarm_bound.proofs.Start.Shares.{shares-most, sum-scaled}
 use Rattle.swarm_bound.specs.Coming.{coming, coming_by_mode, coming_of, coming_on, is_renewed, places_held, places_lost, replicas_before, replicas_in}
@@ -29,9 +30,6 @@ numbers-most ks [] = omega arith
 numbers-most ks (x ∷ tasks) =
     let rest = numbers-most (with_number (place_number x.place) ks) tasks in
     omega (arith, rest, one-more (place_number x.place) ks)
-
-filter-most : {X : Type 0} (p : X → Bool) (xs : List X) → length (filter p xs) ≤ length xs
-filter-most p xs = omega (arith, length-filter p xs, count_by-le-length p xs)
 
 -- no more than the tasks that count for it
 pub held-most : (t : Tables) (s : Service) → places_held t s ≤ count_by (counts_for s) t.tasks

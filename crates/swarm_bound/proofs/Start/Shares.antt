@@ -3,13 +3,9 @@ use Rattle.std.proofs.Common.{Bool, List, [], arith, cond, eqb, inl, inr, length
 use Rattle.std.proofs.lemmas.Bool.Decides.{nat_tests}
 use Rattle.std.proofs.lemmas.List.Sums.{sum_by-cons}
 use Rattle.std.specs.Prelude.{count_by, sum_by}
-use Rattle.swarm_bound.proofs.Sending.Numbers.{sum-one}
+use Rattle.swarm_bound.proofs.Sending.Numbers.{sum-one, sum-zero}
 use Rattle.swarm_bound.proofs.Sums.{bit-le, sum-join, sum-le, sum-same}
 use Rattle.swarm_objects.specs.Rows.{Has, RisesFrom}
-
-sum-nothing : {X : Type 0} (rows : List X) → sum_by (λ x. 0) rows ≡ 0
-sum-nothing [] = refl
-sum-nothing (x ∷ xs) = omega (arith, sum-nothing xs, sum_by-cons (λ y. 0) x xs)
 
 -- no row has more than an amount
 pub sum-scaled : {X : Type 0} (n : ℕ) (f : X → ℕ) (xs : List X) → ((x : X) → Has xs x → f x ≤ n) →
@@ -23,7 +19,7 @@ sum-scaled n f (x ∷ xs) each =
 pub shares-most : {X Y : Type 0} (key : Y → ℕ) (home : X → ℕ) (test : Y → X → Bool) (low : ℕ) (rows : List Y)
     (xs : List X) → RisesFrom key low rows → ((y : Y) (x : X) → test y x ≡ true → key y ≡ home x) →
     sum_by (λ y. count_by (test y) xs) rows ≤ length xs
-shares-most key home test low rows [] rises names = omega (arith, sum-nothing rows)
+shares-most key home test low rows [] rises names = omega (arith, sum-zero rows)
 shares-most key home test low rows (x ∷ xs) rises names =
     let rest = shares-most key home test low rows xs rises names in
     let each = sum-same (λ y. count_by (test y) (x ∷ xs)) (λ y. cond (test y x) 1 0 + count_by (test y) xs) rows
