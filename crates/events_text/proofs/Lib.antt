@@ -1,0 +1,4 @@
+pub mod Merged
+pub mod Fronts
+pub mod NoFloats
+pub mod Examples

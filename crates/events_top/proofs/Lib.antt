@@ -1,0 +1,4 @@
+pub mod GoingOn
+pub mod Judged
+pub mod Telling
+pub mod Told

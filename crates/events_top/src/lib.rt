@@ -1,0 +1,9 @@
+// The events of a journal, entry by entry.
+#![tactic(auto)]
+
+mod endings;
+mod entry_lines;
+mod events;
+
+pub use endings::{Ending, why_not};
+pub use events::tell_events;
