@@ -17,16 +17,12 @@ use Rattle.swarm_objects.specs.declared.tasks.Task.{Task}
 use Rattle.swarm_objects.specs.declared.views.TaskShown.{TaskShown}
 use Rattle.swarm_objects.specs.declared.watches.Event.{Event}
 use Rattle.swarm_objects.specs.declared.watches.Verb.{Verb}
-use Rattle.swarm_print.specs.Details.{optional_count}
+use Rattle.swarm_print.proofs.Floats.{no_float-optional}
 
 no_float-told : {X : Type 0} (tells : X → Data) (row : Option X) → ((x : X) → has_float (tells x) ≡ false) →
     has_float (told tells row) ≡ false
 no_float-told tells None each = refl
 no_float-told tells (Some x) each = each x
-
-no_float-optional : (n : Option ℕ) → has_float (optional_count n) ≡ false
-no_float-optional None = refl
-no_float-optional (Some n) = refl
 
 no_float-shown : (v : Verb) (x : Task) (shown : TaskShown) → has_float (shown_change v x shown) ≡ false
 no_float-shown v x shown = rw (no_float-optional x.node) refl

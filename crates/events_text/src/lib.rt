@@ -3,9 +3,6 @@
 
 mod changed;
 mod lines;
-mod notes;
-mod places;
 mod rows;
-mod words;
 
 pub use lines::entry_line;

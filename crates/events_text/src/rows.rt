@@ -5,21 +5,18 @@ ghost use Rattle.serde_json.specs.View.{view};
 ghost use Rattle.events_text.specs.Changes.{change_data, network_change, node_change, row_change, service_change, shown_change, task_change, telling};
 ghost use Rattle.swarm_objects.specs.Shown.{status_of};
 ghost use Rattle.swarm_plain.specs.Plain.{tables_of};
-ghost use Rattle.swarm_print.specs.Details.{optional_count};
-ghost use Rattle.swarm_print.specs.Notes.{note_text};
-ghost use Rattle.swarm_print.specs.Objects.{place_text, service_place_text};
+ghost use Rattle.swarm_print.specs.Objects.{service_place_text};
 
-use crate::notes::put_note;
-use crate::places::{put_place, put_service_place};
-use crate::words::{availability_word, desired_word, state_word, update_word, verb_word};
 use serde_json::{Value, json};
 use std::alloc::{AllocError, Global};
 use swarm_objects::shown::task_shown;
-use swarm_objects::views::{NoteShown, PlaceShown, Shown, TaskShown};
+use swarm_objects::views::{PlaceShown, Shown, TaskShown};
 use swarm_objects::{
     Event, Id, Kind, List, Network, NoMemory, Node, Rows, RunStatus, Service, Task, Verb, add,
 };
 use swarm_plain::Plain;
+use swarm_print::words::{availability_word, desired_word, state_word, update_word, verb_word};
+use swarm_print::{id_value, note_value, place_value, put_service_place};
 
 fn node_value(alloc: Global, verb: Verb, node: &Node) -> Result<Value, AllocError>
     ensures { IfOk result (λ value. view value ≡ node_change verb node.now) }
@@ -74,31 +71,6 @@ fn name_value(alloc: Global, service: &Shown, place: &PlaceShown) -> Result<Valu
     let mut text = String::new(alloc);
     put_service_place(&mut text, service, place)?;
     Ok(Value::String(text))
-}
-
-fn place_value(alloc: Global, place: &PlaceShown) -> Result<Value, AllocError>
-    ensures { IfOk result (λ value. view value ≡ string (place_text place.now)) }
-{
-    let mut text = String::new(alloc);
-    put_place(&mut text, place)?;
-    Ok(Value::String(text))
-}
-
-fn note_value(alloc: Global, note: &NoteShown) -> Result<Value, AllocError>
-    ensures { IfOk result (λ value. view value ≡ string (note_text note.now)) }
-{
-    let mut text = String::new(alloc);
-    put_note(alloc, &mut text, note)?;
-    Ok(Value::String(text))
-}
-
-fn id_value(id: Option<Id>) -> Value
-    ensures { view result ≡ optional_count id }
-{
-    match id {
-        Some(id) => Value::from(id),
-        None => Value::Null,
-    }
 }
 
 fn shown_value(

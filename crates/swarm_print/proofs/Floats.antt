@@ -30,7 +30,7 @@ no_float-labels : (labels : List (List ℕ × List ℕ)) → members_have_float 
 no_float-labels [] = refl
 no_float-labels (label ∷ labels) = no_float-put label.0 label.1 (label_members labels) (no_float-labels labels)
 
-no_float-optional : (n : Option ℕ) → has_float (optional_count n) ≡ false
+pub no_float-optional : (n : Option ℕ) → has_float (optional_count n) ≡ false
 no_float-optional None = refl
 no_float-optional (Some n) = refl
 

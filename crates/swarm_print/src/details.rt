@@ -132,7 +132,8 @@ fn addresses_value(alloc: Global, addresses: &[u32]) -> Result<Value, AllocError
     Ok(Value::Array(values))
 }
 
-fn id_value(id: Option<Id>) -> Value
+/// The id as JSON; null where there is none.
+pub fn id_value(id: Option<Id>) -> Value
     ensures { view result ≡ optional_count id }
 {
     match id {
@@ -141,7 +142,8 @@ fn id_value(id: Option<Id>) -> Value
     }
 }
 
-fn note_value(alloc: Global, note: &NoteShown) -> Result<Value, AllocError>
+/// The text of the note as JSON.
+pub fn note_value(alloc: Global, note: &NoteShown) -> Result<Value, AllocError>
     ensures { IfOk result (λ value. view value ≡ string (note_text note.now)) }
 {
     let mut text = String::new(alloc);
@@ -149,7 +151,8 @@ fn note_value(alloc: Global, note: &NoteShown) -> Result<Value, AllocError>
     Ok(Value::String(text))
 }
 
-fn place_value(alloc: Global, place: &PlaceShown) -> Result<Value, AllocError>
+/// The text of the place as JSON: the slot, or the node.
+pub fn place_value(alloc: Global, place: &PlaceShown) -> Result<Value, AllocError>
     ensures { IfOk result (λ value. view value ≡ string (place_text place.now)) }
 {
     let mut text = String::new(alloc);

@@ -24,6 +24,7 @@ pub fn put_place(text: &mut String, place: &PlaceShown) -> Result<(), AllocError
     }
 }
 
+/// Puts the service and the place, with a dot between them.
 pub fn put_service_place(
     text: &mut String,
     service: &Shown,

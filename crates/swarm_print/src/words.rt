@@ -4,6 +4,7 @@ ghost use Rattle.swarm_print.specs.Words.{availability_word, state_word, rule_wo
 
 use swarm_objects::{Availability, Cause, Desired, Mode, NodeState, RunStatus, SpecRule, Verb};
 
+/// Whether the node takes tasks.
 pub fn availability_word(availability: Availability) -> &'static str
     ensures { result.now ≡ availability_word availability }
 {
@@ -14,6 +15,7 @@ pub fn availability_word(availability: Availability) -> &'static str
     }
 }
 
+/// How a node is.
 pub fn state_word(state: NodeState) -> &'static str
     ensures { result.now ≡ state_word state }
 {
@@ -25,6 +27,7 @@ pub fn state_word(state: NodeState) -> &'static str
     }
 }
 
+/// The rule that a specification breaks.
 pub fn rule_word(rule: SpecRule) -> &'static str
     ensures { result.now ≡ rule_word rule }
 {
@@ -43,6 +46,7 @@ pub fn rule_word(rule: SpecRule) -> &'static str
     }
 }
 
+/// How far a task is to come.
 pub fn desired_word(desired: Desired) -> &'static str
     ensures { result.now ≡ desired_word desired }
 {
@@ -55,6 +59,7 @@ pub fn desired_word(desired: Desired) -> &'static str
     }
 }
 
+/// How a service is made up, without its numbers.
 pub fn mode_word(mode: Mode) -> &'static str
     ensures { result.now ≡ mode_word mode }
 {
@@ -78,6 +83,7 @@ fn status_word(status: RunStatus) -> &'static str
     }
 }
 
+/// How the last update stands; a dash where there was none.
 pub fn update_word(update: Option<RunStatus>) -> &'static str
     ensures { result.now ≡ update_word update }
 {
@@ -87,6 +93,7 @@ pub fn update_word(update: Option<RunStatus>) -> &'static str
     }
 }
 
+/// What happened to a row.
 pub fn verb_word(verb: Verb) -> &'static str
     ensures { result.now ≡ verb_word verb }
 {
@@ -97,6 +104,7 @@ pub fn verb_word(verb: Verb) -> &'static str
     }
 }
 
+/// What a world waits for.
 pub fn cause_word(cause: Cause) -> &'static str
     ensures { result.now ≡ cause_word cause }
 {
@@ -109,18 +117,21 @@ pub fn cause_word(cause: Cause) -> &'static str
     }
 }
 
+/// Whether a message has all that is assigned, or the changes alone.
 pub fn extent_word(complete: bool) -> &'static str
     ensures { result.now ≡ extent_word complete }
 {
     if complete { "COMPLETE" } else { "INCREMENTAL" }
 }
 
+/// Whether a report raised the state of its task.
 pub fn report_word(raised: bool) -> &'static str
     ensures { result.now ≡ report_word raised }
 {
     if raised { "status" } else { "passed" }
 }
 
+/// UDP, or else TCP.
 pub fn protocol_word(udp: bool) -> &'static str
     ensures { result.now ≡ protocol_word udp }
 {
