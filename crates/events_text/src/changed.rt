@@ -1,61 +1,16 @@
 // The events of an entry: what happened to the rows between the worlds before and after it.
 ghost use Rattle.std.specs.Prelude.{◌≡◌, ◌++◌, Bool, IfOk, OnOk};
-ghost use Rattle.std.specs.Option.{option_copied, option_to_list};
-ghost use Rattle.swarm_model.specs.Changed.{changes_between, events_of, verb_of};
+ghost use Rattle.swarm_model.specs.Changed.{changes_between, events_of};
 ghost use Rattle.swarm_objects.specs.Rows.{IsRising};
 ghost use Rattle.swarm_plain.specs.Entries.{HasOrder};
 ghost use Rattle.swarm_plain.specs.Plain.{tables_of};
-ghost use Rattle.swarm_plain.specs.Inside.Merging.{DecidesRows, head_at, least_key, rest_at};
+ghost use Rattle.swarm_plain.specs.Inside.Merging.{DecidesRows};
 ghost use Rattle.events_text.specs.Inside.Events.{events_at};
 
 use std::alloc::Global;
 use swarm_objects::{Event, Id, Keyed, Kind, List, NoMemory, Same, Verb, Version, add};
 use swarm_plain::Plain;
-
-// The least id of the first rows.
-fn least_key<T: Keyed>(old: &[T], new: &[T]) -> Option<Id>
-    ensures { result ≡ least_key T.key_of old.now new.now }
-{
-    match (old, new) {
-        ([], []) => None,
-        ([], [row, ..]) | ([row, ..], []) => Some(row.key()),
-        ([one, ..], [two, ..]) => Some(one.key().min(two.key())),
-    }
-}
-
-// The first row, where it has this id.
-fn head_at<T: Keyed>(rows: &[T], id: Id) -> Option<&T>
-    ensures { option_copied result ≡ head_at T.key_of id rows.now }
-{
-    match rows {
-        [row, ..] if row.key() == id => Some(row),
-        _ => None,
-    }
-}
-
-// The rows without the first one, where that has this id.
-fn rest_at<T: Keyed>(rows: &[T], id: Id) -> &[T]
-    ensures { result.now ≡ rest_at T.key_of id rows.now }
-{
-    match rows {
-        [row, rest @ ..] if row.key() == id => rest,
-        _ => rows,
-    }
-}
-
-// What happened to the row with this id, which is the least one.
-fn verb_at<T: Keyed + Same>(old: &[T], new: &[T], id: Id) -> Option<Verb>
-    ensures { (same : T → T → Bool) → DecidesRows T.key_of same →
-        option_to_list result ≡ verb_of same (head_at T.key_of id old.now) (head_at T.key_of id new.now) }
-{
-    match (head_at(old, id), head_at(new, id)) {
-        (None, None) => None,
-        (None, Some(_)) => Some(Verb::Created),
-        (Some(_), None) => Some(Verb::Deleted),
-        (Some(old), Some(new)) if old.same(new) => None,
-        (Some(_), Some(_)) => Some(Verb::Updated),
-    }
-}
+use swarm_plain::events::{change_at, least_key, rest_at};
 
 // Puts the event of what happened, if anything did.
 fn put_event(
@@ -97,7 +52,7 @@ fn put_changes<T: Keyed + Same>(
     let mut old = old;
     let mut new = new;
     while let Some(id) = least_key(old, new) {
-        let verb = verb_at(old, new, id);
+        let verb = change_at(old, new, id);
         put_event(events, entry, kind, id, verb)?;
         old = rest_at(old, id);
         new = rest_at(new, id);

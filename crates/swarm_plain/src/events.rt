@@ -41,8 +41,8 @@ fn put_awaited(
     }
 }
 
-// The least id of the first rows.
-fn least_key<T: Keyed>(old: &[T], new: &[T]) -> Option<Id>
+/// The least id of the first rows.
+pub fn least_key<T: Keyed>(old: &[T], new: &[T]) -> Option<Id>
     ensures { result ≡ least_key T.key_of old.now new.now }
 {
     match (old, new) {
@@ -62,8 +62,8 @@ fn head_at<T: Keyed>(rows: &[T], id: Id) -> Option<&T>
     }
 }
 
-// The rows without the first one, where that has this id.
-fn rest_at<T: Keyed>(rows: &[T], id: Id) -> &[T]
+/// The rows without the first one, where that has this id.
+pub fn rest_at<T: Keyed>(rows: &[T], id: Id) -> &[T]
     ensures { result.now ≡ rest_at T.key_of id rows.now }
 {
     match rows {
@@ -72,8 +72,8 @@ fn rest_at<T: Keyed>(rows: &[T], id: Id) -> &[T]
     }
 }
 
-// What happened to the row with this id, which is the least one.
-pub(crate) fn change_at<T: Keyed + Same>(old: &[T], new: &[T], id: Id) -> Option<Verb>
+/// What happened to the row with this id, which is the least one.
+pub fn change_at<T: Keyed + Same>(old: &[T], new: &[T], id: Id) -> Option<Verb>
     ensures { (same : T → T → Bool) → DecidesRows T.key_of same →
         option_to_list result ≡ verb_of same (head_at T.key_of id old.now) (head_at T.key_of id new.now) }
 {

@@ -3,7 +3,7 @@
 
 mod details;
 mod entries;
-mod events;
+pub mod events;
 mod faults;
 pub mod halving;
 pub mod held;

@@ -14,9 +14,9 @@ loop-id-preserved g c = record {
   new = rest-rises g.T.Keyed.key_of c.in-Some.id c.loop-id.new.now _ c.loop-id.invariant.new c.rest_at-new.ensures;
   told = λ same decides.
       put-next c.args.entry c.args.kind g.T.Keyed.key_of same c.in-Some.id c.loop-id.old.now c.loop-id.new.now
-      c.rest_at-old.result.now c.rest_at-new.result.now c.loop-id.events c.put_event.new.events c.verb_at-verb.result
+      c.rest_at-old.result.now c.rest_at-new.result.now c.loop-id.events c.put_event.new.events c.change_at-verb.result
       c.loop-id.invariant.old c.loop-id.invariant.new (sym c.least_key.ensures ∙ c.in-Some.is)
-      (c.verb_at-verb.ensures same decides) c.in_ok-put_event.ensures c.rest_at-old.ensures c.rest_at-new.ensures
+      (c.change_at-verb.ensures same decides) c.in_ok-put_event.ensures c.rest_at-old.ensures c.rest_at-new.ensures
       ∙ c.loop-id.invariant.told same decides;
 }
 
