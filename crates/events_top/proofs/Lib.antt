@@ -1,4 +1,3 @@
-pub mod GoingOn
-pub mod Judged
+pub mod BreakingOff
 pub mod Telling
 pub mod Told

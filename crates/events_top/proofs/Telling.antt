@@ -1,21 +1,15 @@
 -- The line of an entry: read, done, told and put.
-use Rattle.std.proofs.Common.{◌≡◌, ◌⊎◌, inl, inr, ℕ, ◌+◌, ◌<◌, ◌≤◌, length, List, [], ◌∷◌, ◌++◌, true, Result, Ok, Err, Option, refl, sym, ◌∙◌, ap, subst, append_assoc, arith}
+use Rattle.std.proofs.Common.{◌≡◌, ℕ, ◌+◌, ◌<◌, ◌≤◌, length, List, [], ◌∷◌, ◌++◌, true, Result, Ok, Err, Option, sym, ◌∙◌, ap, subst, append_assoc, arith}
 use Rattle.std.specs.Prelude.{IfOk}
 use Rattle.std.proofs.lemmas.List.{append-nil}
 use Rattle.events_text.specs.Lines.{entry_line, event_lines, lines_from}
-use Rattle.events_top.specs.Inside.Steps.{IsBehind, IsKept, IsReplayingOn, PutsTold, TellsEntry, TellsJournal, TellsLine, TellsRead}
-use Rattle.events_top.specs.Inside.Stops.{stop_of, stopped}
+use Rattle.events_top.specs.Inside.Steps.{IsBehind, IsKept, PutsTold, TellsEntry, TellsJournal, TellsLine, TellsRead}
 use Rattle.events_top.specs.declared.endings.Ending.{Ending}
 use Rattle.events_top.specs.declared.endings.Ending.TheVariants.{Judged, OutFault}
-use Rattle.events_top.specs.declared.entry_lines.Stop.{Stop}
-use Rattle.events_top.specs.declared.entry_lines.Stop.TheVariants as stop
-use Rattle.script_grammar.specs.Entries.{entry_meaning}
 use Rattle.script_grammar.specs.HasText.{has_text}
 use Rattle.script_grammar.specs.Texts.{entry_text}
 use Rattle.script_grammar.specs.declared.lines.LineFault.{LineFault}
-use Rattle.script_grammar.specs.declared.lines.LineFault.TheVariants as fault
-use Rattle.events_top.proofs.GoingOn.{goes_on}
-use Rattle.events_top.proofs.Judged.{breaks_off, line_ends}
+use Rattle.events_top.proofs.BreakingOff.{breaks_off}
 use Rattle.swarm_input.proofs.Prefixes.{appends_more, prefix_more}
 use Rattle.swarm_objects.specs.Outside.{AppendsPrefix, Rose}
 use Rattle.swarm_input.specs.Held.{HeldBytes}
@@ -23,10 +17,13 @@ use Rattle.swarm_input.specs.Streams.{Puts, Stream, stream_of}
 use Rattle.swarm_model.specs.History.{replay, replay_from, step_world}
 use Rattle.swarm_objects.specs.World.{World, empty_world}
 use Rattle.swarm_objects.specs.declared.calls.Entry.{Entry}
-use Rattle.swarm_replay.proofs.Taking.{takes_entry}
+use Rattle.swarm_replay.proofs.Judged.{line_ends}
+use Rattle.swarm_replay.proofs.Judging.{goes_on}
+use Rattle.swarm_replay.proofs.Taking.{ReadsAs, meaning_is, takes_entry}
 use Rattle.swarm_replay.specs.Inside.JournalBuffer.{GivesBytes}
-use Rattle.swarm_replay.specs.Inside.ReplaySteps.{EndsAtHead, EndsFull, TakesEntry}
-use Rattle.swarm_replay.specs.declared.entry_lines.Stop.TheVariants as replay_stop
+use Rattle.swarm_replay.specs.Inside.ReplaySteps.{EndsAtHead, EndsFull, IsReplaying, TakesEntry, stopped}
+use Rattle.swarm_replay.specs.declared.entry_lines.Stop.{Stop}
+use Rattle.swarm_replay.specs.declared.entry_lines.Stop.TheVariants as stop
 use Rattle.swarm_replay.specs.declared.verdicts.EntryFault.TheVariants.{Head, Size, Text}
 use Rattle.swarm_replay.specs.declared.verdicts.Verdict.{Verdict}
 use Rattle.swarm_replay.specs.declared.verdicts.Verdict.TheVariants.{Legal, Illegal, BadLine, ReadFault, NoMemory}
@@ -46,13 +43,6 @@ one_more H e w text world is =
     ap (λ (t : List ℕ). event_lines H ++ t) (is ∙ ap (λ (u : World). entry_line u e) world) ∙ sym (lines-snoc empty_world H e)
 
 -- An entry.
-
-abbrev ReadsAs : List ℕ → Result Entry LineFault → Type 0
-ReadsAs line read = (read ≡ entry_meaning line) ⊎ (read ≡ Err fault.NoMemory)
-
-meaning_is : (line : List ℕ) (e : Entry) → ReadsAs line (Ok e) → entry_meaning line ≡ Ok e
-meaning_is line e (inl h) = sym h
-meaning_is line e (inr h) = cc
 
 pub tells_entry : (count : ℕ) (w before after : World) (line : List ℕ) (read : Result Entry LineFault)
     (result : Result (List ℕ) Verdict) → ReadsAs line read → IfOk read (λ entry. line ≡ entry_text entry) →
@@ -127,15 +117,7 @@ full_behind count (BadLine number fault) old new left after w H at = tt
 full_behind count ReadFault old new left after w H at = tt
 full_behind count NoMemory old new left after w H at = tt
 
--- Stops and endings that are the same.
-
-pub failed_of : (why : Stop) → stop_of why ≡ replay_stop.Failed → why ≡ stop.Failed
-failed_of stop.Failed e = refl
-failed_of stop.Long e = cc
-failed_of stop.NoMemory e = cc
-
-pub same_stop : (a b : Stop) → ◌≡◌ {A = Result (Option (List ℕ)) Stop} (Err a) (Err b) → a ≡ b
-same_stop a b e = cc
+-- Endings that are the same.
 
 pub same_ending : (a b : Ending) → ◌≡◌ {A = Result (Unit {0}) Ending} (Err a) (Err b) → a ≡ b
 same_ending a b e = cc
@@ -150,7 +132,7 @@ puts_none a b c k l m text puts none =
 
 pub line_over : (ending : Ending) (input left rest : Option (List ℕ)) (w before after : World) (count k l : ℕ)
     (held new : HeldBytes) (line : List ℕ) (H : List Entry) (a b d : Option (List ℕ)) (m n p : ℕ) →
-    IsReplayingOn input H w count held left → count < 300001 → GivesBytes held new left rest line →
+    IsReplaying input H w count held left → count < 300001 → GivesBytes held new left rest line →
     length new.bytes ≤ 12320 → TellsLine count w line (Err ending) before after (stream_of b d n p) → l ≡ k → n ≡ m →
     Puts (stream_of a b m n) (event_lines H) →
     TellsJournal ending (stream_of input rest k l) (stream_of a d m p) after

@@ -2,7 +2,7 @@
 use Rattle.std.proofs.Common.{◌≡◌, ◌⊎◌, inl, inr, ℕ, ◌<◌, List, [], true, false, Option, None, Result, Ok, Err, refl, sym, subst, arith}
 use Rattle.events_top.specs.Endings.{ending_status, ending_text, why_not}
 use Rattle.events_top.specs.Events.{HasCauseOf, IsEvents, TellsEnding}
-use Rattle.events_top.specs.Inside.Steps.{IsBehind, IsJudgedOn, PutsEnding, TellsJournal, is_fault, told_status}
+use Rattle.events_top.specs.Inside.Steps.{IsBehind, PutsEnding, TellsJournal, is_fault, told_status}
 use Rattle.events_top.specs.declared.endings.Ending.{Ending}
 use Rattle.events_top.specs.declared.endings.Ending.TheVariants.{Judged, OutFault}
 use Rattle.swarm_input.proofs.Prefixes.{appends_none}
@@ -13,7 +13,7 @@ use Rattle.swarm_model.specs.History.{replay}
 use Rattle.swarm_objects.specs.World.{World}
 use Rattle.swarm_objects.specs.declared.calls.Entry.{Entry}
 use Rattle.swarm_replay.proofs.Expected.{replayed}
-use Rattle.swarm_replay.specs.Inside.ReplaySteps.{IsJudged}
+use Rattle.swarm_replay.specs.Inside.ReplaySteps.{IsJudgedOn}
 use Rattle.swarm_replay.specs.Replay.{IsExpectedVerdict, TellsVerdict, verdict_status}
 use Rattle.swarm_replay.specs.declared.verdicts.EntryFault.{EntryFault}
 use Rattle.swarm_replay.specs.declared.verdicts.Verdict.{Verdict}
@@ -77,24 +77,12 @@ told_unseen (BadLine number fault) = inl (refl, inl tt)
 told_unseen ReadFault = (refl, tt)
 told_unseen NoMemory = (refl, tt)
 
-judged_of : (verdict : Verdict) (H : List Entry) (input : Stream) → IsJudgedOn verdict H input → IsJudged verdict input
-judged_of verdict H input on = record {
-  history = H;
-  legal = on.legal;
-  texts = on.texts;
-  judges = on.judges;
-  lines = on.lines;
-  takes = on.takes;
-  cause = on.cause;
-  risen = on.risen;
-}
-
 expected : (verdict : Verdict) (H : List Entry) (input after : Option (List ℕ)) (k l : ℕ) →
     IsJudgedOn verdict H (stream_of input after k l) → (HasFailed (stream_of input after k l) → ⊥) →
     (verdict_status verdict ≡ 5) ⊎ IsExpectedVerdict input (verdict_status verdict)
 expected verdict H input after k l on sound =
-    let found = replayed verdict input after None None k l 0 0 (verdict_status verdict)
-    (judged_of verdict H (stream_of input after k l) on) (told_unseen verdict) (λ h. absurd (omega (arith, h))) in
+    let found = replayed verdict input after None None k l 0 0 (verdict_status verdict) (H, on) (told_unseen verdict)
+    (λ h. absurd (omega (arith, h))) in
     found.complete sound (λ h. absurd (omega (arith, h)))
 
 -- The whole.

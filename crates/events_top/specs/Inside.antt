@@ -1,3 +1,2 @@
 -- Words of private contracts; what the events promise rests on none of them.
-pub mod Stops
 pub mod Steps

@@ -1,20 +1,15 @@
 // A journal gone over entry by entry, with a line of events for each.
-ghost use Rattle.std.specs.Prelude.{◌≡◌, ◌⊎◌, [], ◌<◌, ◌≤◌, length, codes, false, IfOk, IsTrue, OnOk, Err};
-ghost use Rattle.std.specs.Str.{bytes_eq};
+ghost use Rattle.std.specs.Prelude.{◌≡◌, ◌⊎◌, [], ◌<◌, false, IfOk, IsTrue, OnOk, Err};
 ghost use Rattle.events_top.specs.Endings.{ending_text, why_not};
 ghost use Rattle.events_top.specs.Events.{IsEvents, TellsEnding};
 ghost use Rattle.events_top.specs.Inside.Steps.{DoesBoth, PutsEnding, PutsTold, TellsEntry, TellsJournal, TellsLine, TellsRead, TellsStep, is_fault, told_status};
-ghost use Rattle.events_top.specs.Inside.Stops.{stopped};
 ghost use Rattle.script_grammar.specs.HasText.{has_text};
 ghost use Rattle.swarm_input.specs.Streams.{HasRisen, stream};
 ghost use Rattle.swarm_model.specs.History.{step};
 ghost use Rattle.swarm_model.specs.Outcome.{Gives};
-ghost use Rattle.swarm_objects.specs.Outside.{Rose};
 ghost use Rattle.swarm_objects.specs.World.{World, empty_world};
-ghost use Rattle.swarm_replay.specs.Inside.ReplaySteps.{EndsFull, ReadsHead};
 
 use crate::endings::{Ending, ending_text, why_not};
-use crate::entry_lines::{EntryLines, Stop};
 use events_text::entry_line;
 use script_grammar::LineFault;
 use script_reader::read_entry;
@@ -23,52 +18,11 @@ use swarm_duties::{Replay, StepFault};
 use swarm_input::WriteFault;
 use swarm_objects::limits::MOST_ENTRIES;
 use swarm_objects::{Entry, List, Reply, Sink, Source};
-use swarm_replay::{EntryFault, Verdict};
+use swarm_replay::entry_lines::EntryLines;
+use swarm_replay::{EntryFault, Verdict, read_end, read_head, stopped};
 
 /// As many entries as a whole history can have.
 const MOST: u64 = MOST_ENTRIES + 1;
-
-fn is_head(line: &[u8]) -> bool
-    ensures { result ≡ bytes_eq line.now (codes "swarm journal 1\n") }
-{
-    line == b"swarm journal 1\n".as_slice()
-}
-
-// How the reading ends where the line with this number can't be read.
-fn stopped(number: u64, stop: Stop) -> Verdict
-    ensures { result ≡ stopped number stop }
-{
-    match stop {
-        Stop::Failed => Verdict::ReadFault,
-        Stop::Long => Verdict::BadLine(number, EntryFault::Text(LineFault::Long)),
-        Stop::NoMemory => Verdict::NoMemory,
-    }
-}
-
-// Reads the head line, or says how the reading ends there.
-fn read_head<S: Source>(input: &mut EntryLines, source: &mut S) -> Result<(), Verdict>
-    requires { input.old ≡ record { bytes = []; finished = false } }
-    ensures head { ReadsHead result input.old input.new (S.left source.old) (S.left source.new) }
-    ensures few { length input.new.bytes ≤ 12320 }
-    ensures later { S.faults source.old ≤ S.faults source.new }
-    ensures cause { result ≡ Err Verdict.ReadFault → Rose (S.faults source.old) (S.faults source.new) }
-    ensures kept { OnOk result (S.faults source.new ≡ S.faults source.old) }
-    ensures risen { S.faults source.old < S.faults source.new → result ≡ Err Verdict.ReadFault }
-{
-    match input.next_line(source) {
-        Ok(Some(line)) => {
-            if is_head(line.as_slice()) {
-                Ok(())
-            } else {
-                Err(Verdict::BadLine(1, EntryFault::Head))
-            }
-        }
-        Ok(None) => Err(Verdict::BadLine(1, EntryFault::Head)),
-        Err(Stop::Long) => Err(Verdict::BadLine(1, EntryFault::Head)),
-        Err(Stop::Failed) => Err(Verdict::ReadFault),
-        Err(Stop::NoMemory) => Err(Verdict::NoMemory),
-    }
-}
 
 // Makes the line of an entry that was done on the world after it, and does it on the world before it too.
 fn tell_step(
@@ -188,22 +142,6 @@ fn tell_line<O: Sink>(
     let done = put_told(out, &told);
     drop(told);
     done
-}
-
-// How the reading ends after as many entries as there can be: a byte more is a line too many.
-fn read_end<S: Source>(input: &mut EntryLines, source: &mut S, count: u64) -> Verdict
-    requires { count ≡ 300001 }
-    ensures ends { EndsFull count result input.old input.new (S.left source.old) (S.left source.new) }
-    ensures later { S.faults source.old ≤ S.faults source.new }
-    ensures cause { result ≡ Verdict.ReadFault → Rose (S.faults source.old) (S.faults source.new) }
-    ensures risen { S.faults source.old < S.faults source.new → result ≡ Verdict.ReadFault }
-    ensures few { length input.new.bytes ≤ 12320 }
-{
-    match input.has_more(source) {
-        Ok(true) => Verdict::BadLine(count + 2, EntryFault::Size),
-        Ok(false) => Verdict::Legal(count),
-        Err(stop) => stopped(count + 2, stop),
-    }
 }
 
 // Reads a journal line by line, does each entry in turn and puts its line of events, and says how that ended. Both

@@ -2,7 +2,6 @@
 #![tactic(auto)]
 
 mod endings;
-mod entry_lines;
 mod events;
 
 pub use endings::{Ending, why_not};

@@ -91,18 +91,21 @@ read_status NoMemory x y k l status e tells = cc
 pub replayed : (verdict : Verdict) (input after x y : Option (List ℕ)) (m n k l status : ℕ) →
     IsJudged verdict (stream_of input after m n) → TellsVerdict verdict (stream_of x y k l) status →
     (k < l → IsPutStatus status) → IsReplay (stream_of input after m n) (stream_of x y k l) status
-replayed verdict input after x y m n k l status found tells risen = record {
-  history = found.history;
-  legal = found.legal;
-  texts = found.texts;
-  verdict = verdict;
-  judges = found.judges;
-  lines = found.lines;
-  tells = tells;
-  cause = found.cause;
-  takes = found.takes;
-  input_failed = λ h. read_status verdict x y k l status (found.risen h) tells;
-  out_failed = risen;
-  complete = λ sound sink. complete verdict input after x y m n k l found.history status found.legal found.judges found.lines
-      found.cause tells sound sink;
-}
+replayed verdict input after x y m n k l status judged tells risen =
+    let history = judged.0 in
+    let found = judged.1 in
+    record {
+      history = history;
+      legal = found.legal;
+      texts = found.texts;
+      verdict = verdict;
+      judges = found.judges;
+      lines = found.lines;
+      tells = tells;
+      cause = found.cause;
+      takes = found.takes;
+      input_failed = λ h. read_status verdict x y k l status (found.risen h) tells;
+      out_failed = risen;
+      complete = λ sound sink. complete verdict input after x y m n k l history status found.legal found.judges found.lines
+          found.cause tells sound sink;
+    }

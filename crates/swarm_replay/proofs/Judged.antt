@@ -1,4 +1,4 @@
--- How a replay ends, and what its verdict says of the input.
+-- How a replay ends, and what its verdict says of the input and of the entries that were done.
 use Rattle.std.proofs.Common.{◌≡◌, ℕ, ◌+◌, ◌≤◌, ◌<◌, min, List, [], ◌∷◌, ◌++◌, length, Bool, true, false, cond, refl, Option, Some, None, Result, Ok, Err, inl, inr, sym, ◌∙◌, ap, subst, arith, append_assoc}
 use Rattle.std.specs.List.{list_all}
 use Rattle.std.specs.Io.KnownBytes.{Consumes}
@@ -15,7 +15,7 @@ use Rattle.swarm_input.specs.Lines.{bytes_of, is_newline, lines_of, onto_line}
 use Rattle.swarm_replay.specs.Replay.{IsVerdictOf, Judges, lines_for}
 use Rattle.swarm_input.specs.Streams.{TakesLines, stream_of}
 use Rattle.swarm_replay.specs.Inside.JournalBuffer.{GivesBytes, GivesNext, MeansStop}
-use Rattle.swarm_replay.specs.Inside.ReplaySteps.{EndsAtHead, EndsFull, HasNoHead, IsJudged, IsReplaying, ReachesBy, TakesAHead, TakesEntry, stopped}
+use Rattle.swarm_replay.specs.Inside.ReplaySteps.{EndsAtHead, EndsFull, HasNoHead, IsJudgedOn, IsReplaying, ReachesBy, TakesAHead, TakesEntry, stopped}
 use Rattle.swarm_replay.specs.declared.entry_lines.Stop.{Stop}
 use Rattle.swarm_replay.specs.declared.entry_lines.Stop.TheVariants.{Failed, Long as TooLong, NoMemory as NoRoom}
 use Rattle.swarm_input.specs.declared.input.ScriptLine.{ScriptLine}
@@ -31,9 +31,8 @@ use Rattle.swarm_input.proofs.WholeLines.{next_lines, none_whole}
 pub judged : (verdict : Verdict) (input after : Option (List ℕ)) (k l : ℕ) (H : List Entry) → IsLegal H →
     list_all has_text H ≡ true → Judges verdict H → IsVerdictOf verdict input after H →
     TakesLines input after (min most_lines (lines_for verdict H)) 8224 →
-    (verdict ≡ ReadFault → Rose k l) → (k < l → verdict ≡ ReadFault) → IsJudged verdict (stream_of input after k l)
+    (verdict ≡ ReadFault → Rose k l) → (k < l → verdict ≡ ReadFault) → IsJudgedOn verdict H (stream_of input after k l)
 judged verdict input after k l H legal texts judges lines takes cause risen = record {
-  history = H;
   legal = legal;
   texts = texts;
   judges = judges;
@@ -58,7 +57,7 @@ done_lines ReadFault H = omega arith
 done_lines NoMemory H = omega arith
 
 -- the head and the lines of the entries
-few_done : (verdict : Verdict) (H : List Entry) → length H ≤ 300001 → length H + 1 ≤ min most_lines (lines_for verdict H)
+pub few_done : (verdict : Verdict) (H : List Entry) → length H ≤ 300001 → length H + 1 ≤ min most_lines (lines_for verdict H)
 few_done verdict H few = both most_lines (lines_for verdict H) (length H + 1) (omega (arith, few)) (done_lines verdict H)
 
 -- and the one that decides
@@ -72,19 +71,19 @@ few_decided NoMemory H count w v bytes few takes = both most_lines (length H + 2
 few_decided ReadFault H count w v bytes few takes = absurd takes
 few_decided (Legal number) H count w v bytes few takes = absurd takes
 
-no_rise : (k l : ℕ) → l ≡ k → k < l → ⊥
+pub no_rise : (k l : ℕ) → l ≡ k → k < l → ⊥
 no_rise k l same less = omega (arith, same, less)
 
 -- there is no further line
-pub ends : (input left after : Option (List ℕ)) (w : World) (count k l : ℕ) (held new : HeldBytes) →
-    IsReplaying input w count held left → count ≤ 300001 → GivesNext held new left after None → length new.bytes ≤ 12320 → l ≡ k →
-    IsJudged (Legal count) (stream_of input after k l)
-ends input left after w count k l held new at few gives more same =
-    let so_few : length at.history ≤ 300001 = omega (arith, at.count_is, few) in
-    judged (Legal count) input after k l at.history at.legal at.texts at.count_is
-    (no_line input at.history count held new left after at.reached gives)
-    (takes_more input at.history held new left after (min most_lines (lines_for (Legal count) at.history)) at.reached
-    (few_done (Legal count) at.history so_few) gives.0 more)
+pub ends : (input left after : Option (List ℕ)) (w : World) (count k l : ℕ) (held new : HeldBytes) (H : List Entry) →
+    IsReplaying input H w count held left → count ≤ 300001 → GivesNext held new left after None →
+    length new.bytes ≤ 12320 → l ≡ k → IsJudgedOn (Legal count) H (stream_of input after k l)
+ends input left after w count k l held new H at few gives more same =
+    let so_few : length H ≤ 300001 = omega (arith, at.count_is, few) in
+    judged (Legal count) input after k l H at.legal at.texts at.count_is
+    (no_line input H count held new left after at.reached gives)
+    (takes_more input H held new left after (min most_lines (lines_for (Legal count) H)) at.reached
+    (few_done (Legal count) H so_few) gives.0 more)
     (λ e. cc) (λ h. absurd (no_rise k l same h))
 
 -- what a stop says of entries
@@ -99,16 +98,16 @@ stop_failed number TooLong e = cc
 stop_failed number NoRoom e = cc
 
 -- the next line can't be read
-pub stops : (input left after : Option (List ℕ)) (w : World) (count k l : ℕ) (held new : HeldBytes) (stop : Stop) →
-    IsReplaying input w count held left → count < 300001 → TakesMore held new left after → MeansStop stop (unread held left) new →
-    length new.bytes ≤ 12320 → (stop ≡ Failed → Rose k l) → (k < l → stop ≡ Failed) →
-    IsJudged (stopped (count + 2) stop) (stream_of input after k l)
-stops input left after w count k l held new stop at few takes means more cause risen =
-    let so_few : length at.history ≤ 300000 = omega (arith, at.count_is, few) in
-    judged (stopped (count + 2) stop) input after k l at.history at.legal at.texts (stop_judges (count + 2) stop at.history)
-    (no_read input at.history (count + 2) held new left after stop at.reached (omega (arith, at.count_is)) so_few takes means)
-    (takes_more input at.history held new left after (min most_lines (lines_for (stopped (count + 2) stop) at.history)) at.reached
-    (few_done (stopped (count + 2) stop) at.history (omega (arith, so_few))) takes more)
+pub stops : (input left after : Option (List ℕ)) (w : World) (count k l : ℕ) (held new : HeldBytes) (stop : Stop)
+    (H : List Entry) → IsReplaying input H w count held left → count < 300001 → TakesMore held new left after →
+    MeansStop stop (unread held left) new → length new.bytes ≤ 12320 → (stop ≡ Failed → Rose k l) → (k < l → stop ≡ Failed) →
+    IsJudgedOn (stopped (count + 2) stop) H (stream_of input after k l)
+stops input left after w count k l held new stop H at few takes means more cause risen =
+    let so_few : length H ≤ 300000 = omega (arith, at.count_is, few) in
+    judged (stopped (count + 2) stop) input after k l H at.legal at.texts (stop_judges (count + 2) stop H)
+    (no_read input H (count + 2) held new left after stop at.reached (omega (arith, at.count_is)) so_few takes means)
+    (takes_more input H held new left after (min most_lines (lines_for (stopped (count + 2) stop) H)) at.reached
+    (few_done (stopped (count + 2) stop) H (omega (arith, so_few))) takes more)
     (λ e. cause (stop_failed (count + 2) stop e)) (λ h. ap (stopped (count + 2)) (risen h))
 
 -- the line of an entry ends the reading
@@ -169,16 +168,16 @@ line_failed w v count bytes ReadFault takes e = takes
 line_failed w v count bytes (Legal number) takes e = takes
 
 pub line_ends : (input left after : Option (List ℕ)) (w v : World) (count k l : ℕ) (held new : HeldBytes)
-    (bytes : List ℕ) (verdict : Verdict) → IsReplaying input w count held left → count < 300001 →
+    (bytes : List ℕ) (verdict : Verdict) (H : List Entry) → IsReplaying input H w count held left → count < 300001 →
     GivesBytes held new left after bytes → length new.bytes ≤ 12320 → TakesEntry count w bytes (Err verdict) v → l ≡ k →
-    IsJudged verdict (stream_of input after k l)
-line_ends input left after w v count k l held new bytes verdict at few gives more takes same =
-    let so_few : length at.history ≤ 300000 = omega (arith, at.count_is, few) in
-    judged verdict input after k l at.history at.legal at.texts
-    (line_judges at.history w v count bytes verdict at.count_is at.world takes)
-    (line_verdict input at.history w v count held new left after bytes verdict at.reached so_few at.count_is at.world gives takes)
-    (takes_line input at.history held new left after bytes (min most_lines (lines_for verdict at.history)) at.reached
-    (few_decided verdict at.history count w v bytes so_few takes) gives more)
+    IsJudgedOn verdict H (stream_of input after k l)
+line_ends input left after w v count k l held new bytes verdict H at few gives more takes same =
+    let so_few : length H ≤ 300000 = omega (arith, at.count_is, few) in
+    judged verdict input after k l H at.legal at.texts
+    (line_judges H w v count bytes verdict at.count_is at.world takes)
+    (line_verdict input H w v count held new left after bytes verdict at.reached so_few at.count_is at.world gives takes)
+    (takes_line input H held new left after bytes (min most_lines (lines_for verdict H)) at.reached
+    (few_decided verdict H count w v bytes so_few takes) gives more)
     (λ e. absurd (line_failed w v count bytes verdict takes e)) (λ h. absurd (no_rise k l same h))
 
 -- The reading ends at the head.
@@ -225,7 +224,7 @@ head_takes input after most some takes = record {
 
 pub head_ends : (input after : Option (List ℕ)) (new : HeldBytes) (verdict : Verdict) (k l : ℕ) → EndsAtHead verdict input after new →
     TakesAHead input after → (verdict ≡ ReadFault → Rose k l) →
-    (k < l → verdict ≡ ReadFault) → IsJudged verdict (stream_of input after k l)
+    (k < l → verdict ≡ ReadFault) → IsJudgedOn verdict [] (stream_of input after k l)
 head_ends input after new verdict k l ends' takes cause risen =
     judged verdict input after k l [] tt refl (head_judges input after new verdict ends')
     (head_verdict input after new verdict (takes.lines ++ takes.ahead) ends' takes.taken)
@@ -319,17 +318,17 @@ full_takes count held new left after (Illegal number) ends' = absurd ends'
 full_takes count held new left after ReadFault ends' = ends'.0
 full_takes count held new left after NoMemory ends' = ends'
 
-pub full_ends : (input left after : Option (List ℕ)) (w : World) (count k l : ℕ) (held new : HeldBytes) (verdict : Verdict) →
-    IsReplaying input w count held left → count ≡ 300001 → EndsFull count verdict held new left after →
+pub full_ends : (input left after : Option (List ℕ)) (w : World) (count k l : ℕ) (held new : HeldBytes) (verdict : Verdict)
+    (H : List Entry) → IsReplaying input H w count held left → count ≡ 300001 → EndsFull count verdict held new left after →
     length new.bytes ≤ 12320 → (verdict ≡ ReadFault → Rose k l) → (k < l → verdict ≡ ReadFault) →
-    IsJudged verdict (stream_of input after k l)
-full_ends input left after w count k l held new verdict at many ends' more cause risen =
-    let size : length at.history ≡ 300001 = omega (arith, at.count_is, many) in
-    judged verdict input after k l at.history at.legal at.texts
-    (full_judges at.history count held new left after verdict at.count_is ends')
-    (full_verdict input at.history count held new left after verdict at.reached size at.count_is ends')
-    (takes_more input at.history held new left after (min most_lines (lines_for verdict at.history)) at.reached
-    (few_done verdict at.history (omega (arith, size))) (full_takes count held new left after verdict ends') more)
+    IsJudgedOn verdict H (stream_of input after k l)
+full_ends input left after w count k l held new verdict H at many ends' more cause risen =
+    let size : length H ≡ 300001 = omega (arith, at.count_is, many) in
+    judged verdict input after k l H at.legal at.texts
+    (full_judges H count held new left after verdict at.count_is ends')
+    (full_verdict input H count held new left after verdict at.reached size at.count_is ends')
+    (takes_more input H held new left after (min most_lines (lines_for verdict H)) at.reached
+    (few_done verdict H (omega (arith, size))) (full_takes count held new left after verdict ends') more)
     cause risen
 
 -- Faults that are the same.

@@ -19,7 +19,7 @@ use Rattle.swarm_replay.specs.Journal.{JournalReading, entry_at, in_journal, is_
 use Rattle.swarm_input.specs.Lines.{bytes_of, lines_of, whole_lines, IsWhole}
 use Rattle.swarm_replay.specs.Replay.{BeginsWith, IsVerdictOf}
 use Rattle.swarm_replay.specs.Inside.JournalBuffer.{GivesBytes, GivesNext, MeansStop}
-use Rattle.swarm_replay.specs.Inside.ReplaySteps.{IsReplaying, ReachesBy, ReachesEntries, TakesEntry, stopped}
+use Rattle.swarm_replay.specs.Inside.ReplaySteps.{IsReplaying, ReachesBy, ReachesEntries, stopped}
 use Rattle.swarm_replay.specs.declared.entry_lines.Stop.{Stop}
 use Rattle.swarm_replay.specs.declared.entry_lines.Stop.TheVariants.{Failed, Long as TooLong, NoMemory as NoRoom}
 use Rattle.swarm_input.specs.declared.input.ScriptLine.{ScriptLine}
@@ -70,9 +70,8 @@ reaches_head (Some input) (Some left) old new start gives =
 
 -- the head line was read, and nothing is done yet
 pub starts : (input left : Option (List ℕ)) (old new : HeldBytes) (w : World) → old ≡ record { bytes = []; finished = false } →
-    GivesBytes old new input left (codes "swarm journal 1\n") → w ≡ empty_world → IsReplaying input w 0 new left
+    GivesBytes old new input left (codes "swarm journal 1\n") → w ≡ empty_world → IsReplaying input [] w 0 new left
 starts input left old new w start gives world = record {
-  history = [];
   legal = tt;
   world = world;
   count_is = refl;
@@ -188,20 +187,18 @@ and_true true false e h = cc
 and_true false b e h = cc
 
 pub goes_on : (input left after : Option (List ℕ)) (w v : World) (count : ℕ) (held new : HeldBytes) (bytes : List ℕ)
-    (done : Unit {0}) → IsReplaying input w count held left → count < 300001 → GivesBytes held new left after bytes →
-    TakesEntry count w bytes (Ok done) v → IsReplaying input v (count + 1) new after
-goes_on input left after w v count held new bytes done at few gives takes =
-    let e = takes.0 in
-    let H = at.history in
+    (H : List Entry) (e : Entry) → IsReplaying input H w count held left → count < 300001 →
+    GivesBytes held new left after bytes →
+    entry_meaning bytes ≡ Ok e → bytes ≡ entry_text e → has_text e ≡ true → may_follow w e.what ≡ true → v ≡ step_world w e →
+    IsReplaying input (H ++ e ∷ []) v (count + 1) new after
+goes_on input left after w v count held new bytes H e at few gives means one has may is =
     let so_few : length H ≤ 300000 = omega (arith, at.count_is, few) in
     record {
-      history = H ++ e ∷ [];
-      legal = IsLegalFrom-snoc empty_world H e at.legal
-          (subst (λ (u : World). may_follow u e.what ≡ true) at.world takes.4);
-      world = takes.5 ∙ ap (λ (u : World). step_world u e) at.world ∙ sym (replay-snoc empty_world H e);
+      legal = IsLegalFrom-snoc empty_world H e at.legal (subst (λ (u : World). may_follow u e.what ≡ true) at.world may);
+      world = is ∙ ap (λ (u : World). step_world u e) at.world ∙ sym (replay-snoc empty_world H e);
       count_is = omega (arith, at.count_is, length-append H (e ∷ []));
-      texts = list_all-append has_text H (e ∷ []) ∙ and_true (list_all has_text H) (has_text e) at.texts takes.3;
-      reached = reaches_next input H e held new left after bytes at.reached so_few gives takes.1 takes.2;
+      texts = list_all-append has_text H (e ∷ []) ∙ and_true (list_all has_text H) (has_text e) at.texts has;
+      reached = reaches_next input H e held new left after bytes at.reached so_few gives means one;
     }
 
 -- The end of the reading.

@@ -13,11 +13,11 @@ use Rattle.swarm_replay.specs.declared.verdicts.EntryFault.TheVariants.{Head, Si
 use Rattle.swarm_replay.specs.declared.verdicts.Verdict.{Verdict}
 use Rattle.swarm_replay.specs.declared.verdicts.Verdict.TheVariants.{Legal, Illegal, BadLine, ReadFault, NoMemory}
 
-abbrev ReadsAs : List ℕ → Result Entry LineFault → Type 0
+abbrev pub ReadsAs : List ℕ → Result Entry LineFault → Type 0
 ReadsAs line read = (read ≡ entry_meaning line) ⊎ (read ≡ Err fault.NoMemory)
 
 -- the meaning of a line that was read
-meaning_is : (line : List ℕ) (entry : Entry) → ReadsAs line (Ok entry) → entry_meaning line ≡ Ok entry
+pub meaning_is : (line : List ℕ) (entry : Entry) → ReadsAs line (Ok entry) → entry_meaning line ≡ Ok entry
 meaning_is line entry (inl h) = sym h
 meaning_is line entry (inr h) = cc
 

@@ -13,20 +13,22 @@ nothing_done (Some input) = ((journal_reading input).entries, refl)
 
 pub is_no_replay : (a : Option (List ℕ)) (m : ℕ) (x : Option (List ℕ)) (k status : ℕ) → status ≡ 5 →
     IsReplay (stream_of a a m m) (stream_of x x k k) status
-is_no_replay a m x k status is = replayed NoMemory a a x x m m k k status (record {
-  history = [];
-  legal = tt;
-  texts = refl;
-  judges = tt;
-  lines = nothing_done a;
-  takes = record {
-    lines = [];
-    ahead = [];
-    taken = consumes_none a;
-    ends = omega arith;
-    size = omega arith;
-    few = omega arith;
-  };
-  cause = λ e. absurd (cc e);
-  risen = λ h. absurd (omega (arith, h));
-}) (is, appends_none x) (λ h. absurd (omega (arith, h)))
+is_no_replay a m x k status is = replayed NoMemory a a x x m m k k status (
+  [],
+  record {
+    legal = tt;
+    texts = refl;
+    judges = tt;
+    lines = nothing_done a;
+    takes = record {
+      lines = [];
+      ahead = [];
+      taken = consumes_none a;
+      ends = omega arith;
+      size = omega arith;
+      few = omega arith;
+    };
+    cause = λ e. absurd (cc e);
+    risen = λ h. absurd (omega (arith, h));
+  },
+) (is, appends_none x) (λ h. absurd (omega (arith, h)))

@@ -1,9 +1,9 @@
 // A journal read back: each entry is judged and done as the next one, and what was found is told.
 #![tactic(auto)]
 
-mod entry_lines;
+pub mod entry_lines;
 mod replays;
 mod verdicts;
 
-pub use replays::replay;
+pub use replays::{read_end, read_head, replay, stopped};
 pub use verdicts::{EntryFault, Verdict};

@@ -26,8 +26,8 @@ fn is_head(line: &[u8]) -> bool
     line == b"swarm journal 1\n".as_slice()
 }
 
-// How the reading ends where the line with this number can't be read.
-fn stopped(number: u64, stop: Stop) -> Verdict
+/// How the reading ends where the line with this number can't be read.
+pub fn stopped(number: u64, stop: Stop) -> Verdict
     ensures { result ≡ stopped number stop }
 {
     match stop {
@@ -37,8 +37,8 @@ fn stopped(number: u64, stop: Stop) -> Verdict
     }
 }
 
-// Reads the head line, or says how the reading ends there.
-fn read_head<S: Source>(input: &mut EntryLines, source: &mut S) -> Result<(), Verdict>
+/// Reads the head line, or says how the reading ends there. Nothing was read before.
+pub fn read_head<S: Source>(input: &mut EntryLines, source: &mut S) -> Result<(), Verdict>
     requires { input.old ≡ record { bytes = []; finished = false } }
     ensures head { ReadsHead result input.old input.new (S.left source.old) (S.left source.new) }
     ensures few { length input.new.bytes ≤ 12320 }
@@ -117,8 +117,8 @@ fn take_entry(alloc: Global, world: &mut Replay, count: u64, line: &[u8]) -> Res
     done
 }
 
-// How the reading ends after as many entries as there can be: a byte more is a line too many.
-fn read_end<S: Source>(input: &mut EntryLines, source: &mut S, count: u64) -> Verdict
+/// How the reading ends after as many entries as there can be: a byte more is a line too many.
+pub fn read_end<S: Source>(input: &mut EntryLines, source: &mut S, count: u64) -> Verdict
     requires { count ≡ 300001 }
     ensures ends { EndsFull count result input.old input.new (S.left source.old) (S.left source.new) }
     ensures later { S.faults source.old ≤ S.faults source.new }

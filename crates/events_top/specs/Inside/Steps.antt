@@ -1,6 +1,5 @@
 -- What one step of the going over a journal does.
-use Rattle.std.specs.Prelude.{ℕ, Bool, ◌≡◌, ◌≢◌, ◌+◌, List, [], length, true, false, Option, Result, Ok, Err, ⊤}
-use Rattle.std.specs.List.{list_all}
+use Rattle.std.specs.Prelude.{ℕ, Bool, ◌≡◌, ◌≢◌, ◌+◌, List, [], true, false, Result, Ok, Err, ⊤}
 use Rattle.events_text.specs.Lines.{entry_line, event_lines}
 use Rattle.events_top.specs.Endings.{ending_status}
 use Rattle.events_top.specs.declared.endings.Ending.{Ending}
@@ -10,15 +9,13 @@ use Rattle.script_grammar.specs.HasText.{has_text}
 use Rattle.script_grammar.specs.Texts.{entry_text}
 use Rattle.script_grammar.specs.declared.lines.LineFault.{LineFault}
 use Rattle.script_grammar.specs.declared.lines.LineFault.TheVariants as fault
-use Rattle.swarm_input.specs.Held.{HeldBytes}
-use Rattle.swarm_input.specs.Streams.{Stream, HasFailed, HasRisen, Puts, PutsPrefix}
+use Rattle.swarm_input.specs.Streams.{Stream, HasFailed, Puts, PutsPrefix}
 use Rattle.swarm_input.specs.declared.faults.WriteFault.{WriteFault}
 use Rattle.swarm_input.specs.declared.faults.WriteFault.TheVariants.{Failed as SinkFailed, NoMemory as NoSpace}
-use Rattle.swarm_model.specs.History.{IsLegal, may_follow, replay, step_world}
+use Rattle.swarm_model.specs.History.{may_follow, replay, step_world}
 use Rattle.swarm_objects.specs.World.{World}
 use Rattle.swarm_objects.specs.declared.calls.Entry.{Entry}
-use Rattle.swarm_replay.specs.Inside.ReplaySteps.{ReachesBy, TakesEntry}
-use Rattle.swarm_replay.specs.Replay.{IsVerdictOf, Judges, TakesAtMostAJournal}
+use Rattle.swarm_replay.specs.Inside.ReplaySteps.{IsJudgedOn, TakesEntry}
 use Rattle.swarm_replay.specs.declared.verdicts.EntryFault.TheVariants.{Head, Size, Text}
 use Rattle.swarm_replay.specs.declared.verdicts.Verdict.{Verdict}
 use Rattle.swarm_replay.specs.declared.verdicts.Verdict.TheVariants.{Legal, Illegal, BadLine, ReadFault, NoMemory}
@@ -105,26 +102,7 @@ IsBehind (BadLine number fault) w history = ⊤
 IsBehind ReadFault w history = ⊤
 IsBehind NoMemory w history = ⊤
 
--- these entries were done, so many, which are legal and make this world
-pub record IsReplayingOn (input : Option (List ℕ)) (history : List Entry) (w : World) (count : ℕ) (held : HeldBytes)
-    (left : Option (List ℕ)) : Type 0 where
-  pub legal : IsLegal history
-  pub world : w ≡ replay history
-  pub count_is : count ≡ length history
-  pub texts : list_all has_text history ≡ true
-  pub reached : ReachesBy input history held left
-
--- these entries were done, and the verdict is on them
-pub record IsJudgedOn (verdict : Verdict) (history : List Entry) (input : Stream) : Type 0 where
-  pub legal : IsLegal history
-  pub texts : list_all has_text history ≡ true
-  pub judges : Judges verdict history
-  pub lines : IsVerdictOf verdict input.before input.after history
-  pub takes : TakesAtMostAJournal verdict history input
-  pub cause : verdict ≡ ReadFault → HasFailed input
-  pub risen : HasRisen input → verdict ≡ ReadFault
-
--- they were done, with what was put for them
+-- the entries that were done, with what was put for them
 abbrev pub TellsJournal : Ending → Stream → Stream → World → Type 0
 TellsJournal (Judged verdict) input out w =
     (history : List Entry) × IsJudgedOn verdict history input × Puts out (event_lines history)

@@ -153,10 +153,9 @@ ReachesBy None history held left = ⊤
 ReachesBy (Some input) history held None = ⊥
 ReachesBy (Some input) history held (Some left) = ReachesEntries input history held left
 
--- so many entries are done, which are legal and make this world
-pub record IsReplaying (input : Option (List ℕ)) (w : World) (count : ℕ) (held : HeldBytes)
+-- these entries are done, so many, which are legal and make this world
+pub record IsReplaying (input : Option (List ℕ)) (history : List Entry) (w : World) (count : ℕ) (held : HeldBytes)
     (left : Option (List ℕ)) : Type 0 where
-  pub history : List Entry
   pub legal : IsLegal history
   pub world : w ≡ replay history
   pub count_is : count ≡ length history
@@ -165,9 +164,8 @@ pub record IsReplaying (input : Option (List ℕ)) (w : World) (count : ℕ) (he
 
 -- The end of the reading.
 
--- the entries that were done, and the verdict on them
-pub record IsJudged (verdict : Verdict) (input : Stream) : Type 0 where
-  pub history : List Entry
+-- these entries were done, and the verdict is on them
+pub record IsJudgedOn (verdict : Verdict) (history : List Entry) (input : Stream) : Type 0 where
   pub legal : IsLegal history
   pub texts : list_all has_text history ≡ true
   pub judges : Judges verdict history
@@ -175,6 +173,10 @@ pub record IsJudged (verdict : Verdict) (input : Stream) : Type 0 where
   pub takes : TakesAtMostAJournal verdict history input
   pub cause : verdict ≡ ReadFault → HasFailed input
   pub risen : HasRisen input → verdict ≡ ReadFault
+
+-- some entries were done, and the verdict is on them
+abbrev pub IsJudged : Verdict → Stream → Type 0
+IsJudged verdict input = (history : List Entry) × IsJudgedOn verdict history input
 
 -- What is put.
 

@@ -1,14 +1,12 @@
 use Rattle.std.proofs.Common.{◌≡◌, ◌<◌, ℕ, List, [], ◌∷◌, ◌++◌, None, Ok, Err, refl, sym, ◌∙◌, ap, subst, arith}
-use Rattle.events_top.proofs.GoingOn.{goes_on, starts}
-use Rattle.events_top.proofs.Judged.{ends, full_ends, head_ends, stops}
-use Rattle.events_top.proofs.Telling.{failed_of, full_behind, head_behind, line_over, puts_more, same_ending, same_stop, stop_behind}
+use Rattle.events_top.proofs.Telling.{full_behind, head_behind, line_over, puts_more, same_ending, stop_behind}
 use Rattle.events_top.specs.Inside.Steps.{TellsJournal, TellsLine}
-use Rattle.events_top.specs.Inside.Stops.{stop_of}
 use Rattle.events_top.specs.declared.endings.Ending.TheVariants.{Judged}
 use Rattle.swarm_input.proofs.Prefixes.{appends_none}
 use Rattle.swarm_input.specs.Streams.{stream}
 use Rattle.swarm_objects.specs.Outside.{Rose}
-use Rattle.swarm_replay.proofs.Judged.{same_verdict}
+use Rattle.swarm_replay.proofs.Judged.{ends, full_ends, head_ends, same_stop, same_verdict, stops}
+use Rattle.swarm_replay.proofs.Judging.{goes_on, starts}
 use Rattle.swarm_replay.specs.Inside.JournalBuffer.{GivesBytes, GivesNext}
 use Rattle.swarm_replay.specs.declared.verdicts.Verdict.{Verdict}
 use Rattle.events_top.proofs.events.tell_entries.Goals as goal
@@ -60,10 +58,10 @@ returns-in-Err-next_line-clause-tells g c =
     (stream g.O.Sink.written g.O.Sink.faults c.args.out.now c.loop-count.out) c.loop-count.after)
     (sym c.stopped.ensures) (
       H,
-      stops _ _ _ c.loop-count.after c.loop-count.count _ _ c.loop-count.input c.next_line.new.self (stop_of stop) H kept.at.1
+      stops _ _ _ c.loop-count.after c.loop-count.count _ _ c.loop-count.input c.next_line.new.self stop H kept.at.1
           (omega arith) c.in-Err-next_line.ensures.takes c.in-Err-next_line.ensures.fault c.in-Err-next_line.ensures.few
-          (λ e. subst (λ (n : ℕ). Rose n after) kept.same (c.in-Err-next_line.ensures.cause (ap (λ s. Err s) (failed_of stop e))))
-          (λ h. ap stop_of (same_stop stop _ (c.in-Err-next_line.ensures.risen (subst (λ (n : ℕ). n < after) (sym kept.same) h)))),
+          (λ e. subst (λ (n : ℕ). Rose n after) kept.same (c.in-Err-next_line.ensures.cause (ap (λ s. Err s) e)))
+          (λ h. same_stop stop _ (c.in-Err-next_line.ensures.risen (subst (λ (n : ℕ). n < after) (sym kept.same) h))),
       kept.at.2,
       stop_behind _ stop _ H,
     )

@@ -1,15 +1,15 @@
 use Rattle.std.proofs.Common.{◌≡◌, ◌≤◌, ◌-◌, List}
 use Rattle.events_text.specs.Lines.{event_lines}
-use Rattle.events_top.specs.Inside.Steps.{IsReplayingOn}
 use Rattle.swarm_input.specs.Streams.{Puts, stream}
 use Rattle.swarm_objects.specs.declared.calls.Entry.{Entry}
+use Rattle.swarm_replay.specs.Inside.ReplaySteps.{IsReplaying}
 use Rattle.events_top.proofs.events.tell_entries.Given as goal
 
 -- these entries were done on both worlds, and their lines were put
 abbrev pub invariant-loop-count : goal.invariant-loop-count
 invariant-loop-count g l = record {
   at : (history : List Entry)
-      × IsReplayingOn (g.S.Source.left l.fn.source) history l.after l.count l.input (g.S.Source.left l.source)
+      × IsReplaying (g.S.Source.left l.fn.source) history l.after l.count l.input (g.S.Source.left l.source)
       × Puts (stream g.O.Sink.written g.O.Sink.faults l.fn.out l.out) (event_lines history);
   both : l.before ≡ l.after;
   few : l.count ≤ 300001;
