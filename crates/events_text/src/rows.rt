@@ -3,16 +3,16 @@ ghost use Rattle.std.specs.Prelude.{◌≡◌, IfOk, map};
 ghost use Rattle.serde_json.specs.Data.{string};
 ghost use Rattle.serde_json.specs.View.{view};
 ghost use Rattle.events_text.specs.Changes.{change_data, network_change, node_change, row_change, service_change, shown_change, task_change, telling};
-ghost use Rattle.swarm_objects.specs.Shown.{status_of};
 ghost use Rattle.swarm_plain.specs.Plain.{tables_of};
 ghost use Rattle.swarm_print.specs.Objects.{service_place_text};
 
 use serde_json::{Value, json};
 use std::alloc::{AllocError, Global};
+use swarm_objects::details::status_of;
 use swarm_objects::shown::task_shown;
 use swarm_objects::views::{PlaceShown, Shown, TaskShown};
 use swarm_objects::{
-    Event, Id, Kind, List, Network, NoMemory, Node, Rows, RunStatus, Service, Task, Verb, add,
+    Event, Id, Kind, List, Network, NoMemory, Node, Rows, Service, Task, Verb, add,
 };
 use swarm_plain::Plain;
 use swarm_print::words::{availability_word, desired_word, state_word, update_word, verb_word};
@@ -29,16 +29,6 @@ fn node_value(alloc: Global, verb: Verb, node: &Node) -> Result<Value, AllocErro
         "state": state_word(node.state),
         "verb": verb_word(verb)
     })
-}
-
-// How its last update stands, if there was one.
-fn status_of(service: &Service) -> Option<RunStatus>
-    ensures { result ≡ status_of service.now }
-{
-    match &service.run {
-        Some(run) => Some(run.status),
-        None => None,
-    }
 }
 
 fn service_value(alloc: Global, verb: Verb, service: &Service) -> Result<Value, AllocError>

@@ -101,8 +101,8 @@ pub fn is_shown_running(service: &Service, task: &Task) -> bool
     task.is_of(service.id) && task.is_live() && task.is_running()
 }
 
-// How its last update stands, if there was one.
-fn status_of(service: &Service) -> Option<RunStatus>
+/// How the service's last update stands, if there was one.
+pub fn status_of(service: &Service) -> Option<RunStatus>
     ensures { result ≡ status_of service.now }
 {
     match &service.run {
