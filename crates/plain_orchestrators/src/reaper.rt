@@ -17,13 +17,13 @@ use swarm_objects::{
 };
 use swarm_plain::Plain;
 use swarm_plain::places::newest;
-use swarm_upkeep::{is_past, is_removable};
+use swarm_upkeep::is_removable;
 
 // It is such a task of the place.
 fn is_past_in(service: &Service, place: Place, task: &Task) -> bool
     ensures { result ≡ (is_in_place service.now place task.now && is_past task.now) }
 {
-    task.is_in_place(service, place) && is_past(task)
+    task.is_in_place(service, place) && task.is_past()
 }
 
 // How many such tasks the place has.
@@ -43,7 +43,7 @@ fn oldest_past<'a>(service: &Service, place: Place, tasks: &'a [Task]) -> Option
     tasks
         .iter()
         .filter(|task| task.is_in_place(service, place))
-        .find(|task| is_past(task))
+        .find(|task| task.is_past())
 }
 
 // The place has more such tasks than are kept. This one is the oldest of them, and not the place's newest.
@@ -143,7 +143,7 @@ fn is_trimmed_in_order(plain: &Plain, task: &Task) -> bool
     requires has { Has (world_of plain.now).tables.tasks task.now }
     ensures { result ≡ is_trimmed (world_of plain.now).tables task.now }
 {
-    is_past(task) && is_trimmed(plain, task)
+    task.is_past() && is_trimmed(plain, task)
 }
 
 // The first old ended task.

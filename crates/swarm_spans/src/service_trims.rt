@@ -1,10 +1,8 @@
 // What a list of changes touches of the line over old tasks.
-ghost use Rattle.std.specs.Prelude.{◌≡◌, ◌==◌, Some};
+ghost use Rattle.std.specs.Prelude.{◌≡◌, Some};
 ghost use Rattle.swarm_objects.specs.ChangeLists.{apply_changes};
 ghost use Rattle.swarm_objects.specs.Rows.{row_at, task_id};
 ghost use Rattle.swarm_objects.specs.Usable.{IsUsable};
-ghost use Rattle.swarm_objects.specs.Values.Ranks.{desired_rank};
-ghost use Rattle.swarm_objects.specs.declared.tasks.Desired.TheVariants as desired;
 ghost use Rattle.swarm_spans.specs.Services.Standings.{bounds_alike, remains_alike};
 ghost use Rattle.swarm_spans.specs.Services.Steps.{HasBesideOf, HasRemains, HasTasksOf};
 ghost use Rattle.swarm_spans.specs.Services.Touches.{AddsBeside, AddsNew, AddsOther, HasBounded, HasPlaces, HasTrimmed};
@@ -13,14 +11,7 @@ ghost use Rattle.swarm_spans.specs.Spans.{IsWider};
 use crate::service_touches::has_open_run;
 use crate::span::Span;
 use swarm_objects::walks::tasks_of;
-use swarm_objects::{Change, Desired, Id, Rows, Service, Task, desired_rank};
-
-// It was to stop.
-fn is_to_stop(task: &Task) -> bool
-    ensures { result ≡ (desired_rank task.now.desired == desired_rank desired.Shutdown) }
-{
-    desired_rank(task.desired) == desired_rank(Desired::Shutdown)
-}
+use swarm_objects::{Change, Id, Rows, Service, Task};
 
 // As much remains of the one as of the other.
 fn remains_alike(one: &Task, two: &Task) -> bool
@@ -29,7 +20,7 @@ fn remains_alike(one: &Task, two: &Task) -> bool
     one.service == two.service
         && one.place == two.place
         && one.iteration == two.iteration
-        && (one.has_ended() && is_to_stop(one)) == (two.has_ended() && is_to_stop(two))
+        && one.is_past() == two.is_past()
 }
 
 // The same tasks count for both, and both have an update under way, or neither.

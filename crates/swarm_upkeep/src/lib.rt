@@ -7,4 +7,4 @@ mod reaping;
 
 pub use changing::changes;
 pub use enforcing::{breaks_constraints, is_misplaced, least_enforcer};
-pub use reaping::{is_past, is_removable, is_trimmed_past, least_reaper};
+pub use reaping::{is_removable, is_trimmed_past, least_reaper};

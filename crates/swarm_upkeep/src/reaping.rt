@@ -17,20 +17,13 @@ ghost use Rattle.swarm_objects.specs.Usable.{IsUsable};
 
 use role_words::{has_open_run, newest, tasks_of_place};
 use swarm_objects::walks::tasks;
-use swarm_objects::{Desired, Duty, Place, Rows, Service, Task, desired_rank};
+use swarm_objects::{Duty, Place, Rows, Service, Task};
 
 /// It is to be removed, and nothing of it runs.
 pub fn is_removable(task: &Task) -> bool
     ensures { result ≡ is_removable task.now }
 {
     !task.is_kept() && (task.is_below_assigned() || task.has_ended())
-}
-
-/// It ended, and was to stop.
-pub fn is_past(task: &Task) -> bool
-    ensures { result ≡ is_past task.now }
-{
-    task.has_ended() && desired_rank(task.desired) == desired_rank(Desired::Shutdown)
 }
 
 // How many such tasks the place has.
@@ -41,7 +34,7 @@ fn past_count<R: Rows>(rows: &R, service: &Service, place: Place) -> u64
 {
     let mut count = 0;
     for task in tasks_of_place(rows, service, place) {
-        if is_past(task) {
+        if task.is_past() {
             count += 1;
         }
     }
@@ -53,7 +46,7 @@ fn oldest_past<'a, R: Rows>(rows: &'a R, service: &'a Service, place: Place) -> 
     requires { IsUsable (R.tables rows.now) }
     ensures { option_copied result ≡ find is_past (tasks_of_place service.now place (R.tables rows.now).tasks) }
 {
-    tasks_of_place(rows, service, place).find(|task| is_past(task))
+    tasks_of_place(rows, service, place).find(|task| task.is_past())
 }
 
 // The task is the oldest of them.
@@ -129,7 +122,7 @@ pub fn is_trimmed_past<R: Rows>(rows: &R, task: &Task) -> bool
     requires { IsUsable (R.tables rows.now) }
     ensures { result ≡ (is_past task.now && is_trimmed (R.tables rows.now) task.now) }
 {
-    is_past(task) && is_trimmed(rows, task)
+    task.is_past() && is_trimmed(rows, task)
 }
 
 // The first such task.
