@@ -3,6 +3,7 @@ pub mod Inboxes
 pub mod NoNode
 pub mod PausedNode
 pub mod Places
+pub mod SettleLines
 pub mod Settled
 pub mod Unmet
 pub mod Worlds

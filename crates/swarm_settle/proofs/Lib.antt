@@ -1,6 +1,7 @@
 pub mod Ahead
 pub mod AimSteps
 pub mod Aims
+pub mod Bound
 pub mod Calm
 pub mod CleanTasks
 pub mod ClosedPlaces

@@ -1,5 +1,6 @@
 pub mod Agents
 pub mod Aimed
+pub mod Bound
 pub mod Flights
 pub mod Fresh
 pub mod Laws

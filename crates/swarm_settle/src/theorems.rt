@@ -1,6 +1,9 @@
-//! Settled means matched, and the laws on the way to it: each is the contract of a function that does nothing.
+//! Settled means matched, with the laws on the way to it, and that the control loops come to rest: each is the contract
+//! of a function that does nothing.
 ghost use Rattle.swarm_settle.specs.Agents.{QuietAgentsLaw, ReportLaw};
+ghost use Rattle.swarm_model.specs.Laws.Size.{BoundLaw};
 ghost use Rattle.swarm_settle.specs.Aimed.{AimsLaw};
+ghost use Rattle.swarm_settle.specs.Bound.Laws.{SettleLinesLaw};
 ghost use Rattle.swarm_settle.specs.Fresh.{FreshLaw};
 ghost use Rattle.swarm_settle.specs.Laws.{ClosedLaw, NothingElseLaw, OneLiveLaw, PlacesLaw, UnmetLaw, UpdatesLaw};
 ghost use Rattle.swarm_objects.specs.Agents.Hearing.{MessageLaw};
@@ -89,4 +92,16 @@ pub fn live_placed_tasks_run()
 /// except in places that are closed and in those whose task says why it is unmet.
 pub fn settled_means_matched()
     ensures { ReconciliationLaw }
+{}
+
+/// At one time and without a call, no more duties follow one another than the size of the world allows: at most
+/// 2000 * M * M, and at most 400 * M of them other than explain and note.
+pub fn loops_come_to_rest()
+    ensures { BoundLaw }
+{}
+
+/// The call of a settle line finds a world that isn't busy where the line's budget is at least 2000 * M * M, M the size
+/// of the world after caller 0's last entry before the line.
+pub fn settle_lines_end_in_time()
+    ensures { SettleLinesLaw }
 {}

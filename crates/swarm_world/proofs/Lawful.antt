@@ -1,5 +1,6 @@
 -- All laws hold of a legal history.
 use Rattle.std.proofs.Common.{List, subst}
+use Rattle.swarm_settle.proofs.Bound.Settling.{comes-to-rest}
 use Rattle.swarm_settle.proofs.Matched.{settled-matches}
 use Rattle.swarm_model.proofs.Base.Histories.{IsLegalFrom-append}
 use Rattle.swarm_model.proofs.Laws.DeadSessions.{dead-sessions}
@@ -20,4 +21,5 @@ lawful h legal = record {
   places = one-template h legal;
   matched = λ before after is settled.
       settled-matches before (IsLegalFrom-append empty_world before after (subst IsLegal is legal)).0 settled;
+  rests = comes-to-rest h;
 }

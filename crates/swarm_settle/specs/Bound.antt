@@ -1,0 +1,4 @@
+pub mod Coming
+pub mod Laws
+pub mod Left
+pub mod Measure
