@@ -1,6 +1,11 @@
+pub mod AgentsAlone
+pub mod AgentsCovered
+pub mod AgentsMarked
+pub mod AgentsShown
 pub mod Answering
 pub mod Arriving
 pub mod Asking
+pub mod AsksIn
 pub mod Beginning
 pub mod BesideOps
 pub mod Choosing
@@ -11,6 +16,8 @@ pub mod Faulting
 pub mod Lawful
 pub mod Looking
 pub mod LooksOn
+pub mod Marked
+pub mod Marking
 pub mod OnNodes
 pub mod Opening
 pub mod Pulling
@@ -18,7 +25,9 @@ pub mod Recorded
 pub mod Registering
 pub mod RemoteCalls
 pub mod Reporting
+pub mod ReportsAlone
 pub mod SettleLines
 pub mod Stepping
 pub mod Taking
+pub mod Touched
 pub mod Transacting

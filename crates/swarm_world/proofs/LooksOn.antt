@@ -4,8 +4,7 @@ use Rattle.std.proofs.lemmas.Bool.Decides.{nat_tests}
 use Rattle.std.proofs.lemmas.List.Sums.{count_by-le-length, length-filter}
 use Rattle.std.specs.Option.{option_map}
 use Rattle.std.specs.Prelude.{◌&&◌, filter, find, flat_map, map, nat_lt}
-use Rattle.swarm_agent.specs.Agent.{AgentState, at_node, has_news, news_after, news_of}
-use Rattle.swarm_agent.specs.Agents.{agent_row}
+use Rattle.swarm_agent.specs.Agent.{has_news, news_after, news_of}
 use Rattle.swarm_agent.specs.Times.{TimesLaw, seen, seen_agent}
 use Rattle.swarm_objects.proofs.RowLemmas.{Has-filter_cases, RisesFrom-filter, has-found, number_above, rows_above-all}
 use Rattle.swarm_objects.specs.Loops.Agents.{agent_duties, duties_on, has_step, inbox_duties, is_forgotten, is_mode_on, is_news, report_duties, session_duties, wants_report}
@@ -248,25 +247,6 @@ rises-seen times n (e ∷ es) rises = (
   rises-seen times e.task es (subst (λ k. RisesFrom executor_task k (map seen es)) (times.task e) rises.1),
 )
 
-pub agent-found : (times : TimesLaw) (w : World) (left rest : List (ℕ × AgentState)) (node : ℕ) (a : AgentState) (d : Duty)
-    (all : Option Duty) → left ≡ (node, a) ∷ rest → Some d ≡ first_of (agent_duties w (at_node node a)) →
-    first_of (flat_map (agent_duties w) (map agent_row left)) ≡ all → Some d ≡ all
-agent-found times w left rest node a d all is found before =
-    sym (first-some (agent_duties w (seen_agent (at_node node a))) (flat_map (agent_duties w) (map agent_row rest)) d
-    (ap (λ (ds : List Duty). first_of ds) (times.duties w (at_node node a)) ∙ sym found))
-    ∙ ap (λ (es : List (ℕ × AgentState)). first_of (flat_map (agent_duties w) (map agent_row es))) (sym is)
-    ∙ before
-
-pub agent-passed : (times : TimesLaw) (w : World) (left rest : List (ℕ × AgentState)) (node : ℕ) (a : AgentState)
-    (all : Option Duty) → left ≡ (node, a) ∷ rest → None ≡ first_of (agent_duties w (at_node node a)) →
-    first_of (flat_map (agent_duties w) (map agent_row left)) ≡ all →
-    first_of (flat_map (agent_duties w) (map agent_row rest)) ≡ all
-agent-passed times w left rest node a all is none before =
-    sym (first-none (agent_duties w (seen_agent (at_node node a))) (flat_map (agent_duties w) (map agent_row rest))
-    (ap (λ (ds : List Duty). first_of ds) (times.duties w (at_node node a)) ∙ sym none))
-    ∙ ap (λ (es : List (ℕ × AgentState)). first_of (flat_map (agent_duties w) (map agent_row es))) (sym is)
-    ∙ before
-
 -- What is looked at is enough.
 
 session-same : (w : World) (a : NodeAgent) (live : Bool) →
@@ -297,7 +277,7 @@ on-same w a live =
     ∙ ap (λ (ds : List Duty). session_duties w a live ++ inbox_duties w a live a.inbox ++ steps ++ ds ++ forgets)
     (report-same w a live)
 
-agent-same : (w : World) (a : NodeAgent) → agent_duties (looked_at w.tables w.sent) a ≡ agent_duties w a
+pub agent-same : (w : World) (a : NodeAgent) → agent_duties (looked_at w.tables w.sent) a ≡ agent_duties w a
 agent-same w a = ap (λ (ds : List Duty). cond (is_mode_on a.mode) ds []) (on-same w a (is_session_live w.tables a.node))
 
 -- the agents as they are seen have the world's duties

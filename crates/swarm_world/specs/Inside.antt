@@ -5,5 +5,6 @@ pub mod Commits
 pub mod Kept
 pub mod Looks
 pub mod Lookups
+pub mod Marks
 pub mod Parts
 pub mod Records

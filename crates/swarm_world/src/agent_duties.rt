@@ -6,13 +6,16 @@ ghost use Rattle.swarm_objects.specs.Kinds.{role_of};
 ghost use Rattle.swarm_objects.specs.Nodes.Admission.{not_admitted};
 ghost use Rattle.swarm_objects.specs.Nodes.Sessions.{is_session_live};
 ghost use Rattle.swarm_objects.specs.Rows.{row_at, session_node};
+ghost use Rattle.swarm_objects.specs.Usable.{IsUsable};
 ghost use Rattle.swarm_objects.specs.declared.calls.Entry.{Entry};
 ghost use Rattle.swarm_objects.specs.declared.calls.What.TheVariants as what;
 ghost use Rattle.swarm_objects.specs.declared.duties.Duty.TheVariants as duty;
+ghost use Rattle.swarm_world.specs.Inside.Marks.{AreMarked};
 ghost use Rattle.swarm_world.specs.Inside.Parts.{Enters, HasDuty, HasHistory, IsAt, StandsFor};
 ghost use Rattle.swarm_world.specs.Inside.Records.{tables_of};
 
 use crate::commits::commit;
+use crate::marks::Marks;
 use crate::parts::Parts;
 use crate::records::Records;
 use swarm_agent::ApplyFault;
@@ -36,12 +39,20 @@ fn live_session(records: &Records, node: Id) -> Id
 
 impl Parts {
     /// The agent registers: its node is READY, and begins a session.
-    pub fn register(&mut self, version: Version, node: Id) -> Result<(), NoMemory>
+    pub fn register(
+        &mut self,
+        marks: &mut Marks,
+        version: Version,
+        node: Id,
+    ) -> Result<(), NoMemory>
         requires at { HasHistory self.old }
-        ensures { (h : Seq Entry) → IsAt version self.old h →
+        ensures enters { (h : Seq Entry) → IsAt version self.old h →
             Enters h (what.Duty (duty.Register node)) result self.new }
+        ensures marks { IsUsable (tables_of self.new.records) → AreMarked marks.new (tables_of self.new.records) }
+        ensures agents { marks.new.agents ≡ marks.old.agents }
     {
         entries_are_noted();
+        marks.touch_rows();
         let Ok(changes) = set_ready(self.alloc, &self.records, version, node) else {
             return Err(NoMemory);
         };
@@ -53,13 +64,17 @@ impl Parts {
     }
 
     /// The node's live session has a beat.
-    pub fn beat(&mut self, node: Id)
+    pub fn beat(&mut self, marks: &mut Marks, node: Id)
         requires at { HasHistory self.old }
         requires live { is_session_live (tables_of self.old.records) node ≡ true }
-        ensures { (h : Seq Entry) → StandsFor self.old (replay h) →
+        requires marks { AreMarked marks.old (tables_of self.old.records) }
+        ensures stands { (h : Seq Entry) → StandsFor self.old (replay h) →
             StandsFor self.new (step (replay h) (what.Duty (duty.Beat node))).after }
+        ensures marks { AreMarked marks.new (tables_of self.new.records) }
+        ensures agents { marks.new.agents ≡ marks.old.agents }
     {
         entries_are_noted();
+        marks.touch_session(node);
         let session = live_session(&self.records, node);
         let now = self.records.store.now();
         let heartbeat = self.records.store.settings().heartbeat;
@@ -71,7 +86,8 @@ impl Parts {
     /// The agent applies the message in its inbox. Of a legal history none is stale.
     pub fn apply(&mut self, node: Id) -> Result<(), NoMemory>
         requires at { HasHistory self.old }
-        ensures { (h : Seq Entry) → StandsFor self.old (replay h) →
+        ensures rows { self.new.records ≡ self.old.records }
+        ensures enters { (h : Seq Entry) → StandsFor self.old (replay h) →
             Enters h (what.Duty (duty.Apply node)) result self.new }
     {
         entries_are_noted();
@@ -85,7 +101,8 @@ impl Parts {
     /// The agent is sent the message that is there for its node.
     pub fn pull(&mut self, node: Id) -> Result<(), NoMemory>
         requires at { HasHistory self.old }
-        ensures { (h : Seq Entry) → StandsFor self.old (replay h) →
+        ensures rows { self.new.records ≡ self.old.records }
+        ensures enters { (h : Seq Entry) → StandsFor self.old (replay h) →
             Enters h (what.Duty (duty.Pull node)) result self.new }
     {
         entries_are_noted();
@@ -105,7 +122,8 @@ impl Parts {
     /// The executor of the task makes the step that is due.
     pub fn exec(&mut self, node: Id, task: Id)
         requires at { HasHistory self.old }
-        ensures { (h : Seq Entry) → StandsFor self.old (replay h) →
+        ensures rows { self.new.records ≡ self.old.records }
+        ensures stands { (h : Seq Entry) → StandsFor self.old (replay h) →
             StandsFor self.new (step (replay h) (what.Duty (duty.Exec node task))).after }
     {
         entries_are_noted();
@@ -114,10 +132,19 @@ impl Parts {
     }
 
     /// The task rises to the state of its executor on the node, which is reported then.
-    pub fn report(&mut self, version: Version, node: Id, task: Id) -> Result<(), NoMemory>
+    pub fn report(
+        &mut self,
+        marks: &mut Marks,
+        version: Version,
+        node: Id,
+        task: Id,
+    ) -> Result<(), NoMemory>
         requires at { HasHistory self.old }
-        ensures { (h : Seq Entry) → IsAt version self.old h →
+        requires marks { AreMarked marks.old (tables_of self.old.records) }
+        ensures enters { (h : Seq Entry) → IsAt version self.old h →
             Enters h (what.Duty (duty.Report node task)) result self.new }
+        ensures marks { IsUsable (tables_of self.new.records) → AreMarked marks.new (tables_of self.new.records) }
+        ensures agents { marks.new.agents ≡ marks.old.agents }
     {
         entries_are_noted();
         let Some(state) = self.agents.state_of(node, task) else {
@@ -127,6 +154,7 @@ impl Parts {
         let Ok(changes) = raise_state(self.alloc, &self.records, version, task, state) else {
             return Err(NoMemory);
         };
+        marks.touch(&self.records, changes.as_slice());
         let Ok(()) = commit(&mut self.records, &mut self.watches, version, changes) else {
             return Err(NoMemory);
         };
@@ -136,7 +164,8 @@ impl Parts {
 
     /// The executor of the task goes.
     pub fn forget(&mut self, node: Id, task: Id)
-        ensures { (h : Seq Entry) → StandsFor self.old (replay h) →
+        ensures rows { self.new.records ≡ self.old.records }
+        ensures stands { (h : Seq Entry) → StandsFor self.old (replay h) →
             StandsFor self.new (step (replay h) (what.Duty (duty.Forget node task))).after }
     {
         entries_are_noted();
@@ -144,15 +173,23 @@ impl Parts {
     }
 
     /// The duty of the agents' loop, which is due, is done as the entry with this number; or memory is wanting.
-    pub fn take_by_agents(&mut self, version: Version, duty: Duty) -> Result<(), NoMemory>
+    pub fn take_by_agents(
+        &mut self,
+        marks: &mut Marks,
+        version: Version,
+        duty: Duty,
+    ) -> Result<(), NoMemory>
         requires at { HasDuty duty self.old }
         requires own { is_agents (role_of duty) ≡ true }
-        ensures { (h : Seq Entry) → IsAt version self.old h → Enters h (what.Duty duty) result self.new }
+        requires marks { AreMarked marks.old (tables_of self.old.records) }
+        ensures enters { (h : Seq Entry) → IsAt version self.old h → Enters h (what.Duty duty) result self.new }
+        ensures marks { IsUsable (tables_of self.new.records) → AreMarked marks.new (tables_of self.new.records) }
+        ensures agents { marks.new.agents ≡ marks.old.agents }
     {
         match duty {
-            Duty::Register(node) => self.register(version, node),
+            Duty::Register(node) => self.register(marks, version, node),
             Duty::Beat(node) => {
-                self.beat(node);
+                self.beat(marks, node);
                 Ok(())
             }
             Duty::Apply(node) => self.apply(node),
@@ -161,7 +198,7 @@ impl Parts {
                 self.exec(node, task);
                 Ok(())
             }
-            Duty::Report(node, task) => self.report(version, node, task),
+            Duty::Report(node, task) => self.report(marks, version, node, task),
             Duty::Forget(node, task) => {
                 self.forget(node, task);
                 Ok(())

@@ -4,8 +4,9 @@ ghost use Rattle.swarm_agent.specs.Agent.{at_node};
 ghost use Rattle.swarm_objects.specs.Loops.Agents.{agent_duties, duties_on, has_step, inbox_duties, is_beat_due, is_forgotten, is_mode_on, report_duties, session_duties};
 ghost use Rattle.swarm_objects.specs.Loops.Words.{duty_where};
 ghost use Rattle.swarm_objects.specs.Nodes.Sessions.{session_of};
-ghost use Rattle.swarm_objects.specs.Rows.{RisesFrom, executor_task, first_of, has_row, is_some_and, task_id};
+ghost use Rattle.swarm_objects.specs.Rows.{RisesFrom, agent_node, executor_task, first_of, has_row, is_some_and, task_id};
 ghost use Rattle.swarm_objects.specs.Usable.{IsUsable};
+ghost use Rattle.swarm_spans.specs.Spans.{Covers, has_duty, is_in};
 ghost use Rattle.swarm_world.specs.Inside.Looks.{EachRises, looked_at};
 ghost use Rattle.swarm_world.specs.Inside.Records.{tables_of};
 
@@ -14,6 +15,7 @@ use swarm_agent::theorems::{times_that_no_step_looks_at, what_is_found_is_the_fi
 use swarm_agent::{Agent, Agents, has_passed};
 use swarm_assign::Sents;
 use swarm_objects::{AgentMode, Duty, Id, Rows};
+use swarm_spans::Span;
 
 fn is_on(agent: &Agent) -> bool
     ensures { result ≡ is_mode_on agent.now.mode }
@@ -200,19 +202,39 @@ fn agent_first(records: &Records, sent: &Sents, node: Id, agent: &Agent) -> Opti
     }
 }
 
-/// The first duty of the agents' loop.
-pub fn agents_first(records: &Records, sent: &Sents, agents: &Agents) -> Option<Duty>
+// The number is in the span.
+fn is_in(span: Span, id: Id) -> bool
+    ensures { result ≡ is_in span id }
+{
+    span.after < id && id <= span.high
+}
+
+/// The first duty of the agents' loop, where the span has each node whose agent has one. Nodes before it leave the span.
+pub fn agents_first_in(
+    records: &Records,
+    sent: &Sents,
+    agents: &Agents,
+    span: &mut Span,
+) -> Option<Duty>
     requires usable { IsUsable (tables_of records.now) }
     requires rises { EachRises agents.now }
-    ensures { let w = looked_at (tables_of records.now) sent.now in
+    requires ordered { RisesFrom agent_node 0 agents.now }
+    requires covers { let w = looked_at (tables_of records.now) sent.now in
+        Covers agent_node (has_duty (agent_duties w)) span.old agents.now }
+    ensures first { let w = looked_at (tables_of records.now) sent.now in
         result ≡ first_of (flat_map (agent_duties w) agents.now) }
+    ensures covers { let w = looked_at (tables_of records.now) sent.now in
+        Covers agent_node (has_duty (agent_duties w)) span.new agents.now }
 {
     times_that_no_step_looks_at();
     for (node, agent) in agents.iter() {
-        match agent_first(records, sent, *node, agent) {
-            Some(duty) => return Some(duty),
-            None => {}
+        if is_in(*span, *node) {
+            match agent_first(records, sent, *node, agent) {
+                Some(duty) => return Some(duty),
+                None => span.pass(*node),
+            }
         }
     }
+    *span = Span::empty();
     None
 }

@@ -10,12 +10,17 @@ ghost use Rattle.swarm_objects.specs.declared.calls.Entry.{Entry};
 ghost use Rattle.swarm_objects.specs.declared.calls.What.TheVariants as what;
 ghost use Rattle.swarm_objects.specs.declared.calls.Call.TheVariants as call;
 ghost use Rattle.swarm_objects.specs.Effects.{is_agents};
+ghost use Rattle.swarm_objects.specs.Usable.{IsUsable};
+ghost use Rattle.swarm_spans.specs.Spans.{full};
 ghost use Rattle.swarm_store.specs.Stored.{row_count};
+ghost use Rattle.swarm_world.specs.Inside.Marks.{AreMarked};
 ghost use Rattle.swarm_world.specs.Inside.Parts.{Answers, Enters, HasHistory, IsAt, Replies, StandsFor, Tells, is_watch_call};
+ghost use Rattle.swarm_world.specs.Inside.Records.{tables_of};
 
 use crate::arrivals::put_new_agents;
 use crate::changes::changes_of;
 use crate::commits::{commit, make_room, tell};
+use crate::marks::Marks;
 use crate::records::Records;
 use crate::removals::drop_removed;
 use std::alloc::Global;
@@ -90,17 +95,29 @@ impl Parts {
         self.halted = true;
     }
 
-    /// The duty of a control loop over the rows is done as the entry with this number, or memory is wanting.
-    pub fn take_by_rows(&mut self, version: Version, role: Role, duty: Duty) -> Result<(), NoMemory>
+    /// The duty of a control loop over the rows is done as the entry with this number, or memory is wanting. Any agent
+    /// may have a duty afterwards.
+    pub fn take_by_rows(
+        &mut self,
+        marks: &mut Marks,
+        version: Version,
+        role: Role,
+        duty: Duty,
+    ) -> Result<(), NoMemory>
         requires at { HasHistory self.old }
+        requires marks { AreMarked marks.old (tables_of self.old.records) }
         requires own { role_of duty ≡ role }
         requires rows { is_agents role ≡ false }
-        ensures { (h : Seq Entry) → IsAt version self.old h → Enters h (what.Duty duty) result self.new }
+        ensures enters { (h : Seq Entry) → IsAt version self.old h → Enters h (what.Duty duty) result self.new }
+        ensures marks { IsUsable (tables_of self.new.records) → AreMarked marks.new (tables_of self.new.records) }
+        ensures agents { marks.new.agents ≡ full }
     {
+        marks.touch_agents();
         let Ok(changes) = changes_of(self.alloc, &self.records, version, role, duty) else {
             return Err(NoMemory);
         };
         entries_are_noted();
+        marks.touch(&self.records, changes.as_slice());
         commit(&mut self.records, &mut self.watches, version, changes)
     }
 

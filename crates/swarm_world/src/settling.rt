@@ -5,20 +5,24 @@ ghost use Rattle.swarm_model.specs.Settle.{settle_answer};
 ghost use Rattle.swarm_objects.specs.Duties.{first_duty};
 ghost use Rattle.swarm_objects.specs.declared.calls.Call.TheVariants as call;
 ghost use Rattle.swarm_objects.specs.declared.calls.Entry.{Entry};
+ghost use Rattle.swarm_world.specs.Inside.Marks.{IsMarked};
 ghost use Rattle.swarm_world.specs.Inside.Parts.{Answers, HasHistory, StandsFor};
 
+use crate::marks::Marks;
 use crate::parts::Parts;
 use swarm_objects::{Duty, Refusal, Reply, Role, Settle};
 
-impl Parts {
+impl Marks {
     // The first duty of the first of these control loops that has one.
-    fn first_among(&self, roles: &[Role]) -> Option<Duty>
-        requires at { HasHistory self.now }
-        ensures { (h : Seq Entry) → StandsFor self.now (replay h) → result ≡ first_duty (replay h) roles.now }
+    fn find_among(&mut self, parts: &Parts, roles: &[Role]) -> Option<Duty>
+        requires at { HasHistory parts.now }
+        requires marks { IsMarked self.old parts.now }
+        ensures first { (h : Seq Entry) → StandsFor parts.now (replay h) → result ≡ first_duty (replay h) roles.now }
+        ensures marks { IsMarked self.new parts.now }
     {
         let mut rest = roles;
         while let Some((role, more)) = rest.split_first() {
-            match self.first(*role) {
+            match self.find(parts, *role) {
                 Some(duty) => return Some(duty),
                 None => rest = more,
             }
@@ -28,22 +32,26 @@ impl Parts {
 
     /// The settle test: the first duty of the first control loop that has one; else what is waited for, held or paused,
     /// or that all is settled. It takes no memory.
-    pub fn settled(&self) -> Settle
-        requires at { HasHistory self.now }
-        ensures { (h : Seq Entry) → StandsFor self.now (replay h) → result ≡ settle_answer (replay h) }
+    pub fn settle(&mut self, parts: &Parts) -> Settle
+        requires at { HasHistory parts.now }
+        requires marks { IsMarked self.old parts.now }
+        ensures answer { (h : Seq Entry) → StandsFor parts.now (replay h) → result ≡ settle_answer (replay h) }
+        ensures marks { IsMarked self.new parts.now }
     {
-        match self.first_among(&Role::ALL) {
+        match self.find_among(parts, &Role::ALL) {
             Some(duty) => Settle::Busy(duty),
-            None => swarm_settle::settle(&self.records, &self.records.sessions, &self.agents),
+            None => swarm_settle::settle(&parts.records, &parts.records.sessions, &parts.agents),
         }
     }
+}
 
+impl Parts {
     /// A settle line that may take so many duties is answered. Nothing changes.
     pub fn settle(&self, budget: u64) -> Result<Reply, Refusal>
         requires at { HasHistory self.now }
         ensures { (version : ℕ) (h : Seq Entry) → StandsFor self.now (replay h) →
             Answers version h (call.Settle budget) self.now result self.now }
     {
-        Ok(Reply::Settle(budget, self.settled()))
+        Ok(Reply::Settle(budget, Marks::all().settle(self)))
     }
 }

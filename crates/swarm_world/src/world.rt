@@ -3,18 +3,18 @@ ghost use Rattle.std.specs.Prelude.{◌≡◌, ◌<◌, [], IfOk, false, length}
 ghost use Rattle.swarm_objects.specs.CallWords.{is_halt};
 ghost use Rattle.swarm_model.specs.History.{IsLegal, replay};
 ghost use Rattle.swarm_model.specs.Settle.{settle_answer};
-ghost use Rattle.swarm_objects.specs.Duties.{duties};
-ghost use Rattle.swarm_objects.specs.Rows.{first_of};
 ghost use Rattle.swarm_objects.specs.Usable.{IsUsable};
 ghost use Rattle.swarm_world.specs.Inside.Records.{tables_of};
 ghost use Rattle.swarm_world.specs.Laws.{IsLawful};
 ghost use Rattle.swarm_world.specs.Work.{Calls, Turns};
 
+use crate::marks::Marks;
 use crate::parts::Parts;
 use crate::records::Records;
 use crate::turns::Turn;
 use std::alloc::Global;
 use std::marker::Model;
+use swarm_agent::theorems::times_that_no_step_looks_at;
 use swarm_objects::limits::MOST_ENTRIES;
 use swarm_objects::{
     Call, Duty, Entry, Id, Ms, Network, NoMemory, Node, Place, Refusal, Reply, Role, Rows, Service,
@@ -27,6 +27,8 @@ use turn_cell::Counted;
 pub struct World {
     parts: Parts,
     history: Vec<Entry>,
+    // where a duty may be: no part of what contracts see
+    marks: Marks,
 }
 
 impl Model for World {
@@ -52,7 +54,11 @@ impl World {
         let Ok(parts) = Parts::new(alloc) else {
             return Err(NoMemory);
         };
-        Ok(World { parts, history })
+        Ok(World {
+            parts,
+            history,
+            marks: Marks::all(),
+        })
     }
 
     // The rows that control loops read.
@@ -63,13 +69,6 @@ impl World {
         &self.parts.records
     }
 
-    // The first duty of the control loop.
-    fn first(&self, role: Role) -> Option<Duty>
-        ensures { result ≡ first_of (duties role (replay self.now)) }
-    {
-        self.parts.first(role)
-    }
-
     // Appends Halt to a history without it. It takes no memory.
     fn halt(&mut self, by: u64) -> Reply
         requires { (replay self.old).halted ≡ false }
@@ -77,6 +76,7 @@ impl World {
         ensures legal { IsLegal self.new }
     {
         self.parts.halt();
+        self.marks = Marks::all();
         let entry = Entry {
             by,
             what: What::Call(Call::Halt),
@@ -100,6 +100,7 @@ impl World {
             return Reply::Refused(Refusal::NoMemory);
         };
         let version = self.history.len() as u64 + 1;
+        self.marks = Marks::all();
         let Ok(reply) = self.parts.enter(version, &call) else {
             return Reply::Refused(Refusal::NoMemory);
         };
@@ -143,14 +144,15 @@ impl World {
         if count >= MOST_ENTRIES {
             return Turn::Full(count);
         }
-        let Some(duty) = self.first(role) else {
+        times_that_no_step_looks_at();
+        let Some(duty) = self.marks.find(&self.parts, role) else {
             return Turn::Idle;
         };
         // an entry and Halt
         let Ok(()) = self.history.reserve(2) else {
             return Turn::NoMemory;
         };
-        let Ok(()) = self.parts.take(count + 1, role, duty) else {
+        let Ok(()) = self.parts.take(&mut self.marks, count + 1, role, duty) else {
             return Turn::NoMemory;
         };
         let entry = Entry {
@@ -170,7 +172,18 @@ impl World {
         ensures answer { result ≡ settle_answer (replay self.now) }
         ensures lawful { IsLawful self.now }
     {
-        self.parts.settled()
+        let mut marks = self.marks;
+        marks.settle(&self.parts)
+    }
+
+    /// The settle test, as `settled` gives it. What the look finds is kept, so that the next one needn't look there again.
+    #[tactic(auto, using(crate::proofs::Lawful::lawful))]
+    pub fn look(&mut self) -> Settle
+        ensures same { self.new ≡ self.old }
+        ensures answer { result ≡ settle_answer (replay self.old) }
+        ensures lawful { IsLawful self.new }
+    {
+        self.marks.settle(&self.parts)
     }
 
     /// All entries, in order.

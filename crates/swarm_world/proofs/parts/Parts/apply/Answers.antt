@@ -7,8 +7,8 @@ use Rattle.swarm_objects.specs.declared.duties.Duty.TheVariants as duty
 use Rattle.swarm_world.proofs.OnNodes.{by_agent, never_stale}
 use Rattle.swarm_world.proofs.parts.Parts.apply.Goals as goal
 
-pub returns-in-Ok : goal.returns-in-Ok
-returns-in-Ok c = λ h stands.
+pub returns-in-Ok-clause-enters : goal.returns-in-Ok-clause-enters
+returns-in-Ok-clause-enters c = λ h stands.
     let clock = (replay h).tables.clock in
     by_agent c.entries_are_noted.ensures h (duty.Apply c.args.node) c.args.node (λ a. take_in clock a.inbox a)
     c.args.self.now _ stands refl (c.in-Ok.ensures.1 clock) refl refl refl refl

@@ -7,6 +7,7 @@ use Rattle.swarm_objects.specs.declared.replies.Refusal.{Refusal}
 use Rattle.swarm_world.proofs.Entering.{are_usable, small_heartbeat}
 use Rattle.swarm_world.proofs.OnNodes.{beat-parts}
 use Rattle.swarm_world.proofs.Recorded.{usable_rows}
+use Rattle.swarm_world.proofs.Touched.{beat_marked}
 use Rattle.swarm_world.proofs.parts.Parts.beat.Goals as goal
 
 pub beat-requires-clause-now : goal.beat-requires-clause-now
@@ -29,8 +30,15 @@ unreachable-requires c =
     ∙ ap (λ (o : Option Refusal). unless o (c.now-now.result + 3 * c.settings-heartbeat.result.heartbeat)) admitted in
     cc
 
-pub returns : goal.returns
-returns c = λ h stands.
+pub returns-clause-stands : goal.returns-clause-stands
+returns-clause-stands c = λ h stands.
     beat-parts c.entries_are_noted.ensures h c.args.node c.now-now.result c.settings-heartbeat.result.heartbeat
     c.live_session-session.result c.args.self.now _ stands c.now-now.ensures
     (ap (λ s. s.heartbeat) c.settings-heartbeat.ensures) refl c.in-Ok.ensures.ok refl refl refl refl
+
+pub returns-clause-marks : goal.returns-clause-marks
+returns-clause-marks c =
+    let p = c.args.self.now in
+    beat_marked c.args.node c.now-now.result c.settings-heartbeat.result.heartbeat c.live_session-session.result
+    c.args.marks.now c.touch_session.new.self p.records c.beat.new.self (are_usable p c.requires.at) c.requires.marks
+    c.touch_session.ensures.goes_on c.touch_session.ensures.services c.in-Ok.ensures.ok

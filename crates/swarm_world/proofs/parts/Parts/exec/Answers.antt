@@ -18,8 +18,8 @@ exec-requires c = record {
       (usable_rows c.args.self.now.records (are_usable c.args.self.now c.requires.at)).clock;
 }
 
-pub returns : goal.returns
-returns c = λ h stands.
+pub returns-clause-stands : goal.returns-clause-stands
+returns-clause-stands c = λ h stands.
     let p = c.args.self.now in
     let clock = (replay h).tables.clock in
     by_agent c.entries_are_noted.ensures h (duty.Exec c.args.node c.args.task) c.args.node

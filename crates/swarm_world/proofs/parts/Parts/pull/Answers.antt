@@ -24,15 +24,15 @@ receive-requires c =
           some.field-0-is (c.as_slice.ensures ∙ c.in-Ok.ensures.set) some.ensures.message;
     }
 
-pub returns-in-Ok-Some : goal.returns-in-Ok-Some
-returns-in-Ok-Some c = λ h stands.
+pub returns-in-Ok-Some-clause-enters : goal.returns-in-Ok-Some-clause-enters
+returns-in-Ok-Some-clause-enters c = λ h stands.
     let some = c.in-Ok-Some in
     pulled_some c.entries_are_noted.ensures h c.args.node some.field-0 some.message c.args.self.now _
     c.as_slice.result.now some.field-0-is stands (c.as_slice.ensures ∙ c.in-Ok.ensures.set) some.ensures.message
     some.ensures.sent c.receive.ensures refl refl refl
 
-pub returns-in-Ok-None : goal.returns-in-Ok-None
-returns-in-Ok-None c = λ h stands.
+pub returns-in-Ok-None-clause-enters : goal.returns-in-Ok-None-clause-enters
+returns-in-Ok-None-clause-enters c = λ h stands.
     let none = c.in-Ok-None in
     pulled_none c.entries_are_noted.ensures h c.args.node none.field-0 c.args.self.now _ c.as_slice.result.now
     none.field-0-is stands (c.as_slice.ensures ∙ c.in-Ok.ensures.set) none.ensures.message none.ensures.sent refl refl

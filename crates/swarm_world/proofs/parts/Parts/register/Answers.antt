@@ -17,11 +17,14 @@ begin-requires-clause-next c =
     next_still c.args.version c.args.node (tables_of r) c.in-Ok.changes c.in-Ok.ensures
     (usable_rows r (are_usable c.args.self.now c.requires.at)).next_id
 
-pub returns-in_default-begin : goal.returns-in_default-begin
-returns-in_default-begin c = λ h is. c.in_default-begin.ensures h is.stands
+pub returns-in_default-begin-clause-enters : goal.returns-in_default-begin-clause-enters
+returns-in_default-begin-clause-enters c = λ h is. c.in_default-begin.ensures h is.stands
 
-pub returns : goal.returns
-returns c = λ h is.
+pub returns-clause-enters : goal.returns-clause-enters
+returns-clause-enters c = λ h is.
     let did = c.in-Ok-begin.ensures h is.stands in
     registered_by c.entries_are_noted.ensures c.args.version h c.args.node c.args.self.now c.begin.new.self _
     c.in-Ok.changes is c.in-Ok.ensures did.1 did.2 c.register.ensures refl refl refl refl
+
+pub returns-clause-marks : goal.returns-clause-marks
+returns-clause-marks c = c.touch_rows.ensures.goes_on (tables_of c.begin.new.self.records)

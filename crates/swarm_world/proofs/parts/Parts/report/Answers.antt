@@ -4,6 +4,7 @@ use Rattle.swarm_world.proofs.Beginning.{not_made}
 use Rattle.swarm_world.proofs.Entering.{are_usable}
 use Rattle.swarm_world.proofs.Recorded.{usable_rows}
 use Rattle.swarm_world.proofs.Reporting.{reported_none, reported_some}
+use Rattle.swarm_world.proofs.Touched.{committed, not_committed}
 use Rattle.swarm_world.proofs.parts.Parts.report.Goals as goal
 
 pub raise_state-requires : goal.raise_state-requires
@@ -15,23 +16,38 @@ commit-requires-clause-usable c = are_usable c.args.self.now c.requires.at
 pub commit-requires-clause-can : goal.commit-requires-clause-can
 commit-requires-clause-can c = c.in-Ok.ensures.can
 
-pub returns-in_default : goal.returns-in_default
-returns-in_default c = λ h is.
+pub returns-in_default-clause-enters : goal.returns-in_default-clause-enters
+returns-in_default-clause-enters c = λ h is.
     reported_none c.entries_are_noted.ensures h c.args.node c.args.task c.args.self.now _ is.stands
     (sym c.in_default.is ∙ c.state_of.ensures (replay h).agents is.stands.has.agents) c.reported.ensures refl refl refl
     refl
 
-pub returns-in_default-commit : goal.returns-in_default-commit
-returns-in_default-commit c = λ h is.
+pub returns-in_default-commit-clause-enters : goal.returns-in_default-commit-clause-enters
+returns-in_default-commit-clause-enters c = λ h is.
     let did = c.in_default-commit.ensures in
     not_made c.args.self.now c.commit.new.records c.commit.new.watches (replay h) is.stands
     (did.0 (replay h) is.stands.has.records) did.1
 
-pub returns : goal.returns
-returns c = λ h is.
+pub returns-clause-enters : goal.returns-clause-enters
+returns-clause-enters c = λ h is.
     let p = c.args.self.now in
     let did = c.in-Ok-commit.ensures (replay h) is.stands.has.records in
     reported_some c.entries_are_noted.ensures c.args.version h c.args.node c.args.task c.in-Some.state p _
     c.commit.new.records c.commit.new.watches c.in-Ok.changes is
     (sym c.in-Some.is ∙ c.state_of.ensures (replay h).agents is.stands.has.agents) c.in-Ok.ensures did.0 did.1
     c.reported-2.ensures refl refl refl refl
+
+pub touch-requires-clause-usable : goal.touch-requires-clause-usable
+touch-requires-clause-usable c = usable_rows c.args.self.now.records (are_usable c.args.self.now c.requires.at)
+
+pub returns-in_default-commit-clause-marks : goal.returns-in_default-commit-clause-marks
+returns-in_default-commit-clause-marks c = λ usable.
+    let is = c.requires.at in
+    not_committed c.args.self.now is c.commit.new.records c.touch.new.self
+    (c.in_default-commit.ensures.0 (replay is.history) is.stands.has.records) c.touch.ensures.stays
+
+pub returns-clause-marks : goal.returns-clause-marks
+returns-clause-marks c =
+    let is = c.requires.at in
+    committed c.as_slice.result.now c.in-Ok.changes c.args.self.now is c.commit.new.records c.touch.new.self
+    c.as_slice.ensures (c.in-Ok-commit.ensures (replay is.history) is.stands.has.records).0 c.touch.ensures.goes_on

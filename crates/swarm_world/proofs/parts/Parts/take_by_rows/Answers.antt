@@ -3,6 +3,8 @@ use Rattle.swarm_objects.specs.Kinds.{role_of}
 use Rattle.swarm_objects.specs.Effects.{is_agents}
 use Rattle.swarm_world.proofs.Entering.{are_usable, took}
 use Rattle.swarm_world.proofs.Recorded.{usable_rows}
+use Rattle.swarm_world.proofs.Touched.{commit_marked, same_spans}
+use Rattle.swarm_world.specs.Inside.Records.{tables_of}
 use Rattle.swarm_world.proofs.parts.Parts.take_by_rows.Goals as goal
 
 pub changes_of-requires-clause-usable : goal.changes_of-requires-clause-usable
@@ -12,8 +14,32 @@ changes_of-requires-clause-usable c =
 pub commit-requires-clause-usable : goal.commit-requires-clause-usable
 commit-requires-clause-usable c = are_usable c.args.self.now c.requires.at
 
-pub returns : goal.returns
-returns c = λ h is.
+pub returns-clause-enters : goal.returns-clause-enters
+returns-clause-enters c = λ h is.
     let other : is_agents (role_of c.args.duty) ≡ false = ap is_agents c.requires.own ∙ c.requires.rows in
     took c.entries_are_noted.ensures c.args.version c.args.self.now c.commit.new.records c.commit.new.watches
     c.commit.result h c.args.duty c.in-Ok.changes is other c.in-Ok.ensures c.commit.ensures
+
+pub touch-requires-clause-usable : goal.touch-requires-clause-usable
+touch-requires-clause-usable c = usable_rows c.args.self.now.records (are_usable c.args.self.now c.requires.at)
+
+pub touch-requires-clause-marks : goal.touch-requires-clause-marks
+touch-requires-clause-marks c =
+    let touched = c.touch_agents.ensures in
+    same_spans c.args.marks.now c.touch_agents.new.self (tables_of c.args.self.now.records) touched.tasks
+    touched.services c.requires.marks
+
+pub returns-in_default-clause-marks : goal.returns-in_default-clause-marks
+returns-in_default-clause-marks c = λ usable.
+    let touched = c.touch_agents.ensures in
+    same_spans c.args.marks.now c.touch_agents.new.self (tables_of c.args.self.now.records) touched.tasks
+    touched.services c.requires.marks
+
+pub returns-clause-marks : goal.returns-clause-marks
+returns-clause-marks c =
+    commit_marked c.args.version c.as_slice.result.now c.in-Ok.changes c.args.self.now c.requires.at
+    c.commit.new.records c.commit.new.watches c.commit.result c.touch.new.self c.as_slice.ensures c.commit.ensures
+    c.touch.ensures.stays c.touch.ensures.goes_on
+
+pub returns-clause-agents : goal.returns-clause-agents
+returns-clause-agents c = c.touch.ensures.agents ∙ c.touch_agents.ensures.agents

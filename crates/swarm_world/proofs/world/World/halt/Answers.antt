@@ -1,8 +1,10 @@
-use Rattle.std.proofs.Common.{List, ap, false, subst, sym, ◌∙◌, ◌≡◌}
+use Rattle.std.proofs.Common.{List, [], ap, false, subst, sym, ◌++◌, ◌∙◌, ◌∷◌, ◌≡◌}
 use Rattle.swarm_model.specs.History.{IsLegal, replay}
+use Rattle.swarm_objects.specs.declared.calls.Call.TheVariants as call
 use Rattle.swarm_objects.specs.declared.calls.Entry.{Entry}
 use Rattle.swarm_world.proofs.Entering.{ending}
 use Rattle.swarm_world.specs.Inside.Parts.{StandsFor}
+use Rattle.swarm_world.specs.Work.{call_by}
 use Rattle.swarm_world.proofs.world.World.halt.Goals as goal
 
 pub invariant_of-self : goal.invariant_of-self
@@ -16,6 +18,12 @@ invariant_of-self c =
     record {
       legal = subst IsLegal (sym more) gone.legal;
       stands = subst (StandsFor c.halt.new.self) (sym gone.world ∙ ap replay (sym more)) now;
+      marks =
+          c.all-self-inside.ensures c.halt.new.self (record {
+            history = H ++ call_by c.args.by call.Halt ∷ [];
+            legal = gone.legal;
+            stands = subst (StandsFor c.halt.new.self) (sym gone.world) now;
+          });
       spare = λ h. absurd (let halts = now.has.halted in cc);
     }
 

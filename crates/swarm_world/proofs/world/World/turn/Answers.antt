@@ -3,6 +3,7 @@ use Rattle.swarm_model.specs.History.{IsLegal, replay}
 use Rattle.swarm_objects.specs.Duties.{duties}
 use Rattle.swarm_objects.specs.Rows.{first_of}
 use Rattle.swarm_objects.specs.declared.calls.Entry.{Entry}
+use Rattle.swarm_world.proofs.AgentsMarked.{turn_kept, turn_marked}
 use Rattle.swarm_world.proofs.Entering.{due_of_first, full, role_of_first, turning}
 use Rattle.swarm_world.proofs.Lawful.{lawful}
 use Rattle.swarm_world.specs.Inside.Parts.{IsAt, StandsFor}
@@ -17,9 +18,24 @@ returns-then-count-ge-MOST_ENTRIES-clause-turns c =
     let f = full H kept.legal running (omega (arith, c.len-count.ensures)) in
     rw (← c.self.view_is) (refl, f, omega (arith, c.len-count.ensures))
 
+pub find-requires-clause-at : goal.find-requires-clause-at
+find-requires-clause-at c = record {
+  history = c.self.inside.history.items;
+  legal = c.self.invariant.legal;
+  stands = c.self.invariant.stands;
+}
+
+pub find-requires-clause-marks : goal.find-requires-clause-marks
+find-requires-clause-marks c = c.self.invariant.marks
+
+pub take-requires-clause-marks : goal.take-requires-clause-marks
+take-requires-clause-marks c = c.find.ensures.marks.rows
+
 pub take-requires-clause-own : goal.take-requires-clause-own
 take-requires-clause-own c =
-    role_of_first c.args.role (replay c.args.self.now) c.in-Some.duty (sym c.first.ensures ∙ c.in-Some.is)
+    let kept = c.self.invariant in
+    let H = c.self.inside.history.items in
+    role_of_first c.args.role (replay H) c.in-Some.duty (sym (c.find.ensures.first H kept.stands) ∙ c.in-Some.is)
 
 pub take-requires-clause-at : goal.take-requires-clause-at
 take-requires-clause-at c =
@@ -31,8 +47,7 @@ take-requires-clause-at c =
       stands = kept.stands;
       due =
           due_of_first c.args.role (replay H) c.in-Some.duty
-          (ap (λ (h : List Entry). first_of (duties c.args.role (replay h))) c.self.view_is ∙ sym c.first.ensures
-          ∙ c.in-Some.is);
+          (sym (c.find.ensures.first H kept.stands) ∙ c.in-Some.is);
     }
 
 pub invariant_of-self-2 : goal.invariant_of-self-2
@@ -42,7 +57,7 @@ invariant_of-self-2 c =
     let d = c.in-Some.duty in
     let running : (replay H).halted ≡ false = sym kept.stands.has.halted ∙ c.if-self.false in
     let first : first_of (duties c.args.role (replay H)) ≡ Some d =
-    ap (λ (h : List Entry). first_of (duties c.args.role (replay h))) c.self.view_is ∙ sym c.first.ensures ∙ c.in-Some.is in
+    sym (c.find.ensures.first H kept.stands) ∙ c.in-Some.is in
     let turned =
     turning H c.args.by c.args.role d kept.legal running
     (omega (arith, c.len-count.ensures, c.if-count-ge-MOST_ENTRIES.false)) first in
@@ -50,12 +65,35 @@ invariant_of-self-2 c =
     c.in-Ok-push.ensures.items ∙ ap (λ (l : List Entry). l ++ duty_by c.args.by d ∷ []) c.reserve.ensures.items in
     let at : IsAt (c.len-count.result + 1) c.self.inside.parts H =
     record { legal = kept.legal; number = omega (arith, c.len-count.ensures); stands = kept.stands } in
+    let now : StandsFor c.take.new.self (replay (H ++ duty_by c.args.by d ∷ [])) =
+    subst (StandsFor c.take.new.self) (sym turned.world) (c.in-Ok-take.ensures.enters H at) in
     record {
       legal = subst IsLegal (sym more) turned.legal;
-      stands =
-          subst (StandsFor c.take.new.self) (sym turned.world ∙ ap replay (sym more))
-          (c.in-Ok-take.ensures H at);
+      stands = subst (StandsFor c.take.new.self) (ap replay (sym more)) now;
+      marks =
+          turn_marked c.times_that_no_step_looks_at.ensures H (H ++ duty_by c.args.by d ∷ []) c.args.role d
+          c.self.inside.parts c.take.new.self c.find.new.self c.take.new.marks kept.legal turned.legal kept.stands
+          turned.world now (role_of_first c.args.role (replay H) d first)
+          (due_of_first c.args.role (replay H) d first)
+          (record { rows = c.take.ensures.marks; agents = c.take.ensures.agents }) c.find.ensures.marks;
       spare = λ h. omega (arith, c.in-Ok.ensures.ok, c.in-Ok-push.ensures.len, c.in-Ok-push.ensures.capacity);
+    }
+
+pub invariant_of-self-in_default-take : goal.invariant_of-self-in_default-take
+invariant_of-self-in_default-take c =
+    let kept = c.self.invariant in
+    let H = c.self.inside.history.items in
+    let at : IsAt (c.len-count.result + 1) c.self.inside.parts H =
+    record { legal = kept.legal; number = omega (arith, c.len-count.ensures); stands = kept.stands } in
+    let now : StandsFor c.take.new.self (replay H) = c.in_default-take.ensures.enters H at in
+    record {
+      legal = subst IsLegal (sym c.reserve.ensures.items) kept.legal;
+      stands = subst (StandsFor c.take.new.self) (ap replay (sym c.reserve.ensures.items)) now;
+      marks =
+          turn_kept c.times_that_no_step_looks_at.ensures H c.args.role c.self.inside.parts c.take.new.self
+          c.find.new.self c.take.new.marks kept.legal kept.stands now
+          (record { rows = c.take.ensures.marks; agents = c.take.ensures.agents }) c.find.ensures.marks;
+      spare = λ h. omega (arith, c.in-Ok.ensures.ok, c.reserve.ensures.len);
     }
 
 pub returns-clause-lawful : goal.returns-clause-lawful
@@ -65,7 +103,7 @@ returns-clause-lawful c =
     let d = c.in-Some.duty in
     let running : (replay H).halted ≡ false = sym kept.stands.has.halted ∙ c.if-self.false in
     let first : first_of (duties c.args.role (replay H)) ≡ Some d =
-    ap (λ (h : List Entry). first_of (duties c.args.role (replay h))) c.self.view_is ∙ sym c.first.ensures ∙ c.in-Some.is in
+    sym (c.find.ensures.first H kept.stands) ∙ c.in-Some.is in
     let turned =
     turning H c.args.by c.args.role d kept.legal running
     (omega (arith, c.len-count.ensures, c.if-count-ge-MOST_ENTRIES.false)) first in

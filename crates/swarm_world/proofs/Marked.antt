@@ -1,0 +1,83 @@
+-- Where every row and every agent may have a duty.
+use Rattle.std.proofs.Common.{◌≡◌, ◌<◌, ◌≤◌, ◌^◌, ◌+◌, ℕ, Bool, true, List, [], ◌∷◌, arith, subst, sym}
+use Rattle.std.proofs.lemmas.Bool.Decides.{nat_tests}
+use Rattle.std.specs.Prelude.{map}
+use Rattle.swarm_agent.specs.Times.{seen_agent}
+use Rattle.swarm_model.proofs.Laws.GivesOutReplay.{whole-replay}
+use Rattle.swarm_model.proofs.Laws.Small.{IsSmall-replay}
+use Rattle.swarm_model.proofs.Laws.Sound.{rises-between}
+use Rattle.swarm_model.proofs.Moves.Rows.{RisesBetween, between-has}
+use Rattle.swarm_model.specs.History.{replay}
+use Rattle.swarm_objects.specs.Loops.Agents.{agent_duties}
+use Rattle.swarm_objects.specs.Rows.{RisesFrom, agent_node}
+use Rattle.swarm_objects.specs.Usable.{IsUsable}
+use Rattle.swarm_objects.specs.World.{Tables}
+use Rattle.swarm_objects.specs.declared.agents.NodeAgent.{NodeAgent}
+use Rattle.swarm_spans.specs.Services.Touches.{AreCovered}
+use Rattle.swarm_spans.specs.Spans.{Covers, full, has_duty, is_in}
+use Rattle.swarm_spans.specs.TasksCovered.{AreTasksCovered}
+use Rattle.swarm_world.proofs.Entering.{are_usable}
+use Rattle.swarm_world.proofs.Recorded.{usable_rows}
+use Rattle.swarm_world.specs.Inside.Looks.{looked_at}
+use Rattle.swarm_world.specs.Inside.Marks.{AreMarked, IsMarked}
+use Rattle.swarm_world.specs.Inside.Parts.{HasHistory}
+use Rattle.swarm_world.specs.Inside.Records.{tables_of}
+use Rattle.swarm_world.specs.declared.marks.Marks.{Marks}
+use Rattle.swarm_world.specs.declared.parts.Parts.{Parts}
+
+in-full : (n high : ℕ) → 1 ≤ n → n < high → high < 2 ^ 60 → is_in full n ≡ true
+in-full n high low below near = grind (arith, nat_tests, low, below, near)
+
+pub full_covers : {X : Type 0} (key : X → ℕ) (test : X → Bool) (high : ℕ) (rows : List X) → RisesBetween key 1 high rows
+    → high < 2 ^ 60 → Covers key test full rows
+full_covers key test high rows rises near = record {
+  has = λ x h d. let is = between-has key 1 high rows x rises h in in-full (key x) high is.0 is.1 near;
+}
+
+seen-between : (high low : ℕ) (agents : List NodeAgent) → RisesBetween agent_node low high agents
+    → RisesBetween agent_node low high (map seen_agent agents)
+seen-between high low [] rises = tt
+seen-between high low (a ∷ agents) rises = (rises.0, rises.1, seen-between high (a.node + 1) agents rises.2)
+
+pub agents-between : (p : Parts) (is : HasHistory p)
+    → RisesBetween agent_node 1 (replay is.history).tables.next_id p.agents
+agents-between p is =
+    subst (RisesBetween agent_node 1 (replay is.history).tables.next_id) (sym is.stands.has.agents)
+    (seen-between (replay is.history).tables.next_id 1 (replay is.history).agents (whole-replay is.history is.legal).0.agents)
+
+-- the agents stand by rising node
+pub agents_rise : (p : Parts) → HasHistory p → RisesFrom agent_node 0 p.agents
+agents_rise p is =
+    rises-between agent_node 0 1 (replay is.history).tables.next_id p.agents (omega arith) (agents-between p is)
+
+-- each agent is in a span of every number
+pub agents_full : (p : Parts) → HasHistory p
+    → Covers agent_node (has_duty (agent_duties (looked_at (tables_of p.records) p.sent))) full p.agents
+agents_full p is =
+    full_covers agent_node (has_duty (agent_duties (looked_at (tables_of p.records) p.sent)))
+    (replay is.history).tables.next_id p.agents (agents-between p is) (IsSmall-replay is.history is.legal).next_id
+
+pub all_are_marked : (m : Marks) → ((t : Tables) → IsUsable t → AreTasksCovered t m.tasks)
+    → ((t : Tables) → IsUsable t → AreCovered t m.services) → m.agents ≡ full → (p : Parts) → HasHistory p
+    → IsMarked m p
+all_are_marked m tasks services every p is =
+    let usable = usable_rows p.records (are_usable p is) in
+    record {
+      rows =
+          record { tasks = tasks (tables_of p.records) usable; services = services (tables_of p.records) usable };
+      agents =
+          subst
+          (λ span. Covers agent_node (has_duty (agent_duties (looked_at (tables_of p.records) p.sent))) span p.agents)
+          (sym every) (agents_full p is);
+    }
+
+-- where the rows alone were looked at
+pub still_marked : (m n : Marks) (p : Parts) → IsMarked m p → AreMarked n (tables_of p.records) → n.agents ≡ m.agents
+    → IsMarked n p
+still_marked m n p are rows same = record {
+  rows = rows;
+  agents =
+      subst
+      (λ span. Covers agent_node (has_duty (agent_duties (looked_at (tables_of p.records) p.sent))) span p.agents)
+      (sym same) are.agents;
+}

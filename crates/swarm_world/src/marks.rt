@@ -1,0 +1,275 @@
+// Where a duty of the control loops over the rows may be: for each line of duties the span of the rows that may have one.
+ghost use Rattle.std.specs.Prelude.{◌≡◌, ◌++◌, List as Seq, false, flat_map};
+ghost use Rattle.swarm_model.specs.History.{replay};
+ghost use Rattle.swarm_objects.specs.declared.calls.Entry.{Entry};
+ghost use Rattle.swarm_objects.specs.ChangeLists.{apply_changes};
+ghost use Rattle.swarm_objects.specs.Duties.{duties};
+ghost use Rattle.swarm_objects.specs.Effects.{is_agents, world_with};
+ghost use Rattle.swarm_objects.specs.Loops.Allocator.{port_duties};
+ghost use Rattle.swarm_objects.specs.Rows.{first_of};
+ghost use Rattle.swarm_objects.specs.Usable.{IsUsable};
+ghost use Rattle.swarm_objects.specs.World.{Tables};
+ghost use Rattle.swarm_spans.specs.Lines.{addresses, deletes, expires, goes, notes, olds, orphans, raises, rejects, restarts};
+ghost use Rattle.swarm_spans.specs.Services.Lines.{comes, creates, downs, job_creates, leaves, trims, updates};
+ghost use Rattle.swarm_spans.specs.Spans.{CoversNodes, CoversServices, CoversTasks, full};
+ghost use Rattle.swarm_spans.specs.TasksCovered.{SessionLaw};
+ghost use Rattle.swarm_world.specs.Inside.Marks.{AreMarked, IsMarked};
+ghost use Rattle.swarm_world.specs.Inside.Parts.{HasHistory, StandsFor};
+ghost use Rattle.swarm_world.specs.Inside.Records.{tables_of};
+ghost use Rattle.swarm_world.specs.declared.parts.Parts.{Parts as Whole};
+
+use crate::firsts::is_agents;
+use crate::lines::{
+    Addresses, Comes, Creates, Deletes, Downs, Expires, Goes, JobCreates, Leaves, Notes, Olds,
+    Orphans, Ports, Raises, Rejects, Restarts, Schedules, Trims, Updates,
+};
+use crate::looks::agents_first_in;
+use crate::parts::Parts;
+use crate::records::Records;
+use swarm_agent::theorems::times_that_no_step_looks_at;
+use swarm_objects::{Change, Duty, Id, Role, Rows};
+use swarm_spans::{
+    ServiceSpans, Span, TaskSpans, first_of_nodes, first_of_services, first_of_tasks,
+};
+
+/// For each line of duties a span that has each row with a duty of the line.
+#[derive(Clone, Copy, Drop)]
+pub struct Marks {
+    pub tasks: TaskSpans,
+    pub services: ServiceSpans,
+    /// By the number of the agent's node.
+    pub agents: Span,
+}
+
+#[tactic(auto, using(crate::proofs::Marking::first_steps))]
+fn dispatcher<R: Rows>(rows: &R, expires_in: &mut Span, orphans_in: &mut Span) -> Option<Duty>
+    requires usable { IsUsable (R.tables rows.now) }
+    requires expires { CoversNodes expires (R.tables rows.now) expires_in.old }
+    requires orphans { CoversTasks orphans (R.tables rows.now) orphans_in.old }
+    ensures first { let t = R.tables rows.now in
+        result ≡ first_of (flat_map (expires t) t.nodes ++ flat_map (orphans t) t.tasks) }
+    ensures expires { CoversNodes expires (R.tables rows.now) expires_in.new }
+    ensures orphans { CoversTasks orphans (R.tables rows.now) orphans_in.new }
+{
+    if let Some(duty) = first_of_nodes::<Expires, R>(rows, expires_in) {
+        return Some(duty);
+    }
+    first_of_tasks::<Orphans, R>(rows, orphans_in)
+}
+
+#[tactic(auto, using(crate::proofs::Marking::first_steps))]
+fn restart<R: Rows>(rows: &R, restarts_in: &mut Span, raises_in: &mut Span) -> Option<Duty>
+    requires usable { IsUsable (R.tables rows.now) }
+    requires restarts { CoversTasks restarts (R.tables rows.now) restarts_in.old }
+    requires raises { CoversTasks raises (R.tables rows.now) raises_in.old }
+    ensures first { let t = R.tables rows.now in
+        result ≡ first_of (flat_map (restarts t) t.tasks ++ flat_map (raises t) t.tasks) }
+    ensures restarts { CoversTasks restarts (R.tables rows.now) restarts_in.new }
+    ensures raises { CoversTasks raises (R.tables rows.now) raises_in.new }
+{
+    if let Some(duty) = first_of_tasks::<Restarts, R>(rows, restarts_in) {
+        return Some(duty);
+    }
+    first_of_tasks::<Raises, R>(rows, raises_in)
+}
+
+#[tactic(auto, using(crate::proofs::Marking::first_steps))]
+fn replicated<R: Rows>(
+    rows: &R,
+    goes_in: &mut Span,
+    downs_in: &mut Span,
+    creates_in: &mut Span,
+) -> Option<Duty>
+    requires usable { IsUsable (R.tables rows.now) }
+    requires goes { CoversTasks goes (R.tables rows.now) goes_in.old }
+    requires downs { CoversServices downs (R.tables rows.now) downs_in.old }
+    requires creates { CoversServices creates (R.tables rows.now) creates_in.old }
+    ensures first { let t = R.tables rows.now in
+        result ≡ first_of (flat_map (goes t) t.tasks ++ flat_map (downs t) t.services ++ flat_map (creates t) t.services) }
+    ensures goes { CoversTasks goes (R.tables rows.now) goes_in.new }
+    ensures downs { CoversServices downs (R.tables rows.now) downs_in.new }
+    ensures creates { CoversServices creates (R.tables rows.now) creates_in.new }
+{
+    if let Some(duty) = first_of_tasks::<Goes, R>(rows, goes_in) {
+        return Some(duty);
+    }
+    if let Some(duty) = first_of_services::<Downs, R>(rows, downs_in) {
+        return Some(duty);
+    }
+    first_of_services::<Creates, R>(rows, creates_in)
+}
+
+#[tactic(auto, using(crate::proofs::Marking::first_steps))]
+fn global<R: Rows>(rows: &R, leaves_in: &mut Span, comes_in: &mut Span) -> Option<Duty>
+    requires usable { IsUsable (R.tables rows.now) }
+    requires leaves { CoversServices leaves (R.tables rows.now) leaves_in.old }
+    requires comes { CoversServices comes (R.tables rows.now) comes_in.old }
+    ensures first { let t = R.tables rows.now in
+        result ≡ first_of (flat_map (leaves t) t.services ++ flat_map (comes t) t.services) }
+    ensures leaves { CoversServices leaves (R.tables rows.now) leaves_in.new }
+    ensures comes { CoversServices comes (R.tables rows.now) comes_in.new }
+{
+    if let Some(duty) = first_of_services::<Leaves, R>(rows, leaves_in) {
+        return Some(duty);
+    }
+    first_of_services::<Comes, R>(rows, comes_in)
+}
+
+#[tactic(auto, using(crate::proofs::Marking::first_steps))]
+fn job<R: Rows>(rows: &R, olds_in: &mut Span, job_creates_in: &mut Span) -> Option<Duty>
+    requires usable { IsUsable (R.tables rows.now) }
+    requires olds { CoversTasks olds (R.tables rows.now) olds_in.old }
+    requires job_creates { CoversServices job_creates (R.tables rows.now) job_creates_in.old }
+    ensures first { let t = R.tables rows.now in
+        result ≡ first_of (flat_map (olds t) t.tasks ++ flat_map (job_creates t) t.services) }
+    ensures olds { CoversTasks olds (R.tables rows.now) olds_in.new }
+    ensures job_creates { CoversServices job_creates (R.tables rows.now) job_creates_in.new }
+{
+    if let Some(duty) = first_of_tasks::<Olds, R>(rows, olds_in) {
+        return Some(duty);
+    }
+    first_of_services::<JobCreates, R>(rows, job_creates_in)
+}
+
+#[tactic(auto, using(crate::proofs::Marking::first_steps))]
+fn allocator<R: Rows>(
+    rows: &R,
+    ports_in: &mut Span,
+    addresses_in: &mut Span,
+    notes_in: &mut Span,
+) -> Option<Duty>
+    requires usable { IsUsable (R.tables rows.now) }
+    requires ports { CoversServices port_duties (R.tables rows.now) ports_in.old }
+    requires addresses { CoversTasks addresses (R.tables rows.now) addresses_in.old }
+    requires notes { CoversTasks notes (R.tables rows.now) notes_in.old }
+    ensures first { let t = R.tables rows.now in
+        result ≡ first_of (flat_map (port_duties t) t.services ++ flat_map (addresses t) t.tasks ++ flat_map (notes t) t.tasks) }
+    ensures ports { CoversServices port_duties (R.tables rows.now) ports_in.new }
+    ensures addresses { CoversTasks addresses (R.tables rows.now) addresses_in.new }
+    ensures notes { CoversTasks notes (R.tables rows.now) notes_in.new }
+{
+    if let Some(duty) = first_of_services::<Ports, R>(rows, ports_in) {
+        return Some(duty);
+    }
+    if let Some(duty) = first_of_tasks::<Addresses, R>(rows, addresses_in) {
+        return Some(duty);
+    }
+    first_of_tasks::<Notes, R>(rows, notes_in)
+}
+
+#[tactic(auto, using(crate::proofs::Marking::first_steps))]
+fn reaper<R: Rows>(rows: &R, deletes_in: &mut Span, trims_in: &mut Span) -> Option<Duty>
+    requires usable { IsUsable (R.tables rows.now) }
+    requires deletes { CoversTasks deletes (R.tables rows.now) deletes_in.old }
+    requires trims { CoversTasks trims (R.tables rows.now) trims_in.old }
+    ensures first { let t = R.tables rows.now in
+        result ≡ first_of (flat_map (deletes t) t.tasks ++ flat_map (trims t) t.tasks) }
+    ensures deletes { CoversTasks deletes (R.tables rows.now) deletes_in.new }
+    ensures trims { CoversTasks trims (R.tables rows.now) trims_in.new }
+{
+    if let Some(duty) = first_of_tasks::<Deletes, R>(rows, deletes_in) {
+        return Some(duty);
+    }
+    first_of_tasks::<Trims, R>(rows, trims_in)
+}
+
+impl Marks {
+    /// Every row may have a duty.
+    pub fn all() -> Marks
+        ensures { (p : Whole) → HasHistory p → IsMarked result p }
+    {
+        Marks {
+            tasks: TaskSpans::full(),
+            services: ServiceSpans::full(),
+            agents: Span::full(),
+        }
+    }
+
+    /// With what these changes touch of the rows: asked before they are made. Any agent may have a duty afterwards.
+    pub fn touch(&mut self, records: &Records, changes: &[Change])
+        requires usable { IsUsable (tables_of records.now) }
+        requires marks { AreMarked self.old (tables_of records.now) }
+        ensures stays { AreMarked self.new (tables_of records.now) }
+        ensures goes_on { let u = apply_changes (tables_of records.now) changes.now in IsUsable u → AreMarked self.new u }
+        ensures agents { self.new.agents ≡ self.old.agents }
+    {
+        self.tasks = self.tasks.touched(records, changes);
+        self.services = self.services.touched(records, changes);
+    }
+
+    /// Every row may have a duty.
+    pub fn touch_rows(&mut self)
+        ensures goes_on { (t : Tables) → IsUsable t → AreMarked self.new t }
+        ensures agents { self.new.agents ≡ self.old.agents }
+    {
+        self.tasks = TaskSpans::full();
+        self.services = ServiceSpans::full();
+    }
+
+    /// With what a node's session concerns, where it begins, is lengthened or ends.
+    pub fn touch_session(&mut self, node: Id)
+        ensures goes_on { SessionLaw node self.old.tasks self.new.tasks }
+        ensures services { self.new.services ≡ self.old.services }
+        ensures agents { self.new.agents ≡ self.old.agents }
+    {
+        self.tasks = self.tasks.with_session(node);
+    }
+
+    /// Any agent may have a duty.
+    pub fn touch_agents(&mut self)
+        ensures tasks { self.new.tasks ≡ self.old.tasks }
+        ensures services { self.new.services ≡ self.old.services }
+        ensures agents { self.new.agents ≡ full }
+    {
+        self.agents = Span::full();
+    }
+
+    // The first duty of a control loop over the rows. Rows before it, which have none, leave their spans.
+    #[tactic(auto, using(crate::proofs::Marking::line_steps))]
+    fn first<R: Rows>(&mut self, rows: &R, role: Role) -> Option<Duty>
+        requires usable { IsUsable (R.tables rows.now) }
+        requires rows { is_agents role ≡ false }
+        requires marks { AreMarked self.old (R.tables rows.now) }
+        ensures first { result ≡ first_of (duties role (world_with (R.tables rows.now))) }
+        ensures marks { AreMarked self.new (R.tables rows.now) }
+        ensures agents { self.new.agents ≡ self.old.agents }
+    {
+        match role {
+            Role::Dispatcher => dispatcher(rows, &mut self.tasks.expires, &mut self.tasks.orphans),
+            Role::Enforcer => first_of_tasks::<Rejects, R>(rows, &mut self.tasks.rejects),
+            Role::Restart => restart(rows, &mut self.tasks.restarts, &mut self.tasks.raises),
+            Role::Update => first_of_services::<Updates, R>(rows, &mut self.services.updates),
+            Role::Replicated => replicated(
+                rows,
+                &mut self.tasks.goes,
+                &mut self.services.downs,
+                &mut self.services.creates,
+            ),
+            Role::Global => global(rows, &mut self.services.leaves, &mut self.services.comes),
+            Role::Job => job(rows, &mut self.tasks.olds, &mut self.services.job_creates),
+            Role::Allocator => allocator(
+                rows,
+                &mut self.services.ports,
+                &mut self.tasks.addresses,
+                &mut self.tasks.notes,
+            ),
+            Role::Scheduler => first_of_tasks::<Schedules, R>(rows, &mut self.tasks.schedules),
+            Role::Reaper => reaper(rows, &mut self.tasks.deletes, &mut self.services.trims),
+            Role::Agents => unreachable!(),
+        }
+    }
+
+    /// The first duty of the control loop. Rows before it, which have none, leave their spans. It takes no memory.
+    pub fn find(&mut self, parts: &Parts, role: Role) -> Option<Duty>
+        requires at { HasHistory parts.now }
+        requires marks { IsMarked self.old parts.now }
+        ensures first { (h : Seq Entry) → StandsFor parts.now (replay h) → result ≡ first_of (duties role (replay h)) }
+        ensures marks { IsMarked self.new parts.now }
+    {
+        times_that_no_step_looks_at();
+        if is_agents(role) {
+            return agents_first_in(&parts.records, &parts.sent, &parts.agents, &mut self.agents);
+        }
+        self.first(&parts.records, role)
+    }
+}
