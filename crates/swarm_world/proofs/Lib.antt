@@ -1,7 +1,11 @@
 pub mod AgentsAlone
 pub mod AgentsCovered
-pub mod AgentsMarked
+pub mod AgentsKept
+pub mod AgentsNarrowed
+pub mod AgentsSeen
 pub mod AgentsShown
+pub mod AgentsTaken
+pub mod AgentsTouched
 pub mod Answering
 pub mod Arriving
 pub mod Asking
@@ -26,8 +30,10 @@ pub mod Registering
 pub mod RemoteCalls
 pub mod Reporting
 pub mod ReportsAlone
+pub mod RowsTouched
+pub mod RowsTurned
 pub mod SettleLines
 pub mod Stepping
 pub mod Taking
-pub mod Touched
+pub mod ToldNodes
 pub mod Transacting

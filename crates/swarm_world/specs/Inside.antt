@@ -8,3 +8,5 @@ pub mod Lookups
 pub mod Marks
 pub mod Parts
 pub mod Records
+pub mod Spanned
+pub mod Touches

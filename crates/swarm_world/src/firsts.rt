@@ -1,15 +1,18 @@
 // Duties done, of whichever control loop.
-ghost use Rattle.std.specs.Prelude.{◌≡◌, List as Seq, if◌then◌else◌};
+ghost use Rattle.std.specs.Prelude.{◌≡◌, List as Seq, true};
+ghost use Rattle.swarm_model.specs.History.{replay};
+ghost use Rattle.swarm_objects.specs.Duties.{is_due};
 ghost use Rattle.swarm_objects.specs.Kinds.{role_of};
 ghost use Rattle.swarm_objects.specs.declared.calls.Entry.{Entry};
 ghost use Rattle.swarm_objects.specs.declared.calls.What.TheVariants as what;
 ghost use Rattle.swarm_objects.specs.Effects.{is_agents};
 ghost use Rattle.swarm_objects.specs.Usable.{IsUsable};
-ghost use Rattle.swarm_spans.specs.Spans.{full};
 ghost use Rattle.swarm_world.specs.Inside.Marks.{AreMarked};
 ghost use Rattle.swarm_world.specs.Inside.Parts.{Enters, HasDuty, IsAt};
 ghost use Rattle.swarm_world.specs.Inside.Records.{tables_of};
+ghost use Rattle.swarm_world.specs.Inside.Spanned.{CoversAgents};
 
+use crate::looks::agents_stay_covered;
 use crate::marks::Marks;
 use crate::parts::Parts;
 use swarm_objects::{Duty, NoMemory, Role, Version};
@@ -25,8 +28,7 @@ pub fn is_agents(role: Role) -> bool
 }
 
 impl Parts {
-    /// The duty of the control loop, which is due, is done as the entry with this number; or memory is wanting. A duty of
-    /// an agent leaves all other agents theirs.
+    /// The duty of the control loop, which is due, is done as the entry with this number; or memory is wanting.
     pub fn take(
         &mut self,
         marks: &mut Marks,
@@ -39,8 +41,10 @@ impl Parts {
         requires own { role_of duty ≡ role }
         ensures enters { (h : Seq Entry) → IsAt version self.old h → Enters h (what.Duty duty) result self.new }
         ensures marks { IsUsable (tables_of self.new.records) → AreMarked marks.new (tables_of self.new.records) }
-        ensures agents { marks.new.agents ≡ (if is_agents role then marks.old.agents else full) }
+        ensures agents { (h : Seq Entry) → IsAt version self.old h → is_due (replay h) duty ≡ true →
+            CoversAgents self.old marks.old.agents → CoversAgents self.new marks.new.agents }
     {
+        agents_stay_covered();
         if is_agents(role) {
             return self.take_by_agents(marks, version, duty);
         }

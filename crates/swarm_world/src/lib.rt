@@ -16,6 +16,7 @@ mod records;
 mod remote;
 mod removals;
 mod settling;
+mod touched;
 mod turns;
 mod world;
 

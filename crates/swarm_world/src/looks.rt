@@ -9,6 +9,7 @@ ghost use Rattle.swarm_objects.specs.Usable.{IsUsable};
 ghost use Rattle.swarm_spans.specs.Spans.{Covers, has_duty, is_in};
 ghost use Rattle.swarm_world.specs.Inside.Looks.{EachRises, looked_at};
 ghost use Rattle.swarm_world.specs.Inside.Records.{tables_of};
+ghost use Rattle.swarm_world.specs.Inside.Spanned.{AgentsSpanLaw};
 
 use crate::records::Records;
 use swarm_agent::theorems::{times_that_no_step_looks_at, what_is_found_is_the_first_duty};
@@ -237,4 +238,12 @@ pub fn agents_first_in(
     }
     *span = Span::empty();
     None
+}
+
+/// How the span of the agents' loop goes on covering the nodes whose agents have a duty.
+#[tactic(auto, using(crate::proofs::AgentsKept::agents_stay))]
+pub fn agents_stay_covered()
+    ensures { AgentsSpanLaw }
+{
+    times_that_no_step_looks_at();
 }

@@ -11,7 +11,7 @@ ghost use Rattle.swarm_objects.specs.Usable.{IsUsable};
 ghost use Rattle.swarm_objects.specs.World.{Tables};
 ghost use Rattle.swarm_spans.specs.Lines.{addresses, deletes, expires, goes, notes, olds, orphans, raises, rejects, restarts};
 ghost use Rattle.swarm_spans.specs.Services.Lines.{comes, creates, downs, job_creates, leaves, trims, updates};
-ghost use Rattle.swarm_spans.specs.Spans.{CoversNodes, CoversServices, CoversTasks, full};
+ghost use Rattle.swarm_spans.specs.Spans.{CoversNodes, CoversServices, CoversTasks};
 ghost use Rattle.swarm_spans.specs.TasksCovered.{SessionLaw};
 ghost use Rattle.swarm_world.specs.Inside.Marks.{AreMarked, IsMarked};
 ghost use Rattle.swarm_world.specs.Inside.Parts.{HasHistory, StandsFor};
@@ -213,15 +213,6 @@ impl Marks {
         ensures agents { self.new.agents ≡ self.old.agents }
     {
         self.tasks = self.tasks.with_session(node);
-    }
-
-    /// Any agent may have a duty.
-    pub fn touch_agents(&mut self)
-        ensures tasks { self.new.tasks ≡ self.old.tasks }
-        ensures services { self.new.services ≡ self.old.services }
-        ensures agents { self.new.agents ≡ full }
-    {
-        self.agents = Span::full();
     }
 
     // The first duty of a control loop over the rows. Rows before it, which have none, leave their spans.

@@ -1,8 +1,9 @@
 // The parts of the world: what each entry makes of them.
-ghost use Rattle.std.specs.Prelude.{◌≡◌, ◌<◌, ◌≤◌, ◌+◌, IfOk, List as Seq, ℕ, false};
+ghost use Rattle.std.specs.Prelude.{◌≡◌, ◌<◌, ◌≤◌, ◌+◌, IfOk, List as Seq, ℕ, false, true};
 ghost use Rattle.swarm_model.specs.History.{IsLegal, replay, step};
 ghost use Rattle.swarm_objects.specs.Bounds.{far_end};
 ghost use Rattle.swarm_objects.specs.CallWords.{is_halt};
+ghost use Rattle.swarm_objects.specs.Duties.{is_due};
 ghost use Rattle.swarm_objects.specs.Kinds.{role_of};
 ghost use Rattle.swarm_objects.specs.Limits.{most_ops};
 ghost use Rattle.swarm_objects.specs.World.{empty_world};
@@ -11,18 +12,20 @@ ghost use Rattle.swarm_objects.specs.declared.calls.What.TheVariants as what;
 ghost use Rattle.swarm_objects.specs.declared.calls.Call.TheVariants as call;
 ghost use Rattle.swarm_objects.specs.Effects.{is_agents};
 ghost use Rattle.swarm_objects.specs.Usable.{IsUsable};
-ghost use Rattle.swarm_spans.specs.Spans.{full};
 ghost use Rattle.swarm_store.specs.Stored.{row_count};
 ghost use Rattle.swarm_world.specs.Inside.Marks.{AreMarked};
 ghost use Rattle.swarm_world.specs.Inside.Parts.{Answers, Enters, HasHistory, IsAt, Replies, StandsFor, Tells, is_watch_call};
 ghost use Rattle.swarm_world.specs.Inside.Records.{tables_of};
+ghost use Rattle.swarm_world.specs.Inside.Spanned.{CoversAgents};
 
 use crate::arrivals::put_new_agents;
 use crate::changes::changes_of;
 use crate::commits::{commit, make_room, tell};
+use crate::looks::agents_stay_covered;
 use crate::marks::Marks;
 use crate::records::Records;
 use crate::removals::drop_removed;
+use crate::touched::touch_agents;
 use std::alloc::Global;
 use swarm_agent::Agents;
 use swarm_assign::Sents;
@@ -95,8 +98,8 @@ impl Parts {
         self.halted = true;
     }
 
-    /// The duty of a control loop over the rows is done as the entry with this number, or memory is wanting. Any agent
-    /// may have a duty afterwards.
+    /// The duty of a control loop over the rows, which is due, is done as the entry with this number, or memory is
+    /// wanting.
     pub fn take_by_rows(
         &mut self,
         marks: &mut Marks,
@@ -110,14 +113,16 @@ impl Parts {
         requires rows { is_agents role ≡ false }
         ensures enters { (h : Seq Entry) → IsAt version self.old h → Enters h (what.Duty duty) result self.new }
         ensures marks { IsUsable (tables_of self.new.records) → AreMarked marks.new (tables_of self.new.records) }
-        ensures agents { marks.new.agents ≡ full }
+        ensures agents { (h : Seq Entry) → IsAt version self.old h → is_due (replay h) duty ≡ true →
+            CoversAgents self.old marks.old.agents → CoversAgents self.new marks.new.agents }
     {
-        marks.touch_agents();
+        agents_stay_covered();
         let Ok(changes) = changes_of(self.alloc, &self.records, version, role, duty) else {
             return Err(NoMemory);
         };
         entries_are_noted();
         marks.touch(&self.records, changes.as_slice());
+        touch_agents(&self.records, changes.as_slice(), &mut marks.agents);
         commit(&mut self.records, &mut self.watches, version, changes)
     }
 

@@ -14,7 +14,6 @@ use crate::records::Records;
 use crate::turns::Turn;
 use std::alloc::Global;
 use std::marker::Model;
-use swarm_agent::theorems::times_that_no_step_looks_at;
 use swarm_objects::limits::MOST_ENTRIES;
 use swarm_objects::{
     Call, Duty, Entry, Id, Ms, Network, NoMemory, Node, Place, Refusal, Reply, Role, Rows, Service,
@@ -144,7 +143,6 @@ impl World {
         if count >= MOST_ENTRIES {
             return Turn::Full(count);
         }
-        times_that_no_step_looks_at();
         let Some(duty) = self.marks.find(&self.parts, role) else {
             return Turn::Idle;
         };

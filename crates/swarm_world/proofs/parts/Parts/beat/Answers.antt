@@ -7,7 +7,7 @@ use Rattle.swarm_objects.specs.declared.replies.Refusal.{Refusal}
 use Rattle.swarm_world.proofs.Entering.{are_usable, small_heartbeat}
 use Rattle.swarm_world.proofs.OnNodes.{beat-parts}
 use Rattle.swarm_world.proofs.Recorded.{usable_rows}
-use Rattle.swarm_world.proofs.Touched.{beat_marked}
+use Rattle.swarm_world.proofs.RowsTouched.{beat_marked}
 use Rattle.swarm_world.proofs.parts.Parts.beat.Goals as goal
 
 pub beat-requires-clause-now : goal.beat-requires-clause-now

@@ -4,7 +4,7 @@ use Rattle.swarm_world.proofs.Beginning.{not_made}
 use Rattle.swarm_world.proofs.Entering.{are_usable}
 use Rattle.swarm_world.proofs.Recorded.{usable_rows}
 use Rattle.swarm_world.proofs.Reporting.{reported_none, reported_some}
-use Rattle.swarm_world.proofs.Touched.{committed, not_committed}
+use Rattle.swarm_world.proofs.RowsTouched.{committed, not_committed}
 use Rattle.swarm_world.proofs.parts.Parts.report.Goals as goal
 
 pub raise_state-requires : goal.raise_state-requires

@@ -4,7 +4,7 @@ use Rattle.swarm_objects.specs.Duties.{is_due}
 use Rattle.swarm_world.proofs.Choosing.{beat-live}
 use Rattle.swarm_world.proofs.OnNodes.{live-is}
 use Rattle.swarm_world.proofs.Taking.{seven_kinds}
-use Rattle.swarm_world.proofs.Touched.{same_rows}
+use Rattle.swarm_world.proofs.RowsTouched.{same_rows}
 use Rattle.swarm_world.proofs.parts.Parts.take_by_agents.Goals as goal
 
 pub beat-requires-clause-at : goal.beat-requires-clause-at

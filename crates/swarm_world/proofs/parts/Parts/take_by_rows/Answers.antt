@@ -1,9 +1,11 @@
-use Rattle.std.proofs.Common.{ap, false, ◌∙◌, ◌≡◌}
+use Rattle.std.proofs.Common.{ap, false, refl, subst, ◌∙◌, ◌≡◌}
 use Rattle.swarm_objects.specs.Kinds.{role_of}
 use Rattle.swarm_objects.specs.Effects.{is_agents}
+use Rattle.swarm_spans.specs.Spans.{IsWider}
+use Rattle.swarm_world.proofs.AgentsTaken.{rows_taken}
 use Rattle.swarm_world.proofs.Entering.{are_usable, took}
 use Rattle.swarm_world.proofs.Recorded.{usable_rows}
-use Rattle.swarm_world.proofs.Touched.{commit_marked, same_spans}
+use Rattle.swarm_world.proofs.RowsTouched.{commit_marked, same_spans}
 use Rattle.swarm_world.specs.Inside.Records.{tables_of}
 use Rattle.swarm_world.proofs.parts.Parts.take_by_rows.Goals as goal
 
@@ -23,23 +25,20 @@ returns-clause-enters c = λ h is.
 pub touch-requires-clause-usable : goal.touch-requires-clause-usable
 touch-requires-clause-usable c = usable_rows c.args.self.now.records (are_usable c.args.self.now c.requires.at)
 
-pub touch-requires-clause-marks : goal.touch-requires-clause-marks
-touch-requires-clause-marks c =
-    let touched = c.touch_agents.ensures in
-    same_spans c.args.marks.now c.touch_agents.new.self (tables_of c.args.self.now.records) touched.tasks
-    touched.services c.requires.marks
-
-pub returns-in_default-clause-marks : goal.returns-in_default-clause-marks
-returns-in_default-clause-marks c = λ usable.
-    let touched = c.touch_agents.ensures in
-    same_spans c.args.marks.now c.touch_agents.new.self (tables_of c.args.self.now.records) touched.tasks
-    touched.services c.requires.marks
-
 pub returns-clause-marks : goal.returns-clause-marks
-returns-clause-marks c =
-    commit_marked c.args.version c.as_slice.result.now c.in-Ok.changes c.args.self.now c.requires.at
+returns-clause-marks c = λ usable.
+    same_spans c.touch.new.self _ (tables_of c.commit.new.records) refl refl
+    (commit_marked c.args.version c.as_slice.result.now c.in-Ok.changes c.args.self.now c.requires.at
     c.commit.new.records c.commit.new.watches c.commit.result c.touch.new.self c.as_slice.ensures c.commit.ensures
-    c.touch.ensures.stays c.touch.ensures.goes_on
+    c.touch.ensures.stays c.touch.ensures.goes_on usable)
 
 pub returns-clause-agents : goal.returns-clause-agents
-returns-clause-agents c = c.touch.ensures.agents ∙ c.touch_agents.ensures.agents
+returns-clause-agents c = λ h is due covers.
+    let other : is_agents (role_of c.args.duty) ≡ false = ap is_agents c.requires.own ∙ c.requires.rows in
+    rows_taken c.agents_stay_covered.ensures c.args.version h c.args.duty c.as_slice-2.result.now c.in-Ok.changes
+    c.commit.result c.args.self.now _ c.args.marks.now.agents c.touch_agents.new.span is other due c.in-Ok.ensures
+    c.as_slice-2.ensures (subst (IsWider c.touch_agents.new.span) c.touch.ensures.agents c.touch_agents.ensures.wider)
+    c.touch_agents.ensures.touches
+    (took c.entries_are_noted.ensures c.args.version c.args.self.now c.commit.new.records c.commit.new.watches
+    c.commit.result h c.args.duty c.in-Ok.changes is other c.in-Ok.ensures c.commit.ensures)
+    covers

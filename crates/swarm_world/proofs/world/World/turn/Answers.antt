@@ -3,9 +3,9 @@ use Rattle.swarm_model.specs.History.{IsLegal, replay}
 use Rattle.swarm_objects.specs.Duties.{duties}
 use Rattle.swarm_objects.specs.Rows.{first_of}
 use Rattle.swarm_objects.specs.declared.calls.Entry.{Entry}
-use Rattle.swarm_world.proofs.AgentsMarked.{turn_kept, turn_marked}
-use Rattle.swarm_world.proofs.Entering.{due_of_first, full, role_of_first, turning}
+use Rattle.swarm_world.proofs.Entering.{are_usable, due_of_first, full, role_of_first, turning}
 use Rattle.swarm_world.proofs.Lawful.{lawful}
+use Rattle.swarm_world.proofs.Recorded.{usable_rows}
 use Rattle.swarm_world.specs.Inside.Parts.{IsAt, StandsFor}
 use Rattle.swarm_world.specs.Work.{duty_by}
 use Rattle.swarm_world.proofs.world.World.turn.Goals as goal
@@ -71,11 +71,14 @@ invariant_of-self-2 c =
       legal = subst IsLegal (sym more) turned.legal;
       stands = subst (StandsFor c.take.new.self) (ap replay (sym more)) now;
       marks =
-          turn_marked c.times_that_no_step_looks_at.ensures H (H ++ duty_by c.args.by d ∷ []) c.args.role d
-          c.self.inside.parts c.take.new.self c.find.new.self c.take.new.marks kept.legal turned.legal kept.stands
-          turned.world now (role_of_first c.args.role (replay H) d first)
-          (due_of_first c.args.role (replay H) d first)
-          (record { rows = c.take.ensures.marks; agents = c.take.ensures.agents }) c.find.ensures.marks;
+          record {
+            rows =
+                c.take.ensures.marks
+                (usable_rows c.take.new.self.records
+                (are_usable c.take.new.self
+                (record { history = H ++ duty_by c.args.by d ∷ []; legal = turned.legal; stands = now })));
+            agents = c.take.ensures.agents H at (due_of_first c.args.role (replay H) d first) c.find.ensures.marks.agents;
+          };
       spare = λ h. omega (arith, c.in-Ok.ensures.ok, c.in-Ok-push.ensures.len, c.in-Ok-push.ensures.capacity);
     }
 
@@ -90,9 +93,16 @@ invariant_of-self-in_default-take c =
       legal = subst IsLegal (sym c.reserve.ensures.items) kept.legal;
       stands = subst (StandsFor c.take.new.self) (ap replay (sym c.reserve.ensures.items)) now;
       marks =
-          turn_kept c.times_that_no_step_looks_at.ensures H c.args.role c.self.inside.parts c.take.new.self
-          c.find.new.self c.take.new.marks kept.legal kept.stands now
-          (record { rows = c.take.ensures.marks; agents = c.take.ensures.agents }) c.find.ensures.marks;
+          record {
+            rows =
+                c.take.ensures.marks
+                (usable_rows c.take.new.self.records
+                (are_usable c.take.new.self (record { history = H; legal = kept.legal; stands = now })));
+            agents =
+                c.take.ensures.agents H at
+                (due_of_first c.args.role (replay H) c.in-Some.duty
+                (sym (c.find.ensures.first H kept.stands) ∙ c.in-Some.is)) c.find.ensures.marks.agents;
+          };
       spare = λ h. omega (arith, c.in-Ok.ensures.ok, c.reserve.ensures.len);
     }
 

@@ -1,0 +1,65 @@
+// The nodes that changes of rows touch: they are told something else of a task, and their agents may get a duty. It is
+// asked before the changes are made, with the rows as they are.
+ghost use Rattle.std.specs.Prelude.{◌≡◌, Some};
+ghost use Rattle.swarm_objects.specs.Rows.{row_at, task_id};
+ghost use Rattle.swarm_spans.specs.Spans.{IsWider};
+ghost use Rattle.swarm_world.specs.Inside.Records.{tables_of};
+ghost use Rattle.swarm_world.specs.Inside.Touches.{HasNodeOf, TouchesAllTold, TouchesTold};
+
+use crate::records::Records;
+use swarm_objects::{Change, Id, Rows, Task};
+use swarm_spans::Span;
+
+// The node to which the task is assigned.
+#[tactic(auto, using(crate::proofs::ToldNodes::node_steps))]
+fn add_node_of(task: &Task, span: &mut Span)
+    ensures wider { IsWider span.new span.old }
+    ensures has { HasNodeOf span.new (Some task.now) }
+{
+    if task.is_below_assigned() {
+        return;
+    }
+    if let Some(node) = task.node {
+        span.add(node);
+    }
+}
+
+// The node to which the task with this id is assigned so far.
+#[tactic(auto, using(crate::proofs::ToldNodes::former_steps))]
+fn add_former(records: &Records, id: Id, span: &mut Span)
+    ensures wider { IsWider span.new span.old }
+    ensures has { HasNodeOf span.new (row_at task_id id (tables_of records.now).tasks) }
+{
+    if let Some(old) = records.task(id) {
+        add_node_of(old, span);
+    }
+}
+
+// What one change touches.
+#[tactic(auto, using(crate::proofs::ToldNodes::change_steps))]
+fn touch_by(records: &Records, change: &Change, span: &mut Span)
+    ensures wider { IsWider span.new span.old }
+    ensures touches { TouchesTold (tables_of records.now) span.new change.now }
+{
+    match change {
+        Change::PutTask(task) => {
+            add_node_of(task, span);
+            add_former(records, task.id, span);
+        }
+        Change::DropTask(id) => add_former(records, *id, span),
+        Change::PutNode(_) | Change::PutService(_) | Change::Keep(_) => {}
+    }
+}
+
+/// What the changes touch of the agents' loop.
+#[tactic(auto, using(crate::proofs::ToldNodes::all_steps))]
+pub fn touch_agents(records: &Records, changes: &[Change], span: &mut Span)
+    ensures wider { IsWider span.new span.old }
+    ensures touches { TouchesAllTold (tables_of records.now) span.new changes.now }
+{
+    let mut left = changes;
+    while let Some((change, others)) = left.split_first() {
+        touch_by(records, change, span);
+        left = others;
+    }
+}
