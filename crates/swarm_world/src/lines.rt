@@ -10,7 +10,8 @@ use swarm_replicated::{create_duty, down_duty, is_gone};
 use swarm_restart::{wants_raise, wants_restart};
 use swarm_sched::schedule;
 use swarm_sessions::{is_expired, is_orphaned};
-use swarm_spans::{NodeLine, ServiceLine, TaskLine};
+use swarm_spans::reads::{ToAllocate, ToSchedule, ToWait};
+use swarm_spans::{NodeLine, ServiceLine, TaskLine, TaskReads};
 use swarm_update::update_duty;
 use swarm_upkeep::{is_misplaced, is_removable, is_trimmed_past};
 
@@ -265,5 +266,46 @@ impl ServiceLine for Ports {
 
     fn duty<R: Rows>(rows: &R, service: &Service) -> Option<Duty> {
         port_of(rows, service)
+    }
+}
+
+// Lines of tasks that wait for something: their duties are but marks, by which those that wait no more leave the spans.
+
+/// Tasks that wait for their time, or for earlier tasks of their place.
+pub struct Waiting;
+
+impl TaskLine for Waiting {
+    ghost use Rattle.swarm_spans.specs.Lines.{to_wait};
+
+    ghost duties = { to_wait };
+
+    fn duty<R: Rows>(_rows: &R, task: &Task) -> Option<Duty> {
+        when(ToWait::may(task), Duty::Raise(task.id))
+    }
+}
+
+/// Tasks that wait for a node.
+pub struct Unplaced;
+
+impl TaskLine for Unplaced {
+    ghost use Rattle.swarm_spans.specs.Lines.{to_schedule};
+
+    ghost duties = { to_schedule };
+
+    fn duty<R: Rows>(_rows: &R, task: &Task) -> Option<Duty> {
+        when(ToSchedule::may(task), Duty::Drop(task.id))
+    }
+}
+
+/// Tasks that wait for addresses.
+pub struct Unallocated;
+
+impl TaskLine for Unallocated {
+    ghost use Rattle.swarm_spans.specs.Lines.{to_allocate};
+
+    ghost duties = { to_allocate };
+
+    fn duty<R: Rows>(_rows: &R, task: &Task) -> Option<Duty> {
+        when(ToAllocate::may(task), Duty::Note(task.id))
     }
 }

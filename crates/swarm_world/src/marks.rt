@@ -21,7 +21,8 @@ ghost use Rattle.swarm_world.specs.declared.parts.Parts.{Parts as Whole};
 use crate::firsts::is_agents;
 use crate::lines::{
     Addresses, Comes, Creates, Deletes, Downs, Expires, Goes, JobCreates, Leaves, Notes, Olds,
-    Orphans, Ports, Raises, Rejects, Restarts, Schedules, Trims, Updates,
+    Orphans, Ports, Raises, Rejects, Restarts, Schedules, Trims, Unallocated, Unplaced, Updates,
+    Waiting,
 };
 use crate::looks::agents_first_in;
 use crate::parts::Parts;
@@ -185,6 +186,18 @@ impl Marks {
         }
     }
 
+    // Tasks that wait no more leave the spans of those that wait, by which a touch widens others.
+    fn pass_waiting<R: Rows>(&mut self, rows: &R)
+        requires usable { IsUsable (R.tables rows.now) }
+        requires marks { AreMarked self.old (R.tables rows.now) }
+        ensures marks { AreMarked self.new (R.tables rows.now) }
+        ensures agents { self.new.agents ≡ self.old.agents }
+    {
+        let _ = first_of_tasks::<Waiting, R>(rows, &mut self.tasks.to_wait);
+        let _ = first_of_tasks::<Unplaced, R>(rows, &mut self.tasks.to_schedule);
+        let _ = first_of_tasks::<Unallocated, R>(rows, &mut self.tasks.to_allocate);
+    }
+
     /// With what these changes touch of the rows: asked before they are made. Any agent may have a duty afterwards.
     pub fn touch(&mut self, records: &Records, changes: &[Change])
         requires usable { IsUsable (tables_of records.now) }
@@ -193,6 +206,7 @@ impl Marks {
         ensures goes_on { let u = apply_changes (tables_of records.now) changes.now in IsUsable u → AreMarked self.new u }
         ensures agents { self.new.agents ≡ self.old.agents }
     {
+        self.pass_waiting(records);
         self.tasks = self.tasks.touched(records, changes);
         self.services = self.services.touched(records, changes);
     }
