@@ -1,5 +1,5 @@
 -- A duty of a control loop over the rows as an entry; an entry more in a world with its history.
-use Rattle.std.proofs.Common.{◌≡◌, ◌<◌, ◌≤◌, ◌+◌, ℕ, List, [], ◌∷◌, ◌++◌, Some, None, Result, Ok, Err, arith, ap, refl, subst, sym, ◌∙◌, length, true, false, inl}
+use Rattle.std.proofs.Common.{◌≡◌, ◌<◌, ◌≤◌, ◌+◌, ℕ, List, [], ◌∷◌, ◌++◌, Option, Some, None, Result, Ok, Err, arith, ap, refl, subst, sym, ◌∙◌, length, true, false, inl}
 use Rattle.std.specs.Prelude.{map}
 use Rattle.swarm_agent.specs.Times.{seen_agent}
 use Rattle.swarm_model.proofs.Base.DutyLists.{due-Has}
@@ -14,7 +14,7 @@ use Rattle.swarm_model.specs.History.{IsLegal, replay, step}
 use Rattle.swarm_objects.specs.Bounds.{far_end}
 use Rattle.swarm_objects.specs.CallWords.{is_halt}
 use Rattle.swarm_objects.specs.Changes.{with_tables}
-use Rattle.swarm_objects.specs.Duties.{duties, effect_by, is_due}
+use Rattle.swarm_objects.specs.Duties.{duties, effect_by, first_duty, is_due}
 use Rattle.swarm_objects.specs.Kinds.{role_of}
 use Rattle.swarm_objects.specs.Rows.{Has, first_of}
 use Rattle.swarm_objects.specs.World.{Tables, World, empty_world}
@@ -35,6 +35,7 @@ use Rattle.swarm_watch.specs.Calls.{hears}
 use Rattle.swarm_watch.specs.Watchings.{Watchings}
 use Rattle.swarm_objects.specs.declared.names.NoMemory.{NoMemory}
 use Rattle.swarm_world.specs.Inside.Commits.{Commits}
+use Rattle.swarm_world.specs.Inside.Kept.{IsFirst}
 use Rattle.swarm_world.proofs.Recorded.{tables_are}
 use Rattle.swarm_world.specs.Inside.Parts.{Enters, HasHistory, IsAt, StandsFor}
 use Rattle.swarm_world.specs.Inside.Records.{AreUsable, HasRecords, tables_of}
@@ -116,6 +117,21 @@ role_of_first r w d e = role_of-Has r w d (first_has (duties r w) d e)
 pub due_of_first : (r : Role) (w : World) (d : Duty) → first_of (duties r w) ≡ Some d → is_due w d ≡ true
 due_of_first r w d e =
     due-Has w d (subst (λ z. Has (duties z w) d) (sym (role_of_first r w d e)) (first_has (duties r w) d e))
+
+-- what is found first among all loops is the first one of its own
+found_first : (w : World) (rs : List Role) (d : Duty) → first_duty w rs ≡ Some d → first_of (duties (role_of d) w) ≡ Some d
+found_first w [] d e = absurd cc
+found_first w (r ∷ rs) d e = go (first_of (duties r w)) refl e (found_first w rs d)
+  where
+    go : (o : Option Duty) → first_of (duties r w) ≡ o → elim o [ Some x ↦ Some x | None ↦ first_duty w rs ] ≡ Some d
+        → (first_duty w rs ≡ Some d → first_of (duties (role_of d) w) ≡ Some d) → first_of (duties (role_of d) w) ≡ Some d
+    go (Some x) is e below =
+        let here = is ∙ e in subst (λ z. first_of (duties z w) ≡ Some d) (sym (role_of_first r w d here)) here
+    go None is e below = below e
+
+pub first_known : (w : World) (rs : List Role) (o : Option Duty) → o ≡ first_duty w rs → IsFirst o w
+first_known w rs None e = tt
+first_known w rs (Some d) e = found_first w rs d (sym e)
 
 pub none_first : (ds : List Duty) → None ≡ first_of ds → ds ≡ []
 none_first [] e = refl

@@ -13,6 +13,7 @@ ghost use Rattle.swarm_spans.specs.Lines.{addresses, deletes, expires, goes, not
 ghost use Rattle.swarm_spans.specs.Services.Lines.{comes, creates, downs, job_creates, leaves, trims, updates};
 ghost use Rattle.swarm_spans.specs.Spans.{CoversNodes, CoversServices, CoversTasks};
 ghost use Rattle.swarm_spans.specs.TasksCovered.{SessionLaw};
+ghost use Rattle.swarm_world.specs.Inside.Kept.{IsFirst};
 ghost use Rattle.swarm_world.specs.Inside.Marks.{AreMarked, IsMarked};
 ghost use Rattle.swarm_world.specs.Inside.Parts.{HasHistory, StandsFor};
 ghost use Rattle.swarm_world.specs.Inside.Records.{tables_of};
@@ -276,5 +277,21 @@ impl Marks {
             return agents_first_in(&parts.records, &parts.sent, &parts.agents, &mut self.agents);
         }
         self.first(&parts.records, role)
+    }
+
+    /// The same, where a look may have named the loop's first duty, which then need not be found again.
+    pub fn find_unless(&mut self, known: Option<Duty>, parts: &Parts, role: Role) -> Option<Duty>
+        requires at { HasHistory parts.now }
+        requires marks { IsMarked self.old parts.now }
+        ensures first { (h : Seq Entry) → StandsFor parts.now (replay h) → IsFirst known (replay h) →
+            result ≡ first_of (duties role (replay h)) }
+        ensures marks { IsMarked self.new parts.now }
+    {
+        if let Some(duty) = known {
+            if duty.role() == role {
+                return Some(duty);
+            }
+        }
+        self.find(parts, role)
     }
 }

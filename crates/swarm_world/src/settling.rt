@@ -3,6 +3,7 @@ ghost use Rattle.std.specs.Prelude.{◌≡◌, List as Seq, ℕ};
 ghost use Rattle.swarm_model.specs.History.{replay};
 ghost use Rattle.swarm_model.specs.Settle.{settle_answer};
 ghost use Rattle.swarm_objects.specs.Duties.{first_duty};
+ghost use Rattle.swarm_objects.specs.Kinds.{roles};
 ghost use Rattle.swarm_objects.specs.declared.calls.Call.TheVariants as call;
 ghost use Rattle.swarm_objects.specs.declared.calls.Entry.{Entry};
 ghost use Rattle.swarm_world.specs.Inside.Marks.{IsMarked};
@@ -13,8 +14,8 @@ use crate::parts::Parts;
 use swarm_objects::{Duty, Refusal, Reply, Role, Settle};
 
 impl Marks {
-    // The first duty of the first of these control loops that has one.
-    fn find_among(&mut self, parts: &Parts, roles: &[Role]) -> Option<Duty>
+    /// The first duty of the first of these control loops that has one.
+    pub fn find_among(&mut self, parts: &Parts, roles: &[Role]) -> Option<Duty>
         requires at { HasHistory parts.now }
         requires marks { IsMarked self.old parts.now }
         ensures first { (h : Seq Entry) → StandsFor parts.now (replay h) → result ≡ first_duty (replay h) roles.now }
@@ -38,14 +39,24 @@ impl Marks {
         ensures answer { (h : Seq Entry) → StandsFor parts.now (replay h) → result ≡ settle_answer (replay h) }
         ensures marks { IsMarked self.new parts.now }
     {
-        match self.find_among(parts, &Role::ALL) {
-            Some(duty) => Settle::Busy(duty),
-            None => swarm_settle::settle(&parts.records, &parts.records.sessions, &parts.agents),
-        }
+        let first = self.find_among(parts, &Role::ALL);
+        parts.settled_by(first)
     }
 }
 
 impl Parts {
+    /// What the settle test answers where this is the first duty of all control loops, or there is none.
+    pub fn settled_by(&self, first: Option<Duty>) -> Settle
+        requires at { HasHistory self.now }
+        ensures { (h : Seq Entry) → StandsFor self.now (replay h) → first ≡ first_duty (replay h) roles →
+            result ≡ settle_answer (replay h) }
+    {
+        match first {
+            Some(duty) => Settle::Busy(duty),
+            None => swarm_settle::settle(&self.records, &self.records.sessions, &self.agents),
+        }
+    }
+
     /// A settle line that may take so many duties is answered. Nothing changes.
     pub fn settle(&self, budget: u64) -> Result<Reply, Refusal>
         requires at { HasHistory self.now }

@@ -28,6 +28,8 @@ pub struct World {
     history: Vec<Entry>,
     // where a duty may be: no part of what contracts see
     marks: Marks,
+    // the duty that the last look named, where nothing came since
+    known: Option<Duty>,
 }
 
 impl Model for World {
@@ -57,6 +59,7 @@ impl World {
             parts,
             history,
             marks: Marks::all(),
+            known: None,
         })
     }
 
@@ -76,6 +79,7 @@ impl World {
     {
         self.parts.halt();
         self.marks = Marks::all();
+        self.known = None;
         let entry = Entry {
             by,
             what: What::Call(Call::Halt),
@@ -100,6 +104,7 @@ impl World {
         };
         let version = self.history.len() as u64 + 1;
         self.marks = Marks::all();
+        self.known = None;
         let Ok(reply) = self.parts.enter(version, &call) else {
             return Reply::Refused(Refusal::NoMemory);
         };
@@ -143,13 +148,14 @@ impl World {
         if count >= MOST_ENTRIES {
             return Turn::Full(count);
         }
-        let Some(duty) = self.marks.find(&self.parts, role) else {
+        let Some(duty) = self.marks.find_unless(self.known, &self.parts, role) else {
             return Turn::Idle;
         };
         // an entry and Halt
         let Ok(()) = self.history.reserve(2) else {
             return Turn::NoMemory;
         };
+        self.known = None;
         let Ok(()) = self.parts.take(&mut self.marks, count + 1, role, duty) else {
             return Turn::NoMemory;
         };
@@ -181,7 +187,9 @@ impl World {
         ensures answer { result ≡ settle_answer (replay self.old) }
         ensures lawful { IsLawful self.new }
     {
-        self.marks.settle(&self.parts)
+        let first = self.marks.find_among(&self.parts, &Role::ALL);
+        self.known = first;
+        self.parts.settled_by(first)
     }
 
     /// All entries, in order.

@@ -18,24 +18,24 @@ returns-then-count-ge-MOST_ENTRIES-clause-turns c =
     let f = full H kept.legal running (omega (arith, c.len-count.ensures)) in
     rw (← c.self.view_is) (refl, f, omega (arith, c.len-count.ensures))
 
-pub find-requires-clause-at : goal.find-requires-clause-at
-find-requires-clause-at c = record {
+pub find_unless-requires-clause-at : goal.find_unless-requires-clause-at
+find_unless-requires-clause-at c = record {
   history = c.self.inside.history.items;
   legal = c.self.invariant.legal;
   stands = c.self.invariant.stands;
 }
 
-pub find-requires-clause-marks : goal.find-requires-clause-marks
-find-requires-clause-marks c = c.self.invariant.marks
+pub find_unless-requires-clause-marks : goal.find_unless-requires-clause-marks
+find_unless-requires-clause-marks c = c.self.invariant.marks
 
 pub take-requires-clause-marks : goal.take-requires-clause-marks
-take-requires-clause-marks c = c.find.ensures.marks.rows
+take-requires-clause-marks c = c.find_unless.ensures.marks.rows
 
 pub take-requires-clause-own : goal.take-requires-clause-own
 take-requires-clause-own c =
     let kept = c.self.invariant in
     let H = c.self.inside.history.items in
-    role_of_first c.args.role (replay H) c.in-Some.duty (sym (c.find.ensures.first H kept.stands) ∙ c.in-Some.is)
+    role_of_first c.args.role (replay H) c.in-Some.duty (sym (c.find_unless.ensures.first H kept.stands kept.known) ∙ c.in-Some.is)
 
 pub take-requires-clause-at : goal.take-requires-clause-at
 take-requires-clause-at c =
@@ -47,7 +47,7 @@ take-requires-clause-at c =
       stands = kept.stands;
       due =
           due_of_first c.args.role (replay H) c.in-Some.duty
-          (sym (c.find.ensures.first H kept.stands) ∙ c.in-Some.is);
+          (sym (c.find_unless.ensures.first H kept.stands kept.known) ∙ c.in-Some.is);
     }
 
 pub invariant_of-self-2 : goal.invariant_of-self-2
@@ -57,7 +57,7 @@ invariant_of-self-2 c =
     let d = c.in-Some.duty in
     let running : (replay H).halted ≡ false = sym kept.stands.has.halted ∙ c.if-self.false in
     let first : first_of (duties c.args.role (replay H)) ≡ Some d =
-    sym (c.find.ensures.first H kept.stands) ∙ c.in-Some.is in
+    sym (c.find_unless.ensures.first H kept.stands kept.known) ∙ c.in-Some.is in
     let turned =
     turning H c.args.by c.args.role d kept.legal running
     (omega (arith, c.len-count.ensures, c.if-count-ge-MOST_ENTRIES.false)) first in
@@ -77,8 +77,9 @@ invariant_of-self-2 c =
                 (usable_rows c.take.new.self.records
                 (are_usable c.take.new.self
                 (record { history = H ++ duty_by c.args.by d ∷ []; legal = turned.legal; stands = now })));
-            agents = c.take.ensures.agents H at (due_of_first c.args.role (replay H) d first) c.find.ensures.marks.agents;
+            agents = c.take.ensures.agents H at (due_of_first c.args.role (replay H) d first) c.find_unless.ensures.marks.agents;
           };
+      known = tt;
       spare = λ h. omega (arith, c.in-Ok.ensures.ok, c.in-Ok-push.ensures.len, c.in-Ok-push.ensures.capacity);
     }
 
@@ -101,8 +102,9 @@ invariant_of-self-in_default-take c =
             agents =
                 c.take.ensures.agents H at
                 (due_of_first c.args.role (replay H) c.in-Some.duty
-                (sym (c.find.ensures.first H kept.stands) ∙ c.in-Some.is)) c.find.ensures.marks.agents;
+                (sym (c.find_unless.ensures.first H kept.stands kept.known) ∙ c.in-Some.is)) c.find_unless.ensures.marks.agents;
           };
+      known = tt;
       spare = λ h. omega (arith, c.in-Ok.ensures.ok, c.reserve.ensures.len);
     }
 
@@ -113,7 +115,7 @@ returns-clause-lawful c =
     let d = c.in-Some.duty in
     let running : (replay H).halted ≡ false = sym kept.stands.has.halted ∙ c.if-self.false in
     let first : first_of (duties c.args.role (replay H)) ≡ Some d =
-    sym (c.find.ensures.first H kept.stands) ∙ c.in-Some.is in
+    sym (c.find_unless.ensures.first H kept.stands kept.known) ∙ c.in-Some.is in
     let turned =
     turning H c.args.by c.args.role d kept.legal running
     (omega (arith, c.len-count.ensures, c.if-count-ge-MOST_ENTRIES.false)) first in
