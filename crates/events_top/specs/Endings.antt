@@ -5,7 +5,6 @@ use Rattle.events_top.specs.declared.endings.Ending.TheVariants.{Judged, OutFaul
 use Rattle.swarm_objects.specs.Limits.{most_entries}
 use Rattle.swarm_objects.specs.World.{World}
 use Rattle.swarm_replay.specs.Replay.{verdict_status, verdict_text}
-use Rattle.swarm_replay.specs.declared.verdicts.Verdict.{Verdict}
 use Rattle.swarm_replay.specs.declared.verdicts.Verdict.TheVariants.{Legal, Illegal, BadLine, ReadFault, NoMemory}
 
 -- the status of a replay, or that of a sink that failed

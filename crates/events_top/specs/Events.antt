@@ -1,5 +1,5 @@
 -- What the events of a journal promise: which entries they are of, and what is put for them.
-use Rattle.std.specs.Prelude.{ℕ, ◌≡◌, ◌⊎◌, List, [], true, Option, ⊤}
+use Rattle.std.specs.Prelude.{ℕ, ◌≡◌, ◌⊎◌, List, [], true, ⊤}
 use Rattle.std.specs.List.{list_all}
 use Rattle.events_text.specs.Lines.{event_lines}
 use Rattle.events_top.specs.Endings.{ending_text, why_not}

@@ -1,4 +1,4 @@
-use Rattle.std.proofs.Common.{◌≡◌, ◌<◌, ℕ, List, [], ◌∷◌, ◌++◌, None, Ok, Err, refl, sym, ◌∙◌, ap, subst, arith}
+use Rattle.std.proofs.Common.{◌<◌, ℕ, List, [], ◌∷◌, ◌++◌, None, Ok, Err, refl, sym, ◌∙◌, ap, subst, arith}
 use Rattle.events_top.proofs.Telling.{full_behind, head_behind, line_over, puts_more, same_ending, stop_behind}
 use Rattle.events_top.specs.Inside.Steps.{TellsJournal, TellsLine}
 use Rattle.events_top.specs.declared.endings.Ending.TheVariants.{Judged}
