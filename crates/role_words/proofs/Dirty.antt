@@ -1,11 +1,11 @@
 -- A place is dirty only where a task of its service is; counting such places.
-use Rattle.std.proofs.Common.{◌≡◌, ℕ, Bool, true, false, List, [], ◌∷◌, Option, Some, None, refl, sym, ◌∙◌}
+use Rattle.std.proofs.Common.{◌≡◌, ℕ, Bool, true, false, cond, List, [], ◌∷◌, Option, Some, None, refl, sym, ◌∙◌}
 use Rattle.std.specs.List.{list_any}
-use Rattle.std.specs.Prelude.{◌&&◌, ◌||◌, filter, not}
+use Rattle.std.specs.Prelude.{◌&&◌, ◌||◌, filter, is_some, not}
 use Rattle.swarm_objects.proofs.RowLemmas.{Has-filter, Has-filter_cases}
 use Rattle.swarm_objects.proofs.Newest.{newest_has}
 use Rattle.swarm_objects.proofs.Tests.{any-has, has-any, second_so}
-use Rattle.swarm_objects.specs.Rows.{Has, is_some_and}
+use Rattle.swarm_objects.specs.Rows.{first_of, Has, is_some_and}
 use Rattle.swarm_objects.specs.Same.{same_place}
 use Rattle.swarm_objects.specs.Services.Words.{is_dirty, is_live_dirty}
 use Rattle.swarm_objects.specs.Tasks.Places.{closes, closes_dirty, counts_for, has_dirty_place, has_live, is_dirty_place, is_in_place, newest, place_at, place_numbers, place_tasks}
@@ -59,5 +59,15 @@ pub none_dirty : (t : Tables) (s : Service) → list_any (is_dirty s) (filter (i
     → has_dirty_place t s ≡ false
 none_dirty t s none =
     none_passes (is_dirty_place t s) (place_numbers t s) (λ k e. sym none ∙ dirty_place t s k e)
+
+-- one that passes is a first one
+pub any_first : (p : ℕ → Bool) (ks : List ℕ) → is_some (first_of (filter p ks)) ≡ list_any p ks
+any_first p [] = refl
+any_first p (k ∷ ks) = go (p k) (any_first p ks)
+  where
+    go : (b : Bool) → is_some (first_of (filter p ks)) ≡ list_any p ks
+        → is_some (first_of (cond b (k ∷ filter p ks) (filter p ks))) ≡ (b || list_any p ks)
+    go true e = refl
+    go false e = e
 
 pub ruleset count_steps = (few_numbers, length_yes, length_no)

@@ -5,3 +5,4 @@ pub mod Passing
 pub mod SlotLemmas
 pub mod Stepping
 pub mod Tallying
+pub mod Updating

@@ -26,11 +26,11 @@ same_number k j e = grind (arith, nat_tests)
 pub number_equal : (k j : ℕ) → k ≡ j → eqb k j ≡ true
 number_equal k j e = grind (arith, nat_tests)
 
-and_left : (a b : Bool) → (a && b) ≡ true → a ≡ true
+pub and_left : (a b : Bool) → (a && b) ≡ true → a ≡ true
 and_left true b e = refl
 and_left false b e = e
 
-and_right : (a b : Bool) → (a && b) ≡ true → b ≡ true
+pub and_right : (a b : Bool) → (a && b) ≡ true → b ≡ true
 and_right true b e = e
 and_right false b e = absurd cc
 
@@ -42,7 +42,7 @@ or_true : (a b : Bool) → b ≡ true → (a || b) ≡ true
 or_true true b e = refl
 or_true false b e = e
 
-or_false : (b : Bool) → (b || false) ≡ b
+pub or_false : (b : Bool) → (b || false) ≡ b
 or_false true = refl
 or_false false = refl
 
@@ -126,13 +126,13 @@ numbers-rising s tasks = folded_rising [] (filter (counts_for s) tasks) tt
 
 -- The places.
 
-one_place : (a b : Place) → same_place a b ≡ true → place_number a ≡ place_number b
+pub one_place : (a b : Place) → same_place a b ≡ true → place_number a ≡ place_number b
 one_place (Slot k) (Slot j) e = same_number k j e
 one_place (Slot k) (On j) e = absurd cc
 one_place (On k) (Slot j) e = absurd cc
 one_place (On k) (On j) e = same_number k j e
 
-number_at : (m : Mode) (k : ℕ) → place_number (place_at m k) ≡ k
+pub number_at : (m : Mode) (k : ℕ) → place_number (place_at m k) ≡ k
 number_at (mode.Replicated n) k = refl
 number_at mode.Global k = refl
 number_at (mode.Job c n) k = refl
@@ -165,7 +165,7 @@ closed_more tasks x b = ap (is_some_and closes) (last_more None tasks x b) ∙ g
     go true = refl
     go false = refl
 
-tasks_more : (s : Service) (tasks : List Task) (x : Task) (k : ℕ) → tasks_at s (tasks ++ x ∷ []) k
+pub tasks_more : (s : Service) (tasks : List Task) (x : Task) (k : ℕ) → tasks_at s (tasks ++ x ∷ []) k
     ≡ tasks_at s tasks k ++ cond (is_in_place s (place_at s.spec.mode k) x) (x ∷ []) []
 tasks_more s tasks x k = filter-append (is_in_place s (place_at s.spec.mode k)) tasks (x ∷ [])
 

@@ -2,45 +2,68 @@
 ghost use Rattle.std.specs.Prelude.{◌≡◌, ◌&&◌, filter, length};
 ghost use Rattle.std.specs.List.{list_any};
 ghost use Rattle.swarm_objects.specs.Loops.Update.{is_to_replace, is_to_swap};
-ghost use Rattle.swarm_objects.specs.Rows.{is_some_and};
-ghost use Rattle.swarm_objects.specs.Services.Words.{is_dirty, is_live_clean, is_live_dirty};
-ghost use Rattle.swarm_objects.specs.Tasks.Places.{closes_dirty, dirty_places, has_clean, has_dirty_place, is_dirty_place, newest, place_numbers, place_tasks};
+ghost use Rattle.swarm_objects.specs.Rows.{first_of};
+ghost use Rattle.swarm_objects.specs.Services.Words.{is_dirty, is_live_clean};
+ghost use Rattle.swarm_objects.specs.Tasks.Places.{dirty_places, has_dirty_place, is_dirty_place, place_numbers};
 ghost use Rattle.swarm_objects.specs.Tasks.Words.{is_of, is_running};
 ghost use Rattle.swarm_objects.specs.Usable.{IsUsable};
+ghost use Rattle.role_words.specs.UpdateMarks.{ShowsUpdates};
 
-use crate::places::{has_live, newest, place_tasks};
+use crate::update_window::{UpdateWindow, mark_of, window_from};
 use crate::windows::place_numbers;
 use swarm_objects::walks::tasks_of;
 use swarm_objects::{Rows, Service, Task};
 
-// A dirty live task stands in the place.
-fn has_live_dirty<R: Rows>(rows: &R, service: &Service, number: u64) -> bool
-    requires { IsUsable (R.tables rows.now) }
-    ensures { let t = R.tables rows.now in
-        result ≡ list_any (is_live_dirty service.now) (place_tasks t service.now number) }
+/// The task is clean and live, and runs.
+pub fn is_running_clean(service: &Service, task: &Task) -> bool
+    ensures { result ≡ (is_live_clean service.now task.now && is_running task.now) }
 {
-    place_tasks(rows, service, number).any(|task| task.is_live_dirty(service))
-}
-
-// The newest task of the place closes it, and is dirty.
-fn is_closed_dirty<R: Rows>(rows: &R, service: &Service, number: u64) -> bool
-    requires { IsUsable (R.tables rows.now) }
-    ensures { let t = R.tables rows.now in
-        result ≡ is_some_and (closes_dirty service.now) (newest (place_tasks t service.now number)) }
-{
-    match newest(rows, service, service.spec.mode.place_at(number)) {
-        Some(task) => task.closes_dirty(service),
-        None => false,
-    }
+    task.is_live_clean(service) && task.is_running()
 }
 
 // The place is dirty: it has a dirty live task, or no live one and its newest task closes it and is dirty.
-fn is_dirty_place<R: Rows>(rows: &R, service: &Service, number: u64) -> bool
-    requires { IsUsable (R.tables rows.now) }
-    ensures { result ≡ is_dirty_place (R.tables rows.now) service.now number }
+fn is_dirty_place<R: Rows>(
+    window: &mut UpdateWindow,
+    rows: &R,
+    service: &Service,
+    number: u64,
+) -> bool
+    requires usable { IsUsable (R.tables rows.now) }
+    requires shows { let t = R.tables rows.now in ShowsUpdates window.old t service.now t.tasks }
+    ensures shows { let t = R.tables rows.now in ShowsUpdates window.new t service.now t.tasks }
+    ensures is { result ≡ is_dirty_place (R.tables rows.now) service.now number }
 {
-    has_live_dirty(rows, service, number)
-        || (!has_live(rows, service, number) && is_closed_dirty(rows, service, number))
+    mark_of(window, rows, service, number).is_dirty()
+}
+
+// A clean live task of the place runs, and a dirty one is live.
+fn is_to_swap<R: Rows>(
+    window: &mut UpdateWindow,
+    rows: &R,
+    service: &Service,
+    number: u64,
+) -> bool
+    requires usable { IsUsable (R.tables rows.now) }
+    requires shows { let t = R.tables rows.now in ShowsUpdates window.old t service.now t.tasks }
+    ensures shows { let t = R.tables rows.now in ShowsUpdates window.new t service.now t.tasks }
+    ensures is { result ≡ is_to_swap (R.tables rows.now) service.now number }
+{
+    mark_of(window, rows, service, number).is_to_swap()
+}
+
+// The place is dirty, without a clean live task.
+fn is_to_replace<R: Rows>(
+    window: &mut UpdateWindow,
+    rows: &R,
+    service: &Service,
+    number: u64,
+) -> bool
+    requires usable { IsUsable (R.tables rows.now) }
+    requires shows { let t = R.tables rows.now in ShowsUpdates window.old t service.now t.tasks }
+    ensures shows { let t = R.tables rows.now in ShowsUpdates window.new t service.now t.tasks }
+    ensures is { result ≡ is_to_replace (R.tables rows.now) service.now number }
+{
+    mark_of(window, rows, service, number).is_to_replace()
 }
 
 // A task of the service is dirty.
@@ -61,8 +84,9 @@ pub fn has_dirty_place<R: Rows>(rows: &R, service: &Service) -> bool
     if !has_dirty_task(rows, service) {
         return false;
     }
+    let mut window = window_from(rows, service, 0);
     for number in place_numbers(rows, service) {
-        if is_dirty_place(rows, service, number) {
+        if is_dirty_place(&mut window, rows, service, number) {
             return true;
         }
     }
@@ -75,64 +99,51 @@ pub fn dirty_count<R: Rows>(rows: &R, service: &Service) -> u64
     requires { IsUsable (R.tables rows.now) }
     ensures { result ≡ length (dirty_places (R.tables rows.now) service.now) }
 {
+    let mut window = window_from(rows, service, 0);
     let mut count = 0;
     for number in place_numbers(rows, service) {
-        if is_dirty_place(rows, service, number) {
+        if is_dirty_place(&mut window, rows, service, number) {
             count += 1;
         }
     }
     count
 }
 
-// A clean live task stands in the place.
-fn has_clean<R: Rows>(rows: &R, service: &Service, number: u64) -> bool
-    requires { IsUsable (R.tables rows.now) }
-    ensures { result ≡ has_clean (R.tables rows.now) service.now number }
-{
-    place_tasks(rows, service, number).any(|task| task.is_live_clean(service))
-}
-
-/// The task is clean and live, and runs.
-pub fn is_running_clean(service: &Service, task: &Task) -> bool
-    ensures { result ≡ (is_live_clean service.now task.now && is_running task.now) }
-{
-    task.is_live_clean(service) && task.is_running()
-}
-
-// Such a task stands in the place.
-fn has_running_clean<R: Rows>(rows: &R, service: &Service, number: u64) -> bool
+/// The least place of the service of which a clean live task runs and a dirty one is live.
+pub fn first_to_swap<R: Rows>(rows: &R, service: &Service) -> Option<u64>
     requires { IsUsable (R.tables rows.now) }
     ensures { let t = R.tables rows.now in
-        result ≡ list_any (λ x. is_live_clean service.now x && is_running x) (place_tasks t service.now number) }
+        result ≡ first_of (filter (is_to_swap t service.now) (place_numbers t service.now)) }
 {
-    place_tasks(rows, service, number).any(|task| is_running_clean(service, task))
+    let mut window = window_from(rows, service, 0);
+    for number in place_numbers(rows, service) {
+        if is_to_swap(&mut window, rows, service, number) {
+            return Some(number);
+        }
+    }
+    None
 }
 
-/// A clean live task of the place runs, and a dirty one is live.
-pub fn is_to_swap<R: Rows>(rows: &R, service: &Service, number: u64) -> bool
+/// The least place of the service that is dirty, without a clean live task.
+pub fn first_to_replace<R: Rows>(rows: &R, service: &Service) -> Option<u64>
     requires { IsUsable (R.tables rows.now) }
-    ensures { result ≡ is_to_swap (R.tables rows.now) service.now number }
+    ensures { let t = R.tables rows.now in
+        result ≡ first_of (filter (is_to_replace t service.now) (place_numbers t service.now)) }
 {
-    has_running_clean(rows, service, number) && has_live_dirty(rows, service, number)
-}
-
-/// The place is dirty, without a clean live task.
-pub fn is_to_replace<R: Rows>(rows: &R, service: &Service, number: u64) -> bool
-    requires { IsUsable (R.tables rows.now) }
-    ensures { result ≡ is_to_replace (R.tables rows.now) service.now number }
-{
-    is_dirty_place(rows, service, number) && !has_clean(rows, service, number)
+    let mut window = window_from(rows, service, 0);
+    for number in place_numbers(rows, service) {
+        if is_to_replace(&mut window, rows, service, number) {
+            return Some(number);
+        }
+    }
+    None
 }
 
 /// A place of the service is to be replaced.
+#[tactic(auto, using(crate::proofs::Dirty::any_first))]
 pub fn has_waiting_place<R: Rows>(rows: &R, service: &Service) -> bool
     requires { IsUsable (R.tables rows.now) }
     ensures { let t = R.tables rows.now in result ≡ list_any (is_to_replace t service.now) (place_numbers t service.now) }
 {
-    for number in place_numbers(rows, service) {
-        if is_to_replace(rows, service, number) {
-            return true;
-        }
-    }
-    false
+    first_to_replace(rows, service).is_some()
 }

@@ -9,7 +9,7 @@ ghost use Rattle.role_words.specs.Windows.{Steps, slot_at};
 use swarm_objects::{Service, Task};
 
 // How many numbers a window has.
-const WIDTH: usize = 1024;
+pub const WIDTH: usize = 1024;
 
 // What the tasks that were noted say of a place: it has one, a live one, and its newest one closes it.
 #[derive(Clone, Copy, Drop)]
