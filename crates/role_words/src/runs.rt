@@ -1,11 +1,15 @@
 // Update runs: their template, their places in flight, and how long new tasks were watched.
 ghost use Rattle.std.specs.Prelude.{◌≡◌};
+ghost use Rattle.std.specs.List.{list_any};
 ghost use Rattle.swarm_objects.specs.Loops.Update.{is_watched};
 ghost use Rattle.swarm_objects.specs.Services.Runs.{has_room, in_flight, is_flying, is_in_flight, is_of_version};
+ghost use Rattle.swarm_objects.specs.Tasks.Places.{place_tasks, tasks_of_place};
 ghost use Rattle.swarm_objects.specs.Usable.{IsUsable};
+ghost use Rattle.role_words.specs.UpdateMarks.{ShowsUpdates};
 
 use crate::places::tasks_of_place;
-use swarm_objects::{Replaced, Rows, Service, Task, UpdateRun};
+use crate::update_window::{UpdateWindow, mark_of, window_from};
+use swarm_objects::{Place, Replaced, Rows, Service, Task, UpdateRun};
 
 /// It is a run to the service's present template.
 pub fn is_of_version(service: &Service, run: &UpdateRun) -> bool
@@ -23,12 +27,49 @@ pub fn is_flying<R: Rows>(rows: &R, service: &Service, task: &Task) -> bool
         && (task.is_below_running() || (task.is_running() && u128::from(rows.now()) < flies_till))
 }
 
-// Such a task stands in the place that the run has replaced.
-fn is_in_flight<R: Rows>(rows: &R, service: &Service, item: &Replaced) -> bool
+// Such a task stands in this place of the service.
+fn is_flying_place<R: Rows>(rows: &R, service: &Service, place: Place) -> bool
     requires { IsUsable (R.tables rows.now) }
-    ensures { result ≡ is_in_flight (R.tables rows.now) service.now item.now }
+    ensures { let t = R.tables rows.now in
+        result ≡ list_any (is_flying t service.now) (tasks_of_place service.now place t.tasks) }
 {
-    tasks_of_place(rows, service, item.place).any(|task| is_flying(rows, service, task))
+    tasks_of_place(rows, service, place).any(|task| is_flying(rows, service, task))
+}
+
+// The same of the place with this number, by the window.
+fn has_flying<R: Rows>(
+    window: &mut UpdateWindow,
+    rows: &R,
+    service: &Service,
+    number: u64,
+) -> bool
+    requires usable { IsUsable (R.tables rows.now) }
+    requires shows { let t = R.tables rows.now in ShowsUpdates window.old t service.now t.tasks }
+    ensures shows { let t = R.tables rows.now in ShowsUpdates window.new t service.now t.tasks }
+    ensures is { let t = R.tables rows.now in
+        result ≡ list_any (is_flying t service.now) (place_tasks t service.now number) }
+{
+    mark_of(window, rows, service, number).has_flying
+}
+
+// Such a task stands in the place that the run has replaced. Only a place of the service's kind is in the window.
+fn is_in_flight<R: Rows>(
+    window: &mut UpdateWindow,
+    rows: &R,
+    service: &Service,
+    item: &Replaced,
+) -> bool
+    requires usable { IsUsable (R.tables rows.now) }
+    requires shows { let t = R.tables rows.now in ShowsUpdates window.old t service.now t.tasks }
+    ensures shows { let t = R.tables rows.now in ShowsUpdates window.new t service.now t.tasks }
+    ensures is { result ≡ is_in_flight (R.tables rows.now) service.now item.now }
+{
+    let number = item.place.place_number();
+    if service.spec.mode.place_at(number) == item.place {
+        has_flying(window, rows, service, number)
+    } else {
+        is_flying_place(rows, service, item.place)
+    }
 }
 
 // How many of the replaced places are in flight.
@@ -36,11 +77,14 @@ fn in_flight<R: Rows>(rows: &R, service: &Service, run: &UpdateRun) -> usize
     requires { IsUsable (R.tables rows.now) }
     ensures { result ≡ in_flight (R.tables rows.now) service.now run.now }
 {
-    run.replaced
-        .as_slice()
-        .iter()
-        .filter(|item| is_in_flight(rows, service, item))
-        .count()
+    let mut window = window_from(rows, service, 0);
+    let mut count = 0;
+    for item in run.replaced.as_slice() {
+        if is_in_flight(&mut window, rows, service, item) {
+            count += 1;
+        }
+    }
+    count
 }
 
 /// The parallelism lets one more place be in flight. A parallelism of 0 is none: any number may be.
