@@ -127,7 +127,7 @@ falls w t s x tasks i is lt here h = record {
     here_or j below true e =
         let same : i ≡ j = grind (arith, nat_tests) in
         subst (λ n. get_or (set w.marks i new) n UNMARKED
-            ≡ update_mark_of t s (tasks_at s (tasks ++ x ∷ []) (w.first + n))) same
+        ≡ update_mark_of t s (tasks_at s (tasks ++ x ∷ []) (w.first + n))) same
         (get_or-set_same w.marks i new UNMARKED (omega (arith, lt, h.wide))
         ∙ ap (update_mark_with t s x) (h.marks i lt)
         ∙ sym (mark_more t s (tasks_at s tasks (w.first + i)) x)

@@ -1,5 +1,5 @@
 -- What tasks say of a place to an update, and what a window shows of such places.
-use Rattle.std.specs.Prelude.{Bool, ◌≡◌, ◌-◌, ◌+◌, ◌<◌, ◌&&◌, ◌||◌, not, List, filter, fold, if◌then◌else◌, get_or, set, length, nat_le, nat_lt, replicate, ℕ}
+use Rattle.std.specs.Prelude.{Bool, ◌≡◌, ◌-◌, ◌+◌, ◌<◌, ◌&&◌, ◌||◌, List, filter, fold, if◌then◌else◌, get_or, set, length, nat_le, nat_lt, replicate, ℕ}
 use Rattle.std.specs.List.{list_any}
 use Rattle.swarm_objects.specs.Rows.{is_some_and}
 use Rattle.swarm_objects.specs.Services.Runs.{is_flying}

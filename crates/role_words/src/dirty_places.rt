@@ -37,12 +37,7 @@ fn is_dirty_place<R: Rows>(
 }
 
 // A clean live task of the place runs, and a dirty one is live.
-fn is_to_swap<R: Rows>(
-    window: &mut UpdateWindow,
-    rows: &R,
-    service: &Service,
-    number: u64,
-) -> bool
+fn is_to_swap<R: Rows>(window: &mut UpdateWindow, rows: &R, service: &Service, number: u64) -> bool
     requires usable { IsUsable (R.tables rows.now) }
     requires shows { let t = R.tables rows.now in ShowsUpdates window.old t service.now t.tasks }
     ensures shows { let t = R.tables rows.now in ShowsUpdates window.new t service.now t.tasks }

@@ -13,7 +13,8 @@ mod window;
 mod windows;
 
 pub use dirty_places::{
-    dirty_count, first_to_replace, first_to_swap, has_dirty_place, has_waiting_place, is_running_clean,
+    dirty_count, first_to_replace, first_to_swap, has_dirty_place, has_waiting_place,
+    is_running_clean,
 };
 pub use place_effects::{create_task, remove_place};
 pub use places::{PlaceTasks, has_live, is_held_place, newest, place_tasks, tasks_of_place};

@@ -37,12 +37,7 @@ fn is_flying_place<R: Rows>(rows: &R, service: &Service, place: Place) -> bool
 }
 
 // The same of the place with this number, by the window.
-fn has_flying<R: Rows>(
-    window: &mut UpdateWindow,
-    rows: &R,
-    service: &Service,
-    number: u64,
-) -> bool
+fn has_flying<R: Rows>(window: &mut UpdateWindow, rows: &R, service: &Service, number: u64) -> bool
     requires usable { IsUsable (R.tables rows.now) }
     requires shows { let t = R.tables rows.now in ShowsUpdates window.old t service.now t.tasks }
     ensures shows { let t = R.tables rows.now in ShowsUpdates window.new t service.now t.tasks }

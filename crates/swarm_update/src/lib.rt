@@ -20,13 +20,14 @@ use crate::runs::{fails, is_to_finish, is_to_start, lets_replace};
 pub use changing::changes;
 pub use failing::{kept_numbers, may_roll_back, paused_status};
 pub use replacing::desired_by_order;
-use role_words::{is_of_version, is_to_replace, is_to_swap, is_under_way, place_numbers};
+use role_words::{first_to_replace, first_to_swap, is_of_version, is_under_way};
 pub use runs::{goes_on, has_present_run, is_failure, is_present};
 pub use starting::{finished_status, start_status};
 use swarm_objects::walks::services;
 use swarm_objects::{Duty, Rows, Service, UpdateRun};
 
 // The first place whose old tasks are to stop.
+#[tactic(auto, using(crate::proofs::Steps::first_places))]
 fn first_swap<R: Rows>(rows: &R, service: &Service, run: &UpdateRun) -> Option<Duty>
     requires { IsUsable (R.tables rows.now) }
     ensures { let t = R.tables rows.now in let s = service.now in result ≡ first_of
@@ -35,12 +36,8 @@ fn first_swap<R: Rows>(rows: &R, service: &Service, run: &UpdateRun) -> Option<D
     if !is_of_version(service, run) {
         return None;
     }
-    for number in place_numbers(rows, service) {
-        if is_to_swap(rows, service, number) {
-            return Some(Duty::Swap(service.id, number));
-        }
-    }
-    None
+    let number = first_to_swap(rows, service)?;
+    Some(Duty::Swap(service.id, number))
 }
 
 // The run is to the present template, and one more place may be replaced.
@@ -52,6 +49,7 @@ fn replaces<R: Rows>(rows: &R, service: &Service, run: &UpdateRun) -> bool
 }
 
 // The first place that is to get a new task.
+#[tactic(auto, using(crate::proofs::Steps::first_places))]
 fn first_replace<R: Rows>(rows: &R, service: &Service, run: &UpdateRun) -> Option<Duty>
     requires { IsUsable (R.tables rows.now) }
     ensures { let t = R.tables rows.now in let s = service.now in
@@ -61,12 +59,8 @@ fn first_replace<R: Rows>(rows: &R, service: &Service, run: &UpdateRun) -> Optio
     if !replaces(rows, service, run) {
         return None;
     }
-    for number in place_numbers(rows, service) {
-        if is_to_replace(rows, service, number) {
-            return Some(Duty::Replace(service.id, number));
-        }
-    }
-    None
+    let number = first_to_replace(rows, service)?;
+    Some(Duty::Replace(service.id, number))
 }
 
 // What there is to do about the run of a service.
