@@ -9,7 +9,7 @@ ghost use Rattle.swarm_objects.specs.Tasks.Words.{is_of, is_running};
 ghost use Rattle.swarm_objects.specs.Usable.{IsUsable};
 ghost use Rattle.role_words.specs.UpdateMarks.{ShowsUpdates};
 
-use crate::update_window::{UpdateWindow, mark_of, window_from};
+use crate::update_window::{UpdateWindow, mark_of, update_places};
 use crate::windows::place_numbers;
 use swarm_objects::walks::tasks_of;
 use swarm_objects::{Rows, Service, Task};
@@ -79,7 +79,7 @@ pub fn has_dirty_place<R: Rows>(rows: &R, service: &Service) -> bool
     if !has_dirty_task(rows, service) {
         return false;
     }
-    let mut window = window_from(rows, service, 0);
+    let mut window = update_places(rows, service);
     for number in place_numbers(rows, service) {
         if is_dirty_place(&mut window, rows, service, number) {
             return true;
@@ -94,7 +94,7 @@ pub fn dirty_count<R: Rows>(rows: &R, service: &Service) -> u64
     requires { IsUsable (R.tables rows.now) }
     ensures { result ≡ length (dirty_places (R.tables rows.now) service.now) }
 {
-    let mut window = window_from(rows, service, 0);
+    let mut window = update_places(rows, service);
     let mut count = 0;
     for number in place_numbers(rows, service) {
         if is_dirty_place(&mut window, rows, service, number) {
@@ -110,7 +110,7 @@ pub fn first_to_swap<R: Rows>(rows: &R, service: &Service) -> Option<u64>
     ensures { let t = R.tables rows.now in
         result ≡ first_of (filter (is_to_swap t service.now) (place_numbers t service.now)) }
 {
-    let mut window = window_from(rows, service, 0);
+    let mut window = update_places(rows, service);
     for number in place_numbers(rows, service) {
         if is_to_swap(&mut window, rows, service, number) {
             return Some(number);
@@ -125,7 +125,7 @@ pub fn first_to_replace<R: Rows>(rows: &R, service: &Service) -> Option<u64>
     ensures { let t = R.tables rows.now in
         result ≡ first_of (filter (is_to_replace t service.now) (place_numbers t service.now)) }
 {
-    let mut window = window_from(rows, service, 0);
+    let mut window = update_places(rows, service);
     for number in place_numbers(rows, service) {
         if is_to_replace(&mut window, rows, service, number) {
             return Some(number);

@@ -19,9 +19,10 @@ pub use dirty_places::{
 pub use place_effects::{create_task, remove_place};
 pub use places::{PlaceTasks, has_live, is_held_place, newest, place_tasks, tasks_of_place};
 pub use reading::{ServiceSlots, slots_among};
-pub use runs::{has_room, is_flying, is_of_version, is_watched};
+pub use runs::{has_room, is_flying, is_in_flight, is_of_version, is_watched};
 pub use service_words::{has_open_run, is_under_way};
 pub use tallies::{Tally, tally_of};
+pub use update_window::{UpdateWindow, update_places};
 pub use window::{Slot, Window};
 pub use windows::{
     HeldPlaces, PlaceNumbers, SlotRows, first_gap, held_count, held_places, live_count,

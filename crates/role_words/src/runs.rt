@@ -8,7 +8,7 @@ ghost use Rattle.swarm_objects.specs.Usable.{IsUsable};
 ghost use Rattle.role_words.specs.UpdateMarks.{ShowsUpdates};
 
 use crate::places::tasks_of_place;
-use crate::update_window::{UpdateWindow, mark_of, window_from};
+use crate::update_window::{UpdateWindow, mark_of, update_places};
 use swarm_objects::{Place, Replaced, Rows, Service, Task, UpdateRun};
 
 /// It is a run to the service's present template.
@@ -47,8 +47,8 @@ fn has_flying<R: Rows>(window: &mut UpdateWindow, rows: &R, service: &Service, n
     mark_of(window, rows, service, number).has_flying
 }
 
-// Such a task stands in the place that the run has replaced. Only a place of the service's kind is in the window.
-fn is_in_flight<R: Rows>(
+/// Such a task stands in the place that the run has replaced. Only a place of the service's kind is in the window.
+pub fn is_in_flight<R: Rows>(
     window: &mut UpdateWindow,
     rows: &R,
     service: &Service,
@@ -72,7 +72,7 @@ fn in_flight<R: Rows>(rows: &R, service: &Service, run: &UpdateRun) -> usize
     requires { IsUsable (R.tables rows.now) }
     ensures { result ≡ in_flight (R.tables rows.now) service.now run.now }
 {
-    let mut window = window_from(rows, service, 0);
+    let mut window = update_places(rows, service);
     let mut count = 0;
     for item in run.replaced.as_slice() {
         if is_in_flight(&mut window, rows, service, item) {

@@ -70,7 +70,7 @@ impl UpdateMark {
     }
 }
 
-/// The places from a first number on.
+/// The places from a first number on, as an update sees them.
 #[derive(Drop)]
 pub struct UpdateWindow {
     first: u64,
@@ -135,12 +135,12 @@ fn window_of<R: Rows>(rows: &R, service: &Service, first: u64) -> UpdateWindow
     window
 }
 
-/// The service's places from this number on.
-pub fn window_from<R: Rows>(rows: &R, service: &Service, first: u64) -> UpdateWindow
+/// The service's places, from the least number on.
+pub fn update_places<R: Rows>(rows: &R, service: &Service) -> UpdateWindow
     requires { IsUsable (R.tables rows.now) }
     ensures { let t = R.tables rows.now in ShowsUpdates result t service.now t.tasks }
 {
-    window_of(rows, service, first)
+    window_of(rows, service, 0)
 }
 
 // Goes on to the window from this number on, unless its place is in this one. Apart, so that only this makes a window
