@@ -16,12 +16,13 @@ ghost use Rattle.swarm_objects.specs.Rows.{keep_least, least_by};
 ghost use Rattle.swarm_objects.specs.Services.Runs.{is_flying};
 ghost use Rattle.swarm_objects.specs.Tasks.Words.{is_running};
 ghost use Rattle.swarm_objects.specs.Usable.{IsUsable};
+ghost use Rattle.role_words.specs.UpdateMarks.{ShowsUpdates};
 ghost use Rattle.swarm_settle.specs.Flights.{item_times, task_times};
 
 use crate::wait::{Wait, wait_till};
 use role_words::{
-    has_dirty_place, has_room, has_waiting_place, is_flying, is_under_way, is_watched,
-    tasks_of_place,
+    UpdateWindow, has_dirty_place, has_room, has_waiting_place, is_flying, is_in_flight,
+    is_under_way, is_watched, tasks_of_place, update_places,
 };
 use swarm_objects::walks::services;
 use swarm_objects::{Cause, Ms, Replaced, Rows, Service, Task, UpdateRun};
@@ -80,15 +81,37 @@ fn item_time<R: Rows>(rows: &R, service: &Service, item: &Replaced, least: Optio
     time
 }
 
+// The same, where the window tells that such a task is there: the tasks aren't gone over for each other place.
+#[tactic(auto, using(crate::proofs::FlightTimes::none_flying))]
+fn flying_time<R: Rows>(
+    window: &mut UpdateWindow,
+    rows: &R,
+    service: &Service,
+    item: &Replaced,
+    least: Option<Ms>,
+) -> Option<Ms>
+    requires usable { IsUsable (R.tables rows.now) }
+    requires service { is_near_service service.now ≡ true }
+    requires shows { let t = R.tables rows.now in ShowsUpdates window.old t service.now t.tasks }
+    ensures shows { let t = R.tables rows.now in ShowsUpdates window.new t service.now t.tasks }
+    ensures least { result ≡ least_by nat_cmp least (item_times (R.tables rows.now) service.now item.now) }
+{
+    if !is_in_flight(window, rows, service, item) {
+        return least;
+    }
+    item_time(rows, service, item, least)
+}
+
 // The same of all places that the run replaced.
 fn flight_time<R: Rows>(rows: &R, service: &Service, run: &UpdateRun) -> Option<Ms>
     requires usable { IsUsable (R.tables rows.now) }
     requires service { is_near_service service.now ≡ true }
     ensures { result ≡ least_time (flight_times (R.tables rows.now) service.now run.now) }
 {
+    let mut window = update_places(rows, service);
     let mut least = None;
     for item in run.replaced.as_slice() {
-        least = item_time(rows, service, item, least);
+        least = flying_time(&mut window, rows, service, item, least);
     }
     least
 }

@@ -15,9 +15,12 @@ loop-item-preserved g c =
     let rows = c.as_slice-item-items.result.now in
     let i = c.loop-item.item-index in
     let other : Replaced = record { place = Slot 0; task = 0; created = 0 } in
-    least_next nat_cmp times rows i (get_or rows i other) c.loop-item.least c.item_time-least.result
-    (least_by nat_cmp None (flat_map times c.args.run.now.replaced)) (omega arith) (row_is rows i other (omega arith))
-    c.item_time-least.ensures c.loop-item.invariant
+    record {
+      shows = c.flying_time-least.ensures.shows;
+      least = least_next nat_cmp times rows i (get_or rows i other) c.loop-item.least c.flying_time-least.result
+          (least_by nat_cmp None (flat_map times c.args.run.now.replaced)) (omega arith)
+          (row_is rows i other (omega arith)) c.flying_time-least.ensures.least c.loop-item.invariant.least;
+    }
 
 pub returns : goal.returns
 returns g c =
@@ -25,5 +28,5 @@ returns g c =
     let s = c.args.service.now in
     let times = item_times t s in
     least_end nat_cmp times c.as_slice-item-items.result.now c.loop-item.item-index c.loop-item.least
-    (least_by nat_cmp None (flat_map times c.args.run.now.replaced)) (omega arith) c.loop-item.invariant
+    (least_by nat_cmp None (flat_map times c.args.run.now.replaced)) (omega arith) c.loop-item.invariant.least
     ∙ flight_made t s c.args.run.now
