@@ -1,5 +1,5 @@
 -- Windows over the tasks of a service.
-use Rattle.std.proofs.Common.{◌≡◌, ℕ, ◌+◌, Option, Some, None, List, [], ◌∷◌, ◌++◌, refl, sym, ap, subst, ◌∙◌}
+use Rattle.std.proofs.Common.{◌≡◌, ℕ, ◌+◌, Option, List, [], ◌∷◌, ◌++◌, sym, ap, subst, ◌∙◌}
 use Rattle.std.proofs.lemmas.List.{append_assoc, append-nil}
 use Rattle.std.specs.List.{list_any}
 use Rattle.std.specs.Prelude.{◌==◌, filter, fold}
@@ -10,7 +10,6 @@ use Rattle.swarm_objects.specs.World.{Tables}
 use Rattle.swarm_objects.specs.declared.services.Service.{Service}
 use Rattle.swarm_objects.specs.declared.tasks.Task.{Task}
 use Rattle.swarm_objects.proofs.PlaceLemmas.{counted_of_service, in_place_of_service}
-use Rattle.swarm_objects.specs.Usable.{IsUsable}
 use Rattle.role_words.specs.Shown.{AreShown}
 use Rattle.role_words.proofs.Numbers.{same_mark}
 use Rattle.role_words.specs.Marks.{has_number, mark_of, tasks_at}

@@ -1,5 +1,5 @@
 -- A window for updates shows what the tasks of a service say of its places.
-use Rattle.std.proofs.Common.{◌≡◌, ◌≢◌, ℕ, ◌+◌, ◌-◌, ◌<◌, ◌≤◌, Bool, true, false, cond, eqb, ltb, leb, List, [], ◌∷◌, ◌++◌, Option, None, Some, refl, sym, ap, subst, ◌∙◌, arith, length, get_or, set}
+use Rattle.std.proofs.Common.{◌≡◌, ◌≢◌, ℕ, ◌+◌, ◌-◌, ◌<◌, ◌≤◌, Bool, true, false, cond, eqb, ltb, leb, List, [], ◌∷◌, ◌++◌, Option, None, Some, refl, sym, ap, subst, ◌∙◌, arith, get_or, set}
 use Rattle.std.proofs.lemmas.Bool.Decides.{nat_tests}
 use Rattle.std.proofs.lemmas.List.{append_assoc, append-nil, get_or-set_same, get_or-set_other, get_or-replicate, length-set, length-replicate}
 use Rattle.std.proofs.lemmas.List.Folds.{list_any-append}
@@ -9,7 +9,7 @@ use Rattle.swarm_objects.specs.Rows.{is_some_and}
 use Rattle.swarm_objects.specs.Same.{same_place}
 use Rattle.swarm_objects.specs.Services.Runs.{is_flying}
 use Rattle.swarm_objects.specs.Services.Words.{is_live_clean, is_live_dirty}
-use Rattle.swarm_objects.specs.Tasks.Places.{closes_dirty, counts_for, is_in_place, newest, place_at, place_number}
+use Rattle.swarm_objects.specs.Tasks.Places.{closes_dirty, counts_for, is_in_place, place_at, place_number}
 use Rattle.swarm_objects.specs.Tasks.Words.{is_live, is_of}
 use Rattle.swarm_objects.specs.World.{Tables}
 use Rattle.swarm_objects.specs.declared.services.Service.{Service}
