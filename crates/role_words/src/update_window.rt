@@ -143,8 +143,15 @@ pub fn update_places<R: Rows>(rows: &R, service: &Service) -> UpdateWindow
     window_of(rows, service, 0)
 }
 
-// Goes on to the window from this number on, unless its place is in this one. Apart, so that only this makes a window
-// beside the one that is there.
+// Goes on to the window from this number on. Apart, so that only this makes a window beside the one that is there.
+fn go_on<R: Rows>(window: &mut UpdateWindow, rows: &R, service: &Service, first: u64)
+    requires { IsUsable (R.tables rows.now) }
+    ensures { window.new ≡ update_window (R.tables rows.now) service.now first }
+{
+    *window = window_of(rows, service, first);
+}
+
+// Goes on to the window from this number on, unless its place is in this one.
 fn go_to<R: Rows>(window: &mut UpdateWindow, rows: &R, service: &Service, number: u64)
     requires usable { IsUsable (R.tables rows.now) }
     requires shows { let t = R.tables rows.now in ShowsUpdates window.old t service.now t.tasks }
@@ -152,7 +159,7 @@ fn go_to<R: Rows>(window: &mut UpdateWindow, rows: &R, service: &Service, number
     ensures covers { covers window.new number ≡ true }
 {
     if !window.covers(number) {
-        *window = window_of(rows, service, number);
+        go_on(window, rows, service, number);
     }
 }
 

@@ -7,9 +7,9 @@ pub returns-then-not-covers-clause-shows : goal.returns-then-not-covers-clause-s
 returns-then-not-covers-clause-shows g c =
     let t = g.R.Rows.tables c.args.rows.now in
     let s = c.args.service.now in
-    subst (λ w. ShowsUpdates w t s t.tasks) (sym c.window_of.ensures) (shows_window t s c.args.number)
+    subst (λ w. ShowsUpdates w t s t.tasks) (sym c.go_on.ensures) (shows_window t s c.args.number)
 
 pub returns-then-not-covers-clause-covers : goal.returns-then-not-covers-clause-covers
 returns-then-not-covers-clause-covers g c =
     let t = g.R.Rows.tables c.args.rows.now in
-    ap (λ w. covers w c.args.number) c.window_of.ensures ∙ covers_first t c.args.service.now c.args.number
+    ap (λ w. covers w c.args.number) c.go_on.ensures ∙ covers_first t c.args.service.now c.args.number
