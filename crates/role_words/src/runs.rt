@@ -1,9 +1,10 @@
 // Update runs: their template, their places in flight, and how long new tasks were watched.
-ghost use Rattle.std.specs.Prelude.{◌≡◌};
+ghost use Rattle.std.specs.Prelude.{◌≡◌, ◌+◌, ◌&&◌, ◌||◌, nat_lt};
 ghost use Rattle.std.specs.List.{list_any};
 ghost use Rattle.swarm_objects.specs.Loops.Update.{is_watched};
 ghost use Rattle.swarm_objects.specs.Services.Runs.{has_room, in_flight, is_flying, is_in_flight, is_of_version};
 ghost use Rattle.swarm_objects.specs.Tasks.Places.{place_tasks, tasks_of_place};
+ghost use Rattle.swarm_objects.specs.Tasks.Words.{is_below_running, is_running};
 ghost use Rattle.swarm_objects.specs.Usable.{IsUsable};
 ghost use Rattle.role_words.specs.UpdateMarks.{ShowsUpdates};
 
@@ -18,13 +19,20 @@ pub fn is_of_version(service: &Service, run: &UpdateRun) -> bool
     run.version == service.template_version
 }
 
-/// The task is clean and live, and isn't yet RUNNING for the delay. Without a delay only one below RUNNING is.
+/// The task is below RUNNING, or RUNNING for less than the delay. Without a delay only one below RUNNING is.
+pub fn is_starting<R: Rows>(rows: &R, service: &Service, task: &Task) -> bool
+    ensures { let x = task.now in let s = service.now in result ≡ (is_below_running x
+        || (is_running x && nat_lt (R.tables rows.now).clock (x.since + s.spec.update.delay))) }
+{
+    let starts_till = u128::from(task.since) + u128::from(service.spec.update.delay);
+    task.is_below_running() || (task.is_running() && u128::from(rows.now()) < starts_till)
+}
+
+/// The task is clean and live, and isn't yet RUNNING for the delay.
 pub fn is_flying<R: Rows>(rows: &R, service: &Service, task: &Task) -> bool
     ensures { result ≡ is_flying (R.tables rows.now) service.now task.now }
 {
-    let flies_till = u128::from(task.since) + u128::from(service.spec.update.delay);
-    task.is_live_clean(service)
-        && (task.is_below_running() || (task.is_running() && u128::from(rows.now()) < flies_till))
+    task.is_live_clean(service) && is_starting(rows, service, task)
 }
 
 // Such a task stands in this place of the service.

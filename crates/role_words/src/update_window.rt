@@ -5,8 +5,7 @@ ghost use Rattle.swarm_objects.specs.Usable.{IsUsable};
 ghost use Rattle.role_words.specs.UpdateMarks.{covers, marked, marked_at, unmarked, update_mark_at, update_mark_of};
 ghost use Rattle.role_words.specs.UpdateMarks.{update_mark_with, update_window, ShowsUpdates};
 
-use crate::dirty_places::is_running_clean;
-use crate::runs::is_flying;
+use crate::runs::is_starting;
 use crate::window::WIDTH;
 use swarm_objects::walks::tasks_of;
 use swarm_objects::{Rows, Service, Task};
@@ -55,17 +54,20 @@ impl UpdateMark {
         self.is_dirty() && !self.has_clean
     }
 
-    // What is said of the place with this task, which stands in it.
+    // What is said of the place with this task, which stands in it. Templates are compared once.
     fn with<R: Rows>(self, rows: &R, service: &Service, task: &Task) -> UpdateMark
         ensures { result ≡ update_mark_with (R.tables rows.now) service.now task.now self }
     {
+        let is_live = task.is_live();
+        let is_clean = task.is_clean(service);
+        let is_live_clean = is_live && is_clean;
         UpdateMark {
-            has_live: self.has_live || task.is_live(),
-            has_dirty: self.has_dirty || task.is_live_dirty(service),
-            has_clean: self.has_clean || task.is_live_clean(service),
-            has_running: self.has_running || is_running_clean(service, task),
-            has_flying: self.has_flying || is_flying(rows, service, task),
-            is_closed: task.closes_dirty(service),
+            has_live: self.has_live || is_live,
+            has_dirty: self.has_dirty || (is_live && !is_clean),
+            has_clean: self.has_clean || is_live_clean,
+            has_running: self.has_running || (is_live_clean && task.is_running()),
+            has_flying: self.has_flying || (is_live_clean && is_starting(rows, service, task)),
+            is_closed: task.closes() && !is_clean,
         }
     }
 }
