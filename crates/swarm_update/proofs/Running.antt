@@ -1,10 +1,10 @@
 -- What starts, finishes, pauses and rolls back a run.
 use Rattle.std.proofs.Common.{◌≡◌, ℕ, List, [], ◌∷◌, Some, Result, Ok, Err, refl, sym, ap, ◌∙◌, subst}
-use Rattle.std.specs.Prelude.{IfOk, is_some}
+use Rattle.std.specs.Prelude.{IfOk}
 use Rattle.swarm_objects.proofs.RowLemmas.{Has-from_row_at}
 use Rattle.swarm_objects.specs.Changes.{change_service}
 use Rattle.swarm_objects.specs.Loops.Update.{back_at, change_run, finish_run, finished_status, in_status, new_run, paused, paused_status, rolled_back, start_run, start_status, with_run}
-use Rattle.swarm_objects.specs.Rows.{has_row, row_at, service_id}
+use Rattle.swarm_objects.specs.Rows.{row_at, service_id}
 use Rattle.swarm_objects.specs.Sound.{IsSound}
 use Rattle.swarm_objects.specs.World.{Tables}
 use Rattle.swarm_objects.specs.declared.names.NoMemory.{NoMemory}
