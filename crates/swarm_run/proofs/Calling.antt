@@ -12,11 +12,12 @@ use Rattle.swarm_print.specs.Texts.{reply_text}
 use Rattle.script_grammar.specs.declared.lines.Line.TheVariants.{Call as CallLine}
 use Rattle.swarm_run.specs.Inside.LineSteps.{DoesLine, PutsAnswer, line_refused}
 use Rattle.swarm_run.specs.Serial.{is_refused, line_out}
-use Rattle.swarm_run.specs.Work.{AddsNothing, Calls, call_by}
+use Rattle.swarm_run.specs.Work.{AddsNothing, Calls}
 use Rattle.swarm_run.specs.declared.endings.Ending.{Ending}
 use Rattle.swarm_run.specs.declared.endings.Ending.TheVariants.{Done, Refused, ReadFault, OutFault, JournalFault, NoMemory, NoMemoryAt, BadLine, Full}
 use Rattle.swarm_run.specs.declared.run.Unanswered.{Unanswered}
 use Rattle.swarm_run.specs.declared.run.Unanswered.TheVariants as unanswered
+use Rattle.swarm_world.specs.Work.{call_by}
 
 or_false : (b : Bool) → b ≡ (b || false)
 or_false true = refl

@@ -14,6 +14,7 @@ use Rattle.swarm_objects.specs.Outside.{AppendsPrefix}
 use Rattle.swarm_objects.specs.declared.calls.Call.TheVariants.{Settle}
 use Rattle.swarm_objects.specs.declared.calls.Entry.{Entry}
 use Rattle.swarm_objects.specs.declared.duties.Duty.{Duty}
+use Rattle.swarm_objects.specs.declared.duties.Settle.{Settle as Answer}
 use Rattle.swarm_model.proofs.Base.Histories.{replay-snoc, replay-append}
 use Rattle.swarm_model.proofs.Following.Named.{busy_step, idle_step}
 use Rattle.swarm_print.specs.Texts.{reply_text}
@@ -53,6 +54,12 @@ unrefused zero w = refl
 unrefused (suc n) w = unrefused_next n w (duty_named (settle_answer w)) refl (λ v. unrefused n v)
 
 -- Taking duties.
+
+-- what a look names, of the history after it
+pub named_at : (before now : List Entry) (answer : Answer) (duty : Duty) → now ≡ before → answer ≡ settle_answer (replay before) →
+    duty_named answer ≡ Some duty → duty_named (settle_answer (replay now)) ≡ Some duty
+named_at before now answer duty same is names =
+    ap (λ (h : List Entry). duty_named (settle_answer (replay h))) same ∙ ap duty_named (sym is) ∙ names
 
 pub settling_start : (budget : ℕ) (H : List Entry) → Settling budget budget H H
 settling_start budget H = record { taken = []; history = sym (append-nil H); whole = refl }

@@ -12,7 +12,7 @@ use Rattle.script_grammar.specs.Texts.{entry_text}
 use Rattle.script_grammar.proofs.Lengths.{FitsEntry, duty_length, halt_length, line_fits, tick_length}
 use Rattle.swarm_model.specs.Script.{own_call}
 use Rattle.swarm_run.specs.Lengths.{is_short, call_is_short, line_is_short}
-use Rattle.swarm_run.specs.Work.{duty_by}
+use Rattle.swarm_world.specs.Work.{duty_by}
 
 short_by : (n : ℕ) → n ≤ 8224 → nat_le n 8224 ≡ true
 short_by n h = grind (arith, nat_tests)

@@ -1,22 +1,13 @@
--- What a caller's call or duty does to the history.
+-- What a caller's call or duty does to the history of a run.
 use Rattle.std.specs.Prelude.{ℕ, ◌≡◌, List, [], ◌∷◌, ◌++◌, length}
 use Rattle.swarm_model.specs.History.{replay, step_reply}
 use Rattle.swarm_objects.specs.Limits.{most_entries}
 use Rattle.swarm_objects.specs.declared.calls.Call.{Call}
 use Rattle.swarm_objects.specs.declared.calls.Entry.{Entry}
-use Rattle.swarm_objects.specs.declared.calls.What.TheVariants.{Call as Called, Duty as WhatDuty}
-use Rattle.swarm_objects.specs.declared.duties.Duty.{Duty}
 use Rattle.swarm_objects.specs.declared.replies.Reply.{Reply}
 use Rattle.swarm_run.specs.declared.run.Unanswered.{Unanswered}
 use Rattle.swarm_run.specs.declared.run.Unanswered.TheVariants.{Full, NoMemory}
-
--- the caller's entry of a call
-abbrev pub call_by : ℕ → Call → Entry
-call_by by call = record { by = by; what = Called call }
-
--- the caller's entry of a duty
-abbrev pub duty_by : ℕ → Duty → Entry
-duty_by by duty = record { by = by; what = WhatDuty duty }
+use Rattle.swarm_world.specs.Work.{call_by}
 
 -- the call is the next entry, with this reply
 pub record Calls (by : ℕ) (call : Call) (before : List Entry) (reply : Reply) (after : List Entry) : Type 0 where

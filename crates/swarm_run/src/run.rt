@@ -1,25 +1,22 @@
-// The calls and duties of callers on the plain world, and their history.
-ghost use Rattle.std.specs.Prelude.{◌≡◌, ◌<◌, [], ◌∷◌, ◌++◌, length, nat_le, true, false, IfOk, IfErr, OnOk, Some};
+// The calls and duties of callers on the one world, as entries that a journal can have.
+ghost use Rattle.std.specs.Prelude.{◌≡◌, [], ◌∷◌, ◌++◌, true, false, IfOk, IfErr, OnOk, Some};
 ghost use Rattle.std.specs.List.{list_all};
 ghost use Rattle.swarm_objects.specs.CallWords.{is_halt};
-ghost use Rattle.swarm_objects.specs.Limits.{most_entries};
-ghost use Rattle.swarm_duties.specs.Quiet.{IsKnownQuiet};
-ghost use Rattle.swarm_objects.specs.Duties.{is_due};
 ghost use Rattle.swarm_objects.specs.Kinds.{duty_named};
-ghost use Rattle.swarm_model.specs.History.{IsLegal, effect, replay};
+ghost use Rattle.swarm_model.specs.History.{IsLegal, replay};
 ghost use Rattle.swarm_model.specs.Script.{own_call};
 ghost use Rattle.swarm_model.specs.Settle.{settle_answer};
-ghost use Rattle.swarm_plain.specs.Plain.{world_of};
 ghost use Rattle.script_grammar.specs.HasText.{has_text};
+ghost use Rattle.swarm_run.specs.Inside.RunState.{answered};
 ghost use Rattle.swarm_run.specs.Lengths.{is_short};
-ghost use Rattle.swarm_run.specs.Work.{AddsNothing, Calls, call_by, duty_by};
+ghost use Rattle.swarm_run.specs.Work.{AddsNothing, Calls};
+ghost use Rattle.swarm_world.specs.Work.{call_by, duty_by};
 
 use script_writer::fits;
-use std::alloc::{AllocError, Global};
+use std::alloc::Global;
 use std::marker::Model;
-use swarm_duties::{Quiet, answer, do_duty, quiet_after, settle_knowing};
-use swarm_objects::{Call, Duty, Entry, Ms, Reply, Settle, What};
-use swarm_plain::Plain;
+use swarm_objects::{Call, Duty, Entry, Ms, NoMemory, Refusal, Reply, Rows, Settle};
+use swarm_world::{Turn, World};
 
 /// Why a call or a duty is no entry.
 #[derive(Clone, Copy, Debug, PartialEq, Eq)]
@@ -29,11 +26,21 @@ pub enum Unanswered {
     NoMemory,
 }
 
-/// A world that runs, with its history. Contracts see the history.
+// The reply, or why the call is no entry.
+fn answered(reply: Reply) -> Result<Reply, Unanswered>
+    ensures { result ≡ answered reply }
+{
+    match reply {
+        Reply::Refused(Refusal::Full(_)) => Err(Unanswered::Full),
+        Reply::Refused(Refusal::NoMemory) => Err(Unanswered::NoMemory),
+        other => Ok(other),
+    }
+}
+
+/// A world that runs: Halt doesn't stand in its history, and a journal can have every entry. Contracts see the history.
 #[derive(Drop)]
 pub struct Run {
-    plain: Plain,
-    history: Vec<Entry>,
+    world: World,
 }
 
 impl Model for Run {
@@ -43,41 +50,25 @@ impl Model for Run {
 
     ghost Value = { List Entry };
 
-    ghost view = { λ r. r.history.items };
+    ghost view = { λ r. r.world };
 
-    ghost invariant = { IsRunning };
+    ghost invariant = { λ r. IsRunning r.world };
 }
 
 impl Run {
     /// The empty history, with room for Halt.
-    pub fn new(alloc: Global) -> Result<Run, AllocError>
+    pub fn new(alloc: Global) -> Result<Run, NoMemory>
         ensures { IfOk result (λ run. run ≡ []) }
     {
-        Ok(Run {
-            plain: Plain::new(alloc),
-            history: Vec::with_capacity(alloc, 1)?,
-        })
+        let world = World::new(alloc)?;
+        Ok(Run { world })
     }
 
     /// The history so far.
     pub fn history(&self) -> &[Entry]
         ensures { result.now ≡ self.now }
     {
-        self.history.as_slice()
-    }
-
-    /// The world that the history makes.
-    pub fn world(&self) -> &Plain
-        ensures { world_of result.now ≡ replay self.now }
-    {
-        &self.plain
-    }
-
-    // There is no room but for Halt.
-    fn is_full(&self) -> bool
-        ensures { result ≡ nat_le most_entries (length self.now) }
-    {
-        self.plain.refuses(&Call::Settle(0)).is_some()
+        self.world.history()
     }
 
     /// Appends the caller's call and answers it, or says why it could not. The journal must be able to write the call.
@@ -88,134 +79,48 @@ impl Run {
         ensures ok { IfOk result (λ reply. Calls by call self.old reply self.new) }
         ensures err { IfErr result (λ cause. AddsNothing cause self.old self.new) }
     {
-        if self.is_full() {
-            drop(call);
-            return Err(Unanswered::Full);
-        }
-        // an entry and Halt
-        let Ok(()) = self.history.reserve(2) else {
-            drop(call);
-            return Err(Unanswered::NoMemory);
-        };
-        let before = self.plain.entries;
-        let reply = answer(&mut self.plain, &call);
-        if self.plain.entries == before {
-            drop(reply);
-            drop(call);
-            return Err(Unanswered::NoMemory);
-        }
-        let entry = Entry {
-            by,
-            what: What::Call(call),
-        };
-        match self.history.push(entry) {
-            Ok(()) => Ok(reply),
-            Err(_) => unreachable!(),
-        }
-    }
-
-    /// Appends the caller's call that asks whether the world has settled, where the answer is known, or says why it could
-    /// not. Nobody looks again.
-    pub fn call_settled(
-        &mut self,
-        by: u64,
-        budget: u64,
-        answer: Settle,
-    ) -> Result<Reply, Unanswered>
-        requires answer { answer ≡ settle_answer (replay self.old) }
-        requires text { has_text (call_by by (Call.Settle budget)) ≡ true }
-        requires short { is_short (call_by by (Call.Settle budget)) ≡ true }
-        ensures ok { IfOk result (λ reply. Calls by (Call.Settle budget) self.old reply self.new) }
-        ensures err { IfErr result (λ cause. AddsNothing cause self.old self.new) }
-    {
-        if self.is_full() {
-            return Err(Unanswered::Full);
-        }
-        // an entry and Halt
-        let Ok(()) = self.history.reserve(2) else {
-            return Err(Unanswered::NoMemory);
-        };
-        let number = self.plain.entries + 1;
-        self.plain.end_unseen(number);
-        let entry = Entry {
-            by,
-            what: What::Call(Call::Settle(budget)),
-        };
-        match self.history.push(entry) {
-            Ok(()) => Ok(Reply::Settle(budget, answer)),
-            Err(_) => unreachable!(),
-        }
+        answered(self.world.call(by, call))
     }
 
     /// The time of the world.
     pub fn now(&self) -> Ms
         ensures { result ≡ (replay self.now).tables.clock }
     {
-        self.plain.clock
+        self.world.now()
     }
 
-    /// The settle test. It doesn't look where it is known to be quiet.
-    pub fn settled(&self, quiet: Quiet) -> Settle
-        requires { IsKnownQuiet quiet (replay self.now) }
-        ensures { result ≡ settle_answer (replay self.now) }
+    /// The settle test. What the look finds is kept for the next one.
+    pub fn look(&mut self) -> Settle
+        ensures same { self.new ≡ self.old }
+        ensures answer { result ≡ settle_answer (replay self.old) }
     {
-        settle_knowing(&self.plain, quiet)
+        self.world.look()
     }
 
-    /// Where it is quiet once the duty is done that the settle test names.
-    pub fn quiet_after(&self, named: Duty) -> Quiet
-        requires { duty_named (settle_answer (replay self.now)) ≡ Some named }
-        ensures { IsKnownQuiet result (effect (replay self.now) named) }
-    {
-        quiet_after(&self.plain, named)
-    }
-
-    /// The caller does the duty, which is due, or it is said why it could not.
-    pub fn take(&mut self, by: u64, duty: Duty) -> Result<(), Unanswered>
-        requires { is_due (replay self.old) duty ≡ true }
-        ensures ok { OnOk result (self.new ≡ self.old ++ duty_by by duty ∷ []) }
+    /// The caller does the duty that the settle test names, or it is said why it could not.
+    pub fn take(&mut self, by: u64, named: Duty) -> Result<(), Unanswered>
+        requires { duty_named (settle_answer (replay self.old)) ≡ Some named }
+        ensures ok { OnOk result (self.new ≡ self.old ++ duty_by by named ∷ []) }
         ensures err { IfErr result (λ cause. AddsNothing cause self.old self.new) }
     {
-        if self.is_full() {
-            return Err(Unanswered::Full);
-        }
-        fits(duty);
-        // an entry and Halt
-        let Ok(()) = self.history.reserve(2) else {
-            return Err(Unanswered::NoMemory);
-        };
-        let Ok(()) = do_duty(&mut self.plain, duty) else {
-            return Err(Unanswered::NoMemory);
-        };
-        let entry = Entry {
-            by,
-            what: What::Duty(duty),
-        };
-        match self.history.push(entry) {
-            Ok(()) => Ok(()),
-            Err(_) => unreachable!(),
+        fits(named);
+        match self.world.turn(by, named.role()) {
+            Turn::Did(_) => Ok(()),
+            Turn::Full(_) => Err(Unanswered::Full),
+            Turn::NoMemory => Err(Unanswered::NoMemory),
+            Turn::Idle | Turn::Halted => unreachable!(),
         }
     }
 
-    /// Appends caller 0's Halt, and gives the whole history. It takes no memory.
-    pub fn halt(self) -> Vec<Entry>
-        ensures entries { result.items ≡ self ++ own_call Call.Halt ∷ [] }
-        ensures legal { IsLegal result.items }
-        ensures texts { list_all has_text result.items ≡ true }
-        ensures lengths { list_all is_short result.items ≡ true }
+    /// Appends caller 0's Halt, and gives the world with the whole history. It takes no memory.
+    pub fn halt(self) -> World
+        ensures entries { result ≡ self ++ own_call Call.Halt ∷ [] }
+        ensures legal { IsLegal result }
+        ensures texts { list_all has_text result ≡ true }
+        ensures lengths { list_all is_short result ≡ true }
     {
-        let Run {
-            mut plain,
-            mut history,
-        } = self;
-        answer(&mut plain, &Call::Halt);
-        let entry = Entry {
-            by: 0,
-            what: What::Call(Call::Halt),
-        };
-        match history.push(entry) {
-            Ok(()) => history,
-            Err(_) => unreachable!(),
-        }
+        let Run { mut world } = self;
+        drop(world.call(0, Call::Halt));
+        world
     }
 }

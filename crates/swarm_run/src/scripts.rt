@@ -2,9 +2,8 @@
 ghost use Rattle.std.specs.Prelude.{◌+◌, ◌≡◌, [], ◌∷◌, ◌++◌, ◌<◌, ◌≤◌, true, false, IfOk, OnOk, IfErr, Ok, Err, Some};
 ghost use Rattle.std.specs.Io.KnownBytes.{Appends};
 ghost use Rattle.swarm_objects.specs.CallWords.{is_halt};
-ghost use Rattle.swarm_objects.specs.Kinds.{duty_named};
 ghost use Rattle.swarm_model.specs.History.{replay};
-ghost use Rattle.swarm_model.specs.Script.{next_tick, own_call, own_duty, time_till};
+ghost use Rattle.swarm_model.specs.Script.{next_tick, own_call, time_till};
 ghost use Rattle.swarm_model.specs.Serial.{next_stride, settle_entries, wait_entries};
 ghost use Rattle.swarm_model.specs.Settle.{settle_answer};
 ghost use Rattle.swarm_objects.specs.Outside.{Rose, PutsPiece, HasCause};
@@ -13,7 +12,6 @@ ghost use Rattle.swarm_run.specs.Lengths.{call_is_short, line_is_short};
 ghost use Rattle.swarm_input.specs.Script.{bad_line, in_text};
 ghost use Rattle.swarm_run.specs.Serial.{is_refused};
 ghost use Rattle.swarm_input.specs.Streams.{stream};
-ghost use Rattle.swarm_run.specs.Work.{AddsNothing};
 ghost use Rattle.swarm_run.specs.Inside.LineSteps.{DoesLine, IsSeen, Passes, PutsAnswer, PutsReply, SaysLine, StopsIn};
 ghost use Rattle.swarm_run.specs.Endings.{ending_of, whole_ending, TellsEnding};
 ghost use Rattle.swarm_run.specs.ScriptSteps.{IsRead};
@@ -24,10 +22,9 @@ use crate::run::{Run, Unanswered};
 use script_grammar::{Line, LineFault};
 use script_reader::read_line;
 use std::alloc::Global;
-use swarm_duties::Quiet;
 use swarm_input::{Fault, Input, ReadFault, bad_line};
 use swarm_objects::limits::LONGEST_TICK;
-use swarm_objects::{Call, Duty, Failed, Ms, Reply, Settle, Sink, Source};
+use swarm_objects::{Call, Failed, Ms, Reply, Settle, Sink, Source};
 use swarm_print::reply_text;
 
 // The most duties before a tick, and after the last one.
@@ -126,15 +123,6 @@ fn answer<O: Sink>(alloc: Global, run: &mut Run, out: &mut O, call: Call) -> Res
     put
 }
 
-// Takes the duty that the settle test names.
-fn take_named(run: &mut Run, named: Duty) -> Result<(), Unanswered>
-    requires { duty_named (settle_answer (replay run.old)) ≡ Some named }
-    ensures ok { OnOk result (run.new ≡ run.old ++ own_duty named ∷ []) }
-    ensures err { IfErr result (λ cause. AddsNothing cause run.old run.new) }
-{
-    run.take(0, named)
-}
-
 // Takes the duties that the settle test names, one after the other, until it names none or so many are taken. Gives the
 // last answer of the settle test, where that named none: a look goes over the whole world, so who asks next is told.
 fn take_duties(run: &mut Run, budget: u64) -> Result<Option<Settle>, Ending>
@@ -142,15 +130,13 @@ fn take_duties(run: &mut Run, budget: u64) -> Result<Option<Settle>, Ending>
     ensures seen { IfOk result (λ seen. IsSeen seen (replay run.new)) }
     ensures err { IfErr result (λ ending. StopsIn ending (settle_entries budget (replay run.old)) run.old run.new) }
 {
-    let mut quiet = Quiet::nowhere();
     for _ in 0..budget {
-        let answer = run.settled(quiet);
+        let answer = run.look();
         let named = match answer.duty() {
             Some(named) => named,
             None => return Ok(Some(answer)),
         };
-        quiet = run.quiet_after(named);
-        match take_named(run, named) {
+        match run.take(0, named) {
             Ok(()) => {}
             Err(Unanswered::Full) => return Err(Ending::Full),
             Err(Unanswered::NoMemory) => return Err(Ending::NoMemory),
@@ -160,39 +146,15 @@ fn take_duties(run: &mut Run, budget: u64) -> Result<Option<Settle>, Ending>
 }
 
 // The answer of the settle test, which looks only where it wasn't seen since the last entry.
-fn answer_at(run: &Run, seen: Option<Settle>) -> Settle
-    requires { IsSeen seen (replay run.now) }
-    ensures { result ≡ settle_answer (replay run.now) }
+fn answer_at(run: &mut Run, seen: Option<Settle>) -> Settle
+    requires { IsSeen seen (replay run.old) }
+    ensures same { run.new ≡ run.old }
+    ensures answer { result ≡ settle_answer (replay run.old) }
 {
     match seen {
         Some(answer) => answer,
-        None => run.settled(Quiet::nowhere()),
+        None => run.look(),
     }
-}
-
-// Makes the call of a settle line and puts the text of its reply. Says whether it was refused, or how the run ends.
-fn answer_settled<O: Sink>(
-    alloc: Global,
-    run: &mut Run,
-    out: &mut O,
-    budget: u64,
-    seen: Option<Settle>,
-) -> Result<bool, Ending>
-    requires seen { IsSeen seen (replay run.old) }
-    requires text { call_has_text (Call.Settle budget) ≡ true }
-    requires short { call_is_short (Call.Settle budget) ≡ true }
-    ensures line { DoesLine result (Line.Call (Call.Settle budget)) run.old run.new (O.written out.old)
-        (O.written out.new) }
-    ensures later { O.faults out.old ≤ O.faults out.new }
-    ensures cause { result ≡ Err Ending.OutFault → Rose (O.faults out.old) (O.faults out.new) }
-    ensures kept { OnOk result (O.faults out.new ≡ O.faults out.old) }
-    ensures risen { O.faults out.old < O.faults out.new → result ≡ Err Ending.OutFault }
-{
-    let answer = answer_at(run, seen);
-    let answered = run.call_settled(0, budget, answer);
-    let put = put_answer(alloc, out, &answered);
-    drop(answered);
-    put
 }
 
 // Does a settle line: the duties, and then the call that asks.
@@ -206,7 +168,7 @@ fn settle<O: Sink>(alloc: Global, run: &mut Run, out: &mut O, budget: u64) -> Re
     ensures risen { O.faults out.old < O.faults out.new → result ≡ Err Ending.OutFault }
 {
     match take_duties(run, budget) {
-        Ok(seen) => answer_settled(alloc, run, out, budget, seen),
+        Ok(_) => answer(alloc, run, out, Call::Settle(budget)),
         Err(ending) => Err(ending),
     }
 }
@@ -222,9 +184,10 @@ fn time_till(now: Ms, answer: Settle, most: Ms) -> Ms
 }
 
 // The next tick of a wait line of which so much is left.
-fn next_tick(run: &Run, left: Ms, seen: Option<Settle>) -> Ms
-    requires { IsSeen seen (replay run.now) }
-    ensures { result ≡ next_tick (replay run.now) left }
+fn next_tick(run: &mut Run, left: Ms, seen: Option<Settle>) -> Ms
+    requires { IsSeen seen (replay run.old) }
+    ensures same { run.new ≡ run.old }
+    ensures tick { result ≡ next_tick (replay run.old) left }
 {
     let answer = answer_at(run, seen);
     time_till(run.now(), answer, LONGEST_TICK.min(left))

@@ -1,5 +1,5 @@
 // A number's script, and the line that sums up its run.
-ghost use Rattle.std.specs.Prelude.{◌+◌, ◌≡◌, ◌≢◌, ◌≤◌, IfOk, None, length, string_bytes};
+ghost use Rattle.std.specs.Prelude.{◌≡◌, ◌≢◌, ◌≤◌, IfOk, None, string_bytes};
 ghost use Rattle.script_maker.specs.Script.{most_number};
 ghost use Rattle.swarm_input.specs.Script.{reading};
 ghost use Rattle.swarm_input.specs.Streams.{stream};
@@ -55,21 +55,14 @@ fn is_whole(ending: Ending) -> bool
     }
 }
 
-// How many entries there are with Halt.
-fn entries_with_halt(run: &Run) -> u64
-    ensures { result ≡ length run.now + 1 }
-{
-    run.history().len() as u64 + 1
-}
-
-// The line that sums up the world that the history makes with Halt.
+// The line that sums up the world after Halt.
 fn sum_up(alloc: Global, run: Run) -> Result<String, AllocError>
     ensures text { IfOk result (λ text. string_bytes text ≡ summary (replay (with_halt run))) }
     ensures legal { IsLegal (with_halt run) }
 {
-    let text = summary_of(alloc, run.world(), entries_with_halt(&run));
-    let history = run.halt();
-    drop(history);
+    let world = run.halt();
+    let text = summary_of(alloc, &world, world.len());
+    drop(world);
     text
 }
 

@@ -1,24 +1,21 @@
-use Rattle.std.proofs.Common.{sym, ◌∙◌, ap, subst}
-use Rattle.std.specs.List.{list_all}
-use Rattle.swarm_objects.specs.declared.calls.Call.TheVariants.{Halt}
-use Rattle.swarm_run.specs.Lengths.{is_short}
+use Rattle.std.proofs.Common.{List, ◌∷◌, [], ◌++◌, ◌∙◌, ap}
 use Rattle.swarm_model.specs.Script.{own_call}
-use Rattle.swarm_model.specs.History.{IsLegal}
-use Rattle.swarm_duties.proofs.Reached.{usable}
-use Rattle.swarm_plain.specs.Plain.{world_of}
-use Rattle.swarm_run.proofs.Runs.{reached, halting, all-snoc}
-use Rattle.swarm_run.proofs.Short.{halt_short}
+use Rattle.swarm_objects.specs.declared.calls.Call.TheVariants.{Halt}
+use Rattle.swarm_objects.specs.declared.calls.Entry.{Entry}
+use Rattle.swarm_run.proofs.Runs.{halt_ends, halt_lengths, halt_texts}
 use Rattle.swarm_run.proofs.run.Run.halt.Goals as goal
 
-pub answer-requires : goal.answer-requires
-answer-requires c =
-    usable (world_of c.self.inside.plain)
-    (reached (world_of c.self.inside.plain) c.self.inside.history.items c.self.invariant.legal c.self.invariant.world)
+pub returns-clause-entries : goal.returns-clause-entries
+returns-clause-entries c =
+    halt_ends c.self.inside.world c.call.new.self c.call.result c.call.ensures.calls c.self.invariant
+    ∙ ap (λ (h : List Entry). h ++ own_call Halt ∷ []) c.self.view_is
 
-pub returns-clause-legal : goal.returns-clause-legal
-returns-clause-legal c =
-    subst IsLegal (sym c.in-Ok.ensures.items) (halting (world_of c.self.inside.plain) c.self.inside.history.items c.self.invariant.legal c.self.invariant.world c.self.invariant.running)
+pub returns-clause-texts : goal.returns-clause-texts
+returns-clause-texts c =
+    halt_texts c.self.inside.world c.call.new.self
+    (halt_ends c.self.inside.world c.call.new.self c.call.result c.call.ensures.calls c.self.invariant) c.self.invariant
 
 pub returns-clause-lengths : goal.returns-clause-lengths
 returns-clause-lengths c =
-    ap (list_all is_short) c.in-Ok.ensures.items ∙ all-snoc is_short c.self.inside.history.items (own_call Halt) c.self.invariant.lengths halt_short
+    halt_lengths c.self.inside.world c.call.new.self
+    (halt_ends c.self.inside.world c.call.new.self c.call.result c.call.ensures.calls c.self.invariant) c.self.invariant
