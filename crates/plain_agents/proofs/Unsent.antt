@@ -10,7 +10,7 @@ use Rattle.swarm_model.proofs.Laws.OneEach.{none-any}
 use Rattle.swarm_plain.proofs.DirtyPlaces.{both_ways}
 use Rattle.swarm_plain.proofs.Looks.{same_row}
 use Rattle.swarm_plain.proofs.Numbers.{any_with}
-use Rattle.plain_agents.specs.Inside.News.{LeavesStep, StepsOn, differs, is_due_on, is_next, is_unsent_on, rest_of}
+use Rattle.plain_agents.specs.Inside.News.{differs, is_due_on, is_unsent_on}
 use Rattle.swarm_objects.proofs.RowLemmas.{Has-filter, Has-filter_cases, Has-map, Has-map_cases, Has-from_row_at}
 use Rattle.swarm_objects.proofs.Tests.{any-has, any_each, any_map, any_same, both_are, has-any, not-true, or_false, or_left, or_right}
 use Rattle.swarm_objects.specs.Agents.Messages.{assigned, assigned_task, change_of, changes_of, due_set, is_assigned_on, is_sent, message_for, message_with, next_message, same_assigned, sent_of, tasks_of_either, update_of}
@@ -242,10 +242,6 @@ message_is w node sent order found =
     ∙ sym (one_message sent.count (changes_of sent.tasks (due_set w.tables node)))
     ∙ ap (λ o. is_some (next_message o (due_set w.tables node))) (sym found)
 
--- and where nothing was sent
-pub message_first : (w : World) (node : ℕ) → sent_of w node ≡ None → is_some (message_for w node) ≡ true
-message_first w node none = ap (λ o. is_some (next_message o (due_set w.tables node))) none
-
 -- Where what was sent is what is due, in its order, nothing differs.
 
 step_sent : (due sent : List Assigned) → pointwise same_assigned due sent ≡ true → (a : Assigned) → Has due a →
@@ -285,40 +281,3 @@ step_same t node sent order e =
     (none-any (λ (a : Assigned). not (has_row assigned_task a.task (due_set t node))) sent
     (λ a h. ap not (step_due (due_set t node) sent e a h)))
     ∙ none-any (is_new sent) (due_set t node) (λ a h. ap not (step_sent (due_set t node) sent e a h))
-
--- Going through it.
-
-abbrev due_of : ℕ → List Task → List Assigned
-due_of node tasks = map assigned (filter (is_assigned_on node) tasks)
-
-pub steps_on : (node : ℕ) (x : Task) (tasks : List Task) (left rest : List Assigned) (whole : Bool) → StepsOn node x left rest →
-    pointwise same_assigned (due_of node (x ∷ tasks)) left ≡ whole → pointwise same_assigned (due_of node tasks) rest ≡ whole
-steps_on node x tasks left rest whole (inl passed) e =
-    ap (pointwise same_assigned (due_of node tasks)) passed.1
-    ∙ sym (ap (λ b. pointwise same_assigned (map assigned (cond b (x ∷ filter (is_assigned_on node) tasks)
-    (filter (is_assigned_on node) tasks))) left) passed.0)
-    ∙ e
-steps_on node x tasks left rest whole (inr took) e =
-    go left took.1 took.2
-    (sym (ap (λ b. pointwise same_assigned (map assigned (cond b (x ∷ filter (is_assigned_on node) tasks)
-    (filter (is_assigned_on node) tasks))) left) took.0) ∙ e)
-  where
-    go : (l : List Assigned) → is_next (assigned x) l ≡ true → rest ≡ rest_of l →
-        pointwise same_assigned (assigned x ∷ due_of node tasks) l ≡ whole →
-        pointwise same_assigned (due_of node tasks) rest ≡ whole
-    go [] next is f = absurd (let g : false ≡ true = next in cc)
-    go (b ∷ l) next is f =
-        ap (pointwise same_assigned (due_of node tasks)) is
-        ∙ sym (ap (λ c. c && pointwise same_assigned (due_of node tasks) l) next) ∙ f
-
-pub leaves_step : (node : ℕ) (x : Task) (tasks : List Task) (left : List Assigned) (whole : Bool) → LeavesStep node x left →
-    pointwise same_assigned (due_of node (x ∷ tasks)) left ≡ whole → false ≡ whole
-leaves_step node x tasks left whole leaves e =
-    go left leaves.1
-    (sym (ap (λ b. pointwise same_assigned (map assigned (cond b (x ∷ filter (is_assigned_on node) tasks)
-    (filter (is_assigned_on node) tasks))) left) leaves.0) ∙ e)
-  where
-    go : (l : List Assigned) → is_next (assigned x) l ≡ false →
-        pointwise same_assigned (assigned x ∷ due_of node tasks) l ≡ whole → false ≡ whole
-    go [] next f = f
-    go (b ∷ l) next f = sym (ap (λ c. c && pointwise same_assigned (due_of node tasks) l) next) ∙ f

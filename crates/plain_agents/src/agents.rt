@@ -10,7 +10,7 @@ ghost use Rattle.swarm_objects.specs.Duties.{is_due};
 ghost use Rattle.swarm_objects.specs.Loops.Agents.{after_apply, after_beat, after_exec, after_forget, after_pull, after_register, after_report, agent_duties, agents, begun, change_agent, duties_on, executor_at, has_step, inbox_duties, is_beat_due, is_forgotten, is_mode_on, is_news, received, report_duties, session_duties, stepped, told, wants_report};
 ghost use Rattle.swarm_objects.specs.Loops.Words.{duty_where};
 ghost use Rattle.swarm_objects.specs.Nodes.Sessions.{ready_node, session_of};
-ghost use Rattle.swarm_objects.specs.Rows.{RisesFrom, agent_node, change_row, drop_row, executor_task, is_some_and, first_of};
+ghost use Rattle.swarm_objects.specs.Rows.{RisesFrom, agent_node, change_row, drop_row, executor_task, is_some_and};
 ghost use Rattle.swarm_objects.specs.Rows.{node_id, row_at, session_node};
 ghost use Rattle.swarm_objects.specs.Sound.{IsOrderedBeside};
 ghost use Rattle.swarm_plain.specs.Entries.{HasOrder};
@@ -184,109 +184,6 @@ pub fn agents_duties(plain: &Plain) -> Result<List<Duty>, NoMemory>
         add_agent_duties(&mut duties, plain, agent)?;
     }
     Ok(duties)
-}
-
-// The first of them, agent by agent.
-
-// The agent's first executor that has a step to make.
-fn first_step(clock: Ms, agent: &NodeAgent) -> Option<Duty>
-    ensures { let a = agent.now in
-        result ≡ first_of (duty_where (has_step clock) (λ e. Duty.Exec a.node e.task) a.executors) }
-{
-    for executor in agent.executors.as_slice() {
-        if has_step(clock, executor) {
-            return Some(Duty::Exec(agent.node, executor.task));
-        }
-    }
-    None
-}
-
-// The first that has a state to report.
-fn first_report(plain: &Plain, agent: &NodeAgent) -> Option<Duty>
-    ensures { result ≡ first_of (report_duties (world_of plain.now) agent.now true) }
-{
-    for executor in agent.executors.as_slice() {
-        if wants_report(plain, executor) {
-            return Some(Duty::Report(agent.node, executor.task));
-        }
-    }
-    None
-}
-
-// The first that is forgotten.
-fn first_forgotten(agent: &NodeAgent) -> Option<Duty>
-    ensures { let a = agent.now in
-        result ≡ first_of (duty_where is_forgotten (λ e. Duty.Forget a.node e.task) a.executors) }
-{
-    for executor in agent.executors.as_slice() {
-        if is_forgotten(executor) {
-            return Some(Duty::Forget(agent.node, executor.task));
-        }
-    }
-    None
-}
-
-// The first about executors, behind their steps.
-fn first_told(plain: &Plain, agent: &NodeAgent, live: bool) -> Option<Duty>
-    ensures { let a = agent.now in result ≡ first_of (report_duties (world_of plain.now) a live
-        ++ duty_where is_forgotten (λ e. Duty.Forget a.node e.task) a.executors) }
-{
-    if live {
-        if let Some(duty) = first_report(plain, agent) {
-            return Some(duty);
-        }
-    }
-    first_forgotten(agent)
-}
-
-// The first about executors.
-fn first_executed(plain: &Plain, agent: &NodeAgent, live: bool) -> Option<Duty>
-    ensures { let a = agent.now in result
-        ≡ first_of (duty_where (has_step (tables_of plain.now).clock) (λ e. Duty.Exec a.node e.task) a.executors
-        ++ report_duties (world_of plain.now) a live
-        ++ duty_where is_forgotten (λ e. Duty.Forget a.node e.task) a.executors) }
-{
-    match first_step(plain.clock, agent) {
-        Some(duty) => Some(duty),
-        None => first_told(plain, agent, live),
-    }
-}
-
-// The first behind that about the session.
-fn first_within(plain: &Plain, agent: &NodeAgent, live: bool) -> Option<Duty>
-    requires { HasOrder (tables_of plain.now) }
-    ensures { let a = agent.now in result ≡ first_of (inbox_duties (world_of plain.now) a live a.inbox
-        ++ duty_where (has_step (tables_of plain.now).clock) (λ e. Duty.Exec a.node e.task) a.executors
-        ++ report_duties (world_of plain.now) a live
-        ++ duty_where is_forgotten (λ e. Duty.Forget a.node e.task) a.executors) }
-{
-    match inbox_duty(plain, agent, live) {
-        Some(duty) => Some(duty),
-        None => first_executed(plain, agent, live),
-    }
-}
-
-// The first of an agent that is on, whose session is live or isn't.
-fn first_on(plain: &Plain, agent: &NodeAgent, live: bool) -> Option<Duty>
-    requires { HasOrder (tables_of plain.now) }
-    ensures { result ≡ first_of (duties_on (world_of plain.now) agent.now live) }
-{
-    match session_duty(plain, agent, live) {
-        Some(duty) => Some(duty),
-        None => first_within(plain, agent, live),
-    }
-}
-
-/// The first of an agent.
-pub fn agent_first(plain: &Plain, agent: &NodeAgent) -> Option<Duty>
-    requires { HasOrder (tables_of plain.now) }
-    ensures { result ≡ first_of (agent_duties (world_of plain.now) agent.now) }
-{
-    if is_on(agent) {
-        first_on(plain, agent, plain.session_live(agent.node))
-    } else {
-        None
-    }
 }
 
 // The test of one duty.

@@ -127,9 +127,6 @@ asked : {X : Type 0} (a : Bool) (p q : X → Bool) (rows : List X) (c : Bool) �
 asked true p q rows c e = e
 asked false p q rows c e = any_none (λ x. (false && p x) && q x) rows (λ x. refl)
 
-turn_first : (a b c : Bool) → a ≡ b → (a && c) ≡ (b && c)
-turn_first a b c e = ap (λ z. z && c) e
-
 leaves_by : (t : Tables) (s : Service) (m : Mode) (id node : ℕ) →
     ((eqb s.id id && is_global m) && is_to_leave t s node)
     ≡ list_any (same_duty (duty.Leave id node)) (leave_duties t s m)

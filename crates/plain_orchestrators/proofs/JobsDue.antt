@@ -3,7 +3,7 @@ use Rattle.std.proofs.Common.{◌≡◌, ℕ, Bool, true, false, eqb, List, leng
 use Rattle.std.proofs.lemmas.List.Folds.{list_any-append}
 use Rattle.std.specs.Prelude.{◌||◌, ◌&&◌, flat_map, not}
 use Rattle.std.specs.List.{list_any}
-use Rattle.swarm_plain.proofs.AnyOf.{any_none, any_where, one_number, turned}
+use Rattle.swarm_plain.proofs.AnyOf.{any_none, any_where, one_number}
 use Rattle.swarm_objects.proofs.Tests.{any_each, any_same, or_false}
 use Rattle.swarm_objects.specs.Duties.{is_due}
 use Rattle.swarm_objects.specs.Kinds.{kind_place, same_duty}
@@ -81,21 +81,3 @@ next_due w id slot =
     sym (parts t d
     ∙ ap (λ b. b || list_any p (nexts t)) (no_olds t d refl)
     ∙ any_each p (λ (s : Service). next_duty t s s.spec.mode) t.services)
-
-other_next : (t : Tables) (s : Service) (m : Mode) (id slot : ℕ) → eqb s.id id ≡ false →
-    list_any (same_duty (duty.JobCreate id slot)) (next_duty t s m) ≡ false
-other_next t s (mode.Replicated n) id slot other = refl
-other_next t s mode.Global id slot other = refl
-other_next t s (mode.Job concurrent total) id slot other = go (has_next t s concurrent total)
-  where
-    gap : ℕ
-    gap = first_gap 0 (held_places t s)
-
-    go : (b : Bool) → list_any (same_duty (duty.JobCreate id slot)) (when b (duty.JobCreate s.id gap)) ≡ false
-    go true = ap (λ b. (b && (eqb slot gap && true)) || false) (turned id s.id ∙ other)
-    go false = refl
-
--- another job than the one that is asked for
-pub not_next : (t : Tables) (s : Service) (id slot : ℕ) → eqb s.id id ≡ false →
-    false ≡ list_any (same_duty (duty.JobCreate id slot)) (next_duty t s s.spec.mode)
-not_next t s id slot other = sym (other_next t s s.spec.mode id slot other)

@@ -1,6 +1,5 @@
 pub mod GlobalDue
 pub mod JobsDue
-pub mod Leaving
 pub mod OneDue
 pub mod ReplicatedDue
 pub mod Restarting

@@ -4,7 +4,7 @@ use Rattle.std.proofs.lemmas.List.Folds.{list_any-append}
 use Rattle.std.specs.Prelude.{◌||◌, ◌&&◌, flat_map, option_to_list}
 use Rattle.std.specs.List.{list_any}
 use Rattle.std.specs.Option.{option_map}
-use Rattle.swarm_plain.proofs.AnyOf.{any_none, any_where, one_number, turned}
+use Rattle.swarm_plain.proofs.AnyOf.{any_none, any_where, one_number}
 use Rattle.swarm_objects.proofs.Tests.{any_each, any_same, or_false}
 use Rattle.swarm_objects.specs.Duties.{is_due}
 use Rattle.swarm_objects.specs.Kinds.{kind_place, same_duty}
@@ -120,39 +120,3 @@ create_due w id slot =
     ∙ ap (λ b. (b || list_any p (downs t)) || list_any p (creates t)) (no_gone t d refl)
     ∙ ap (λ b. b || list_any p (creates t)) (no_downs t d refl)
     ∙ any_each p (λ (s : Service). create_duty t s s.spec.mode) t.services)
-
--- The number of the service: another service than the one that is asked for has no such duty.
-
-other_down : (t : Tables) (s : Service) (m : Mode) (id slot : ℕ) → eqb s.id id ≡ false →
-    list_any (same_duty (duty.Down id slot)) (down_duty t s m) ≡ false
-other_down t s (mode.Replicated n) id slot other = go (ltb n (length (held_places t s))) (first_to_go t s)
-  where
-    go : (b : Bool) (o : Option ℕ) →
-        list_any (same_duty (duty.Down id slot)) (cond b (option_to_list (option_map (duty.Down s.id) o)) []) ≡ false
-    go true (Some k) = ap (λ b. (b && (eqb slot k && true)) || false) (turned id s.id ∙ other)
-    go true None = refl
-    go false o = refl
-other_down t s mode.Global id slot other = refl
-other_down t s (mode.Job concurrent total) id slot other = refl
-
-pub not_down : (t : Tables) (s : Service) (id slot : ℕ) → eqb s.id id ≡ false →
-    false ≡ list_any (same_duty (duty.Down id slot)) (down_duty t s s.spec.mode)
-not_down t s id slot other = sym (other_down t s s.spec.mode id slot other)
-
-other_create : (t : Tables) (s : Service) (m : Mode) (id slot : ℕ) → eqb s.id id ≡ false →
-    list_any (same_duty (duty.ReplicatedCreate id slot)) (create_duty t s m) ≡ false
-other_create t s (mode.Replicated n) id slot other = go (ltb (length (held_places t s)) n)
-  where
-    gap : ℕ
-    gap = first_gap 1 (held_places t s)
-
-    go : (b : Bool) →
-        list_any (same_duty (duty.ReplicatedCreate id slot)) (when b (duty.ReplicatedCreate s.id gap)) ≡ false
-    go true = ap (λ b. (b && (eqb slot gap && true)) || false) (turned id s.id ∙ other)
-    go false = refl
-other_create t s mode.Global id slot other = refl
-other_create t s (mode.Job concurrent total) id slot other = refl
-
-pub not_create : (t : Tables) (s : Service) (id slot : ℕ) → eqb s.id id ≡ false →
-    false ≡ list_any (same_duty (duty.ReplicatedCreate id slot)) (create_duty t s s.spec.mode)
-not_create t s id slot other = sym (other_create t s s.spec.mode id slot other)

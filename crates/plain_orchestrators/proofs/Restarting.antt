@@ -45,15 +45,6 @@ shut-is : (version id : ℕ) (t : Tables) (x : Task) → row_at task_id id t.tas
     shut version x.id t ≡ shut version id t
 shut-is version id t x task = ap (λ (k : ℕ). shut version k t) (Has-from_row_at task_id id t.tasks x task).1
 
-pub no_task : (version id : ℕ) (t : Tables) → row_at task_id id t.tasks ≡ None → after_restart version t id ≡ t
-no_task version id t task = ap (on_row t (λ (y : Task). on_service t y.service (restarted version t y))) task
-
-pub no_service : (version id : ℕ) (t : Tables) (x : Task) → row_at task_id id t.tasks ≡ Some x →
-    row_at service_id x.service t.services ≡ None → after_restart version t id ≡ t
-no_service version id t x task service =
-    ap (on_row t (λ (y : Task). on_service t y.service (restarted version t y))) task
-    ∙ ap (on_row t (restarted version t x)) service
-
 -- another live task is in the place
 pub stops : (version id : ℕ) (t : Tables) (x : Task) (s : Service) → row_at task_id id t.tasks ≡ Some x →
     row_at service_id x.service t.services ≡ Some s → has_other t s x ≡ true →

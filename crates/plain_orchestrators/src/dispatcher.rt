@@ -2,15 +2,15 @@
 ghost use Rattle.std.specs.Prelude.{◌≡◌, ◌==◌, ◌&&◌, ◌++◌, IfOk, OnOk};
 ghost use Rattle.std.specs.List.{list_any};
 ghost use Rattle.swarm_objects.specs.Duties.{effect_by, is_due};
-ghost use Rattle.swarm_objects.specs.Loops.Dispatcher.{dispatcher, fallen, is_expired, is_long_down, is_orphaned};
+ghost use Rattle.swarm_objects.specs.Loops.Dispatcher.{dispatcher, fallen, is_expired, is_orphaned};
 ghost use Rattle.swarm_objects.specs.Loops.Words.{duty_where};
-ghost use Rattle.swarm_objects.specs.Rows.{change_row, first_of, node_id};
+ghost use Rattle.swarm_objects.specs.Rows.{change_row, node_id};
 ghost use Rattle.swarm_plain.specs.Plain.{world_of};
 
-use swarm_objects::{Duty, Id, List, Ms, NoMemory, Node, NodeState, Rows, TaskState, Version, add};
+use swarm_objects::{Duty, Id, List, Ms, NoMemory, Node, NodeState, TaskState, Version, add};
 use swarm_plain::Plain;
 use swarm_plain::tasks::set_state;
-use swarm_sessions::{is_expired, is_long_down, is_orphaned};
+use swarm_sessions::{is_expired, is_orphaned};
 
 // The nodes whose sessions are over.
 fn put_expired(plain: &Plain, duties: &mut List<Duty>) -> Result<(), NoMemory>
@@ -46,66 +46,6 @@ pub fn dispatcher_duties(plain: &Plain) -> Result<List<Duty>, NoMemory>
     put_expired(plain, &mut duties)?;
     put_orphaned(plain, &mut duties)?;
     Ok(duties)
-}
-
-// The first node whose session is over.
-fn first_expired(plain: &Plain) -> Option<Duty>
-    ensures { let t = (world_of plain.now).tables in
-        result ≡ first_of (duty_where (is_expired t) (λ n. Duty.Expire n.id) t.nodes) }
-{
-    for node in plain.nodes.as_slice() {
-        if is_expired(plain, node) {
-            return Some(Duty::Expire(node.id));
-        }
-    }
-    None
-}
-
-// The first task on a node that is down for long, by a scan.
-fn scan_orphaned(plain: &Plain) -> Option<Duty>
-    ensures { let t = (world_of plain.now).tables in
-        result ≡ first_of (duty_where (is_orphaned t) (λ x. Duty.Orphan x.id) t.tasks) }
-{
-    for task in plain.tasks.as_slice() {
-        if is_orphaned(plain, task) {
-            return Some(Duty::Orphan(task.id));
-        }
-    }
-    None
-}
-
-// Some node is down for the orphan time.
-fn any_long_down(plain: &Plain) -> bool
-    ensures { let t = (world_of plain.now).tables in result ≡ list_any (is_long_down t) t.nodes }
-{
-    plain
-        .nodes
-        .as_slice()
-        .iter()
-        .any(|node| is_long_down(plain, node))
-}
-
-// The first task on a node that is down for long. Where no node is, no task is looked at.
-fn first_orphaned(plain: &Plain) -> Option<Duty>
-    ensures { let t = (world_of plain.now).tables in
-        result ≡ first_of (duty_where (is_orphaned t) (λ x. Duty.Orphan x.id) t.tasks) }
-{
-    if any_long_down(plain) {
-        scan_orphaned(plain)
-    } else {
-        None
-    }
-}
-
-/// The first of these duties.
-#[tactic(auto, using(swarm_plain::proofs::First::append_first))]
-pub fn dispatcher_first(plain: &Plain) -> Option<Duty>
-    ensures { result ≡ first_of (dispatcher (world_of plain.now).tables) }
-{
-    match first_expired(plain) {
-        Some(duty) => Some(duty),
-        None => first_orphaned(plain),
-    }
 }
 
 // Some node with this id has expired.

@@ -3,7 +3,6 @@ ghost use Rattle.std.specs.Prelude.{◌≡◌, ◌==◌, ◌&&◌, IfOk};
 ghost use Rattle.std.specs.List.{list_any};
 ghost use Rattle.swarm_objects.specs.Duties.{effect_by, is_due};
 ghost use Rattle.swarm_objects.specs.Loops.Enforcer.{breaks_constraints, enforcer, is_misplaced};
-ghost use Rattle.swarm_objects.specs.Rows.{first_of};
 ghost use Rattle.swarm_plain.specs.Plain.{world_of};
 
 use swarm_objects::homes::node_of;
@@ -36,18 +35,6 @@ pub fn enforcer_duties(plain: &Plain) -> Result<List<Duty>, NoMemory>
         }
     }
     Ok(duties)
-}
-
-/// The first of them.
-pub fn enforcer_first(plain: &Plain) -> Option<Duty>
-    ensures { result ≡ first_of (enforcer (world_of plain.now).tables) }
-{
-    for task in plain.tasks.as_slice() {
-        if is_misplaced(plain, task) {
-            return Some(Duty::Reject(task.id));
-        }
-    }
-    None
 }
 
 // Some task with this id is misplaced.

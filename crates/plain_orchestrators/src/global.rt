@@ -1,22 +1,16 @@
 // The duties on global services.
-ghost use Rattle.std.specs.Prelude.{◌≡◌, ◌==◌, ◌&&◌, ◌++◌, IfOk, None, OnErr, OnOk, flat_map};
+ghost use Rattle.std.specs.Prelude.{◌≡◌, ◌==◌, ◌&&◌, ◌++◌, IfOk, OnErr, OnOk, flat_map};
 ghost use Rattle.std.specs.List.{list_any};
-ghost use Rattle.swarm_plain.specs.Inside.LeastNumber.{keep_number, least_number};
 ghost use Rattle.swarm_plain.specs.Inside.OfPlace.{is_global, missing_on};
 ghost use Rattle.swarm_objects.specs.Bounds.{IsSmall};
 ghost use Rattle.swarm_objects.specs.Duties.{effect_by, is_due};
 ghost use Rattle.swarm_objects.specs.Loops.Global.{come_duties, global, is_missing, is_to_leave, leave_duties, wants_here};
-ghost use Rattle.swarm_objects.specs.Rows.{first_of};
-ghost use Rattle.swarm_objects.specs.Tasks.Places.{counts_for};
 ghost use Rattle.swarm_plain.specs.Plain.{world_of};
 
 use swarm_global::{may_stay_on, wants_here};
-use swarm_objects::{
-    Desired, Duty, Id, List, Mode, NoMemory, Node, Rows, Service, Task, Version, add,
-};
+use swarm_objects::{Desired, Duty, Id, List, Mode, NoMemory, Node, Service, Version, add};
 use swarm_plain::Plain;
 use swarm_plain::held::{is_held_place, place_numbers};
-use swarm_plain::least::comes_before;
 use swarm_plain::tasks::{create_task, remove_place};
 
 // The service's place is held, though it may not stay there.
@@ -100,100 +94,6 @@ pub fn global_duties(plain: &Plain) -> Result<List<Duty>, NoMemory>
     put_leaves(plain, &mut duties)?;
     put_comes(plain, &mut duties)?;
     Ok(duties)
-}
-
-// The task's node, where the service leaves it and it comes before the best one so far.
-fn keep_leave(plain: &Plain, service: &Service, best: Option<Id>, task: &Task) -> Option<Id>
-    ensures { let t = (world_of plain.now).tables in let s = service.now in
-        result ≡ keep_number (counts_for s) (is_to_leave t s) best task.now }
-{
-    let node = task.place.place_number();
-    if task.counts_for(service) && comes_before(node, best) && is_to_leave(plain, service, node) {
-        Some(node)
-    } else {
-        best
-    }
-}
-
-// The least node that the service leaves.
-fn least_leave(plain: &Plain, service: &Service) -> Option<Id>
-    ensures { let t = (world_of plain.now).tables in let s = service.now in
-        result ≡ least_number (counts_for s) (is_to_leave t s) None t.tasks }
-{
-    let mut least = None;
-    for task in plain.tasks.as_slice() {
-        least = keep_leave(plain, service, least, task);
-    }
-    least
-}
-
-// The first node that the service leaves.
-fn first_leave_of(plain: &Plain, service: &Service) -> Option<Duty>
-    ensures { let t = (world_of plain.now).tables in
-        result ≡ first_of (leave_duties t service.now service.now.spec.mode) }
-{
-    let Mode::Global = service.spec.mode else {
-        return None;
-    };
-    match least_leave(plain, service) {
-        Some(node) => Some(Duty::Leave(service.id, node)),
-        None => None,
-    }
-}
-
-// The first node that the service comes to.
-fn first_come_of(plain: &Plain, service: &Service) -> Option<Duty>
-    ensures { let t = (world_of plain.now).tables in
-        result ≡ first_of (come_duties t service.now service.now.spec.mode) }
-{
-    let Mode::Global = service.spec.mode else {
-        return None;
-    };
-    for node in plain.nodes.as_slice() {
-        if is_missing(plain, service, node) {
-            return Some(Duty::GlobalCreate(service.id, node.id));
-        }
-    }
-    None
-}
-
-// The first node that a service leaves.
-fn first_leave(plain: &Plain) -> Option<Duty>
-    ensures { let t = (world_of plain.now).tables in
-        result ≡ first_of (flat_map (λ s. leave_duties t s s.spec.mode) t.services) }
-{
-    for service in plain.services.as_slice() {
-        let duty = first_leave_of(plain, service);
-        if duty.is_some() {
-            return duty;
-        }
-    }
-    None
-}
-
-// The first node that a service comes to.
-fn first_come(plain: &Plain) -> Option<Duty>
-    ensures { let t = (world_of plain.now).tables in
-        result ≡ first_of (flat_map (λ s. come_duties t s s.spec.mode) t.services) }
-{
-    for service in plain.services.as_slice() {
-        let duty = first_come_of(plain, service);
-        if duty.is_some() {
-            return duty;
-        }
-    }
-    None
-}
-
-/// The first of these duties.
-#[tactic(auto, using(swarm_plain::proofs::First::append_first))]
-pub fn global_first(plain: &Plain) -> Option<Duty>
-    ensures { result ≡ first_of (global (world_of plain.now).tables) }
-{
-    match first_leave(plain) {
-        Some(duty) => Some(duty),
-        None => first_come(plain),
-    }
 }
 
 // The service has a task on each node.

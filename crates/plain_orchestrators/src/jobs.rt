@@ -7,11 +7,10 @@ ghost use Rattle.swarm_objects.specs.Duties.{effect_by, is_due};
 ghost use Rattle.swarm_objects.specs.Kinds.{same_duty};
 ghost use Rattle.swarm_objects.specs.Loops.Jobs.{has_old, is_old, is_old_of, jobs, next_duty};
 ghost use Rattle.swarm_objects.specs.Loops.Words.{duty_where};
-ghost use Rattle.swarm_objects.specs.Rows.{first_of};
 ghost use Rattle.swarm_plain.specs.Plain.{world_of};
 
 use swarm_jobs::{is_old, is_old_of};
-use swarm_objects::{Desired, Duty, Id, List, Mode, NoMemory, Rows, Service, Version, add};
+use swarm_objects::{Desired, Duty, Id, List, Mode, NoMemory, Service, Version, add};
 use swarm_plain::Plain;
 use swarm_plain::held::tally;
 use swarm_plain::tasks::{create_task, want};
@@ -77,44 +76,6 @@ pub fn job_duties(plain: &Plain) -> Result<List<Duty>, NoMemory>
     put_old(plain, &mut duties)?;
     put_next(plain, &mut duties)?;
     Ok(duties)
-}
-
-// The first task of an earlier iteration.
-fn first_old(plain: &Plain) -> Option<Duty>
-    ensures { let t = (world_of plain.now).tables in
-        result ≡ first_of (duty_where (is_old t) (λ x. Duty.Old x.id) t.tasks) }
-{
-    for task in plain.tasks.as_slice() {
-        if is_old(plain, task) {
-            return Some(Duty::Old(task.id));
-        }
-    }
-    None
-}
-
-// The first new task.
-fn first_next(plain: &Plain) -> Option<Duty>
-    ensures { let t = (world_of plain.now).tables in
-        result ≡ first_of (flat_map (λ s. next_duty t s s.spec.mode) t.services) }
-{
-    for service in plain.services.as_slice() {
-        let duty = next_duty(plain, service);
-        if duty.is_some() {
-            return duty;
-        }
-    }
-    None
-}
-
-/// The first of these duties.
-#[tactic(auto, using(swarm_plain::proofs::First::append_first))]
-pub fn job_first(plain: &Plain) -> Option<Duty>
-    ensures { result ≡ first_of (jobs (world_of plain.now).tables) }
-{
-    match first_old(plain) {
-        Some(duty) => Some(duty),
-        None => first_next(plain),
-    }
 }
 
 // A task with this id is to go, since its job has a later iteration; by the scan.

@@ -6,10 +6,8 @@ ghost use Rattle.swarm_objects.specs.Changes.{with_tables};
 ghost use Rattle.swarm_objects.specs.Duties.{is_due};
 ghost use Rattle.swarm_objects.specs.Loops.Reaper.{is_oldest_past, is_past, is_removable, is_trimmed, is_trimmed_in, reaper, without_task};
 ghost use Rattle.swarm_objects.specs.Loops.Words.{duty_where};
-ghost use Rattle.swarm_objects.specs.Rows.{Has, first_of};
 ghost use Rattle.swarm_objects.specs.Services.Runs.{has_open_run};
 ghost use Rattle.swarm_objects.specs.Tasks.Places.{is_in_place, tasks_of_place};
-ghost use Rattle.swarm_plain.specs.Entries.{HasOrder};
 ghost use Rattle.swarm_plain.specs.Plain.{world_of};
 
 use swarm_objects::{
@@ -121,55 +119,6 @@ pub fn reaper_duties(plain: &Plain) -> Result<List<Duty>, NoMemory>
     put_removable(plain, &mut duties)?;
     put_trimmed(plain, &mut duties)?;
     Ok(duties)
-}
-
-// The first task that is to be removed.
-fn first_removable(plain: &Plain) -> Option<Duty>
-    ensures { let t = (world_of plain.now).tables in
-        result ≡ first_of (duty_where is_removable (λ x. Duty.Delete x.id) t.tasks) }
-{
-    for task in plain.tasks.as_slice() {
-        if is_removable(task) {
-            return Some(Duty::Delete(task.id));
-        }
-    }
-    None
-}
-
-// The task, which is one of the plain world's, is the oldest of more ended tasks of its place than are kept. Where it
-// isn't past itself, none is counted.
-fn is_trimmed_in_order(plain: &Plain, task: &Task) -> bool
-    requires order { HasOrder (world_of plain.now).tables }
-    requires has { Has (world_of plain.now).tables.tasks task.now }
-    ensures { result ≡ is_trimmed (world_of plain.now).tables task.now }
-{
-    task.is_past() && is_trimmed(plain, task)
-}
-
-// The first old ended task.
-fn first_trimmed(plain: &Plain) -> Option<Duty>
-    requires { HasOrder (world_of plain.now).tables }
-    ensures { let t = (world_of plain.now).tables in
-        result ≡ first_of (duty_where (is_trimmed t) (λ x. Duty.Trim x.id) t.tasks) }
-{
-    for task in plain.tasks.as_slice() {
-        if is_trimmed_in_order(plain, task) {
-            return Some(Duty::Trim(task.id));
-        }
-    }
-    None
-}
-
-/// The first of these duties.
-#[tactic(auto, using(swarm_plain::proofs::First::append_first))]
-pub fn reaper_first(plain: &Plain) -> Option<Duty>
-    requires { HasOrder (world_of plain.now).tables }
-    ensures { result ≡ first_of (reaper (world_of plain.now).tables) }
-{
-    match first_removable(plain) {
-        Some(duty) => Some(duty),
-        None => first_trimmed(plain),
-    }
 }
 
 // Some task with this id is removable.

@@ -6,7 +6,7 @@ ghost use Rattle.swarm_objects.specs.Duties.{effect_by, is_due};
 ghost use Rattle.swarm_objects.specs.Kinds.{bit, same_duty};
 ghost use Rattle.swarm_objects.specs.Loops.Replicated.{create_duty, crowd, down_cmp, down_duty, first_to_go, is_gone, is_up, place_crowd, replicated};
 ghost use Rattle.swarm_objects.specs.Loops.Words.{duty_where};
-ghost use Rattle.swarm_objects.specs.Rows.{keep_least, first_of};
+ghost use Rattle.swarm_objects.specs.Rows.{keep_least};
 ghost use Rattle.swarm_objects.specs.Tasks.Places.{is_in_place};
 ghost use Rattle.swarm_objects.specs.Tasks.Words.{is_live, is_of, is_on, is_running};
 ghost use Rattle.swarm_plain.specs.Plain.{world_of};
@@ -201,71 +201,6 @@ pub fn replicated_duties(plain: &Plain) -> Result<List<Duty>, NoMemory>
     put_downs(plain, &mut duties)?;
     put_creates(plain, &mut duties)?;
     Ok(duties)
-}
-
-// The first task that goes with its service.
-fn first_gone(plain: &Plain) -> Option<Duty>
-    ensures { let t = (world_of plain.now).tables in
-        result ≡ first_of (duty_where (is_gone t) (λ x. Duty.Gone x.id) t.tasks) }
-{
-    for task in plain.tasks.as_slice() {
-        if is_gone(plain, task) {
-            return Some(Duty::Gone(task.id));
-        }
-    }
-    None
-}
-
-// The first place that is given up.
-fn first_down(plain: &Plain) -> Option<Duty>
-    ensures { let t = (world_of plain.now).tables in
-        result ≡ first_of (flat_map (λ s. down_duty t s s.spec.mode) t.services) }
-{
-    for service in plain.services.as_slice() {
-        let duty = down_duty(plain, service);
-        if duty.is_some() {
-            return duty;
-        }
-    }
-    None
-}
-
-// The first new task.
-fn first_create(plain: &Plain) -> Option<Duty>
-    ensures { let t = (world_of plain.now).tables in
-        result ≡ first_of (flat_map (λ s. create_duty t s s.spec.mode) t.services) }
-{
-    for service in plain.services.as_slice() {
-        let duty = create_duty(plain, service);
-        if duty.is_some() {
-            return duty;
-        }
-    }
-    None
-}
-
-// The first about the places of replicated services.
-#[tactic(auto, using(swarm_plain::proofs::First::append_first))]
-fn first_place(plain: &Plain) -> Option<Duty>
-    ensures { let t = (world_of plain.now).tables in
-        result ≡ first_of (flat_map (λ s. down_duty t s s.spec.mode) t.services
-        ++ flat_map (λ s. create_duty t s s.spec.mode) t.services) }
-{
-    match first_down(plain) {
-        Some(duty) => Some(duty),
-        None => first_create(plain),
-    }
-}
-
-/// The first of these duties.
-#[tactic(auto, using(swarm_plain::proofs::First::append_first))]
-pub fn replicated_first(plain: &Plain) -> Option<Duty>
-    ensures { result ≡ first_of (replicated (world_of plain.now).tables) }
-{
-    match first_gone(plain) {
-        Some(duty) => Some(duty),
-        None => first_place(plain),
-    }
 }
 
 // A task with this id is to go with its service; by the scan.

@@ -4,57 +4,22 @@ ghost use Rattle.std.specs.List.{list_any};
 ghost use Rattle.swarm_objects.specs.Bounds.{IsSmall};
 ghost use Rattle.swarm_objects.specs.Changes.{change_task, on_service, wanted, with_tables};
 ghost use Rattle.swarm_objects.specs.Duties.{effect_by, is_due};
-ghost use Rattle.swarm_objects.specs.Loops.Restart.{closed_by, is_current, is_held_up, is_over, new_attempt, next_task, raised, restart, shut, wants_raise, wants_restart};
+ghost use Rattle.swarm_objects.specs.Loops.Restart.{closed_by, is_current, is_held_up, new_attempt, next_task, raised, restart, shut, wants_raise, wants_restart};
 ghost use Rattle.swarm_objects.specs.Loops.Words.{duty_where};
-ghost use Rattle.swarm_objects.specs.Nodes.Words.{is_astray};
-ghost use Rattle.swarm_objects.specs.Rows.{change_row, first_of, on_row, task_id};
+ghost use Rattle.swarm_objects.specs.Rows.{change_row, on_row, task_id};
 ghost use Rattle.swarm_objects.specs.Tasks.New.{with_task};
 ghost use Rattle.swarm_objects.specs.Tasks.Places.{newest, tasks_of_place};
-ghost use Rattle.swarm_plain.specs.Entries.{HasOrder};
 ghost use Rattle.swarm_plain.specs.Plain.{world_of};
 
-use swarm_objects::homes::{is_astray, is_homed};
 use swarm_objects::{
-    Attempt, Closed, Desired, Duty, Id, List, NoMemory, Node, Place, Rows, Service, Task, Version,
-    add,
+    Attempt, Closed, Desired, Duty, Id, List, NoMemory, Place, Rows, Service, Task, Version, add,
 };
 use swarm_plain::Plain;
-use swarm_plain::halving::find_row;
 use swarm_plain::held::has_other;
 use swarm_plain::places::newest;
 use swarm_plain::tasks::{close, want, wish_of};
 use swarm_policy::no_restart;
 use swarm_restart::{holds_up, is_current, wants_restart};
-
-// The task has a node, and that isn't valid; the node is found by halving.
-fn is_lost(plain: &Plain, task: &Task) -> bool
-    requires { HasOrder (world_of plain.now).tables }
-    ensures { result ≡ is_astray (world_of plain.now).tables task.now }
-{
-    match task.node {
-        Some(node) => !find_row(plain.nodes.as_slice(), node).is_some_and(Node::is_valid_node),
-        None => false,
-    }
-}
-
-// It is over, as above.
-fn is_over_in(plain: &Plain, task: &Task) -> bool
-    requires { HasOrder (world_of plain.now).tables }
-    ensures { result ≡ is_over (world_of plain.now).tables task.now task.now.place }
-{
-    match task.place {
-        Place::Slot(_) => task.has_ended() || is_lost(plain, task),
-        Place::On(_) => task.has_ended() && is_homed(plain, task),
-    }
-}
-
-// It is live, and over.
-fn wants_restart_in(plain: &Plain, task: &Task) -> bool
-    requires { HasOrder (world_of plain.now).tables }
-    ensures { result ≡ wants_restart (world_of plain.now).tables task.now }
-{
-    task.is_live() && is_over_in(plain, task) && is_current(plain, task)
-}
 
 // Another task of its service and place holds it up.
 fn is_held_up(plain: &Plain, task: &Task) -> bool
@@ -112,45 +77,6 @@ pub fn restart_duties(plain: &Plain) -> Result<List<Duty>, NoMemory>
     put_restarts(plain, &mut duties)?;
     put_raises(plain, &mut duties)?;
     Ok(duties)
-}
-
-// The first live task that is over.
-fn first_over(plain: &Plain) -> Option<Duty>
-    requires { HasOrder (world_of plain.now).tables }
-    ensures { let t = (world_of plain.now).tables in
-        result ≡ first_of (duty_where (wants_restart t) (λ x. Duty.Restart x.id) t.tasks) }
-{
-    for task in plain.tasks.as_slice() {
-        if wants_restart_in(plain, task) {
-            return Some(Duty::Restart(task.id));
-        }
-    }
-    None
-}
-
-// The first task that has waited.
-fn first_waited(plain: &Plain) -> Option<Duty>
-    ensures { let t = (world_of plain.now).tables in
-        result ≡ first_of (duty_where (wants_raise t) (λ x. Duty.Raise x.id) t.tasks) }
-{
-    for task in plain.tasks.as_slice() {
-        if wants_raise(plain, task) {
-            return Some(Duty::Raise(task.id));
-        }
-    }
-    None
-}
-
-/// The first of these duties.
-#[tactic(auto, using(swarm_plain::proofs::First::append_first))]
-pub fn restart_first(plain: &Plain) -> Option<Duty>
-    requires { HasOrder (world_of plain.now).tables }
-    ensures { result ≡ first_of (restart (world_of plain.now).tables) }
-{
-    match first_over(plain) {
-        Some(duty) => Some(duty),
-        None => first_waited(plain),
-    }
 }
 
 // Some task with this id is to be restarted.

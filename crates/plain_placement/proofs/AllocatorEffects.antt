@@ -95,12 +95,6 @@ number_untaken (Ok x) services at old new is same = tt
 number_untaken (Err f) services at old new is same =
     ap (λ s. set services at s) (same ∙ sym is) ∙ set_same services at old is
 
-pub no_port_given : (version : ℕ) (w : World) (s target : ℕ) (udp : Bool) →
-    ◌≡◌ {A = Option ℕ} None (free_port w.tables udp) →
-    w ≡ effect_by version w (duty.Port s target udp)
-no_port_given version w s target udp e =
-    ap (λ (o : Option ℕ). with_tables w (give_port version w.tables s target udp o)) e
-
 port_given : (version : ℕ) (w : World) (s target : ℕ) (udp : Bool) (number : ℕ) (services : List Service) →
     Some number ≡ free_port w.tables udp →
     services ≡ change_row service_id s (with_port version (port_number target udp number)) w.tables.services →
@@ -176,17 +170,6 @@ addressing_done version w id x addresses slice new same long r e made is =
     (is ∙ ap (change_row task_id id (given_addresses version w.tables.clock addresses)) same)
 
 -- Notes.
-
-pub no_task_noted : (version : ℕ) (w : World) (id : ℕ) → ◌≡◌ {A = Option Task} None (row_at task_id id w.tables.tasks) →
-    w ≡ effect_by version w (duty.Note id)
-no_task_noted version w id e =
-    ap (λ (o : Option Task). with_tables w (on_row w.tables (with_exhausted version w.tables) o)) e
-
-pub nothing_noted : (version : ℕ) (w : World) (id : ℕ) (x : Task) → Some x ≡ row_at task_id id w.tables.tasks →
-    ◌≡◌ {A = Option Note} None (exhausted_for w.tables x) → w ≡ effect_by version w (duty.Note id)
-nothing_noted version w id x e none =
-    ap (λ (o : Option Note). with_tables w (on_row w.tables (λ n. change_task x.id (noted version n) w.tables) o)) none
-    ∙ ap (λ (o : Option Task). with_tables w (on_row w.tables (with_exhausted version w.tables) o)) e
 
 task_noted : (version : ℕ) (w : World) (id : ℕ) (x : Task) (note : Note) (tasks : List Task) →
     Some x ≡ row_at task_id id w.tables.tasks → Some note ≡ exhausted_for w.tables x →

@@ -1,4 +1,3 @@
-pub mod Alike
 pub mod AllocatorDue
 pub mod AllocatorEffects
 pub mod Filtering

@@ -1,5 +1,4 @@
 -- Words of private contracts.
-pub mod Alike
 pub mod Filtering
 pub mod Loads
 pub mod Scheduling

@@ -6,7 +6,7 @@ ghost use Rattle.swarm_objects.specs.Changes.{noted};
 ghost use Rattle.swarm_objects.specs.Duties.{effect_by, is_due};
 ghost use Rattle.swarm_objects.specs.Loops.Allocator.{allocator, exhausted, exhausted_for, exhausted_network, exhausted_port, gets_address, has_free_address, has_free_port, has_numbered_ports, is_fresh, new_addresses, port_duties, same_note, wants_note, with_port};
 ghost use Rattle.swarm_objects.specs.Loops.Words.{duty_where};
-ghost use Rattle.swarm_objects.specs.Rows.{IsRising, change_row, service_id, task_id, first_of};
+ghost use Rattle.swarm_objects.specs.Rows.{IsRising, change_row, service_id, task_id};
 ghost use Rattle.swarm_objects.specs.Services.Ports.{is_unnumbered};
 ghost use Rattle.swarm_objects.specs.Services.Words.{is_service_and};
 ghost use Rattle.swarm_objects.specs.Sound.{is_subnet};
@@ -186,81 +186,6 @@ pub fn allocator_duties(plain: &Plain) -> Result<List<Duty>, NoMemory>
     add_addresses(plain, &mut duties)?;
     add_notes(plain, &mut duties)?;
     Ok(duties)
-}
-
-// The service's first port that can get a number.
-fn first_port_of(plain: &Plain, service: &Service) -> Option<Duty>
-    ensures { result ≡ first_of (port_duties (tables_of plain.now) service.now) }
-{
-    for port in service.spec.ports.as_slice() {
-        if gets_number(plain, service, *port) {
-            return Some(Duty::Port(service.id, port.target, port.udp));
-        }
-    }
-    None
-}
-
-// That of all services.
-fn first_port(plain: &Plain) -> Option<Duty>
-    ensures { let t = tables_of plain.now in result ≡ first_of (flat_map (port_duties t) t.services) }
-{
-    for service in plain.services.as_slice() {
-        let duty = first_port_of(plain, service);
-        if duty.is_some() {
-            return duty;
-        }
-    }
-    None
-}
-
-// The first task that can get its addresses.
-fn first_address(plain: &Plain) -> Option<Duty>
-    ensures { let t = tables_of plain.now in
-        result ≡ first_of (duty_where (gets_address t) (λ x. Duty.Address x.id) t.tasks) }
-{
-    for task in plain.tasks.as_slice() {
-        if gets_address(plain, task) {
-            return Some(Duty::Address(task.id));
-        }
-    }
-    None
-}
-
-// The first task that is to get a note.
-fn first_note(plain: &Plain) -> Option<Duty>
-    ensures { let t = tables_of plain.now in
-        result ≡ first_of (duty_where (wants_note t) (λ x. Duty.Note x.id) t.tasks) }
-{
-    for task in plain.tasks.as_slice() {
-        if wants_note(plain, task) {
-            return Some(Duty::Note(task.id));
-        }
-    }
-    None
-}
-
-// The first about tasks.
-#[tactic(auto, using(swarm_plain::proofs::First::append_first))]
-fn first_for_task(plain: &Plain) -> Option<Duty>
-    ensures { let t = tables_of plain.now in
-        result ≡ first_of (duty_where (gets_address t) (λ x. Duty.Address x.id) t.tasks
-        ++ duty_where (wants_note t) (λ x. Duty.Note x.id) t.tasks) }
-{
-    match first_address(plain) {
-        Some(duty) => Some(duty),
-        None => first_note(plain),
-    }
-}
-
-/// The first of these duties.
-#[tactic(auto, using(swarm_plain::proofs::First::append_first))]
-pub fn allocator_first(plain: &Plain) -> Option<Duty>
-    ensures { result ≡ first_of (allocator (tables_of plain.now)) }
-{
-    match first_port(plain) {
-        Some(duty) => Some(duty),
-        None => first_for_task(plain),
-    }
 }
 
 // The port has this target and protocol, and can get a number.

@@ -1,24 +1,19 @@
 // The scheduler: its duties, and the doing of them.
-ghost use Rattle.std.specs.Prelude.{◌≡◌, ◌↔◌, IfOk, IsTrue, None, option_to_list, true};
-ghost use Rattle.std.specs.Bool.{OnTrue};
-ghost use Rattle.std.specs.Option.{option_copied};
-ghost use Rattle.plain_placement.specs.Inside.Alike.{IsIdle, WaitsLike, is_slot, later_idle};
+ghost use Rattle.std.specs.Prelude.{◌≡◌, IfOk, None, option_to_list};
 ghost use Rattle.std.specs.List.{list_any};
 ghost use Rattle.plain_placement.specs.Inside.Scheduling.{is_scheduled};
 ghost use Rattle.swarm_objects.specs.Changes.{change_task, in_state, noted, placed, with_tables};
 ghost use Rattle.swarm_objects.specs.Duties.{effect_by, is_due};
 ghost use Rattle.swarm_objects.specs.Kinds.{same_duty};
 ghost use Rattle.swarm_objects.specs.Loops.Scheduler.{is_to_drop, is_to_place, placing, schedule, scheduler};
-ghost use Rattle.swarm_objects.specs.Rows.{change_row, task_id, first_of};
+ghost use Rattle.swarm_objects.specs.Rows.{change_row, task_id};
 ghost use Rattle.swarm_plain.specs.Entries.{HasOrder};
 ghost use Rattle.swarm_plain.specs.Plain.{tables_of, world_of};
 
 use crate::allocator::set_note;
 use crate::best_node::best_node;
 use crate::filters::refusal_counts;
-use swarm_objects::{
-    Duty, Id, List, Ms, NoMemory, Note, Place, Rows, Same, Task, TaskState, Version, add,
-};
+use swarm_objects::{Duty, Id, List, Ms, NoMemory, Note, Rows, Task, TaskState, Version, add};
 use swarm_plain::Plain;
 use swarm_sched::{is_to_drop, is_to_place};
 
@@ -60,75 +55,6 @@ pub fn scheduler_duties(plain: &Plain) -> Result<List<Duty>, NoMemory>
         }
     }
     Ok(duties)
-}
-
-// It is a slot, and no node.
-fn is_slot(place: Place) -> bool
-    ensures { result ≡ is_slot place }
-{
-    match place {
-        Place::Slot(_) => true,
-        Place::On(_) => false,
-    }
-}
-
-// The same node is best for both, and the same is said where there is none.
-fn is_like(one: &Task, two: &Task) -> bool
-    ensures { IsTrue result ↔ (
-        (one.now.service ≡ two.now.service) × (one.now.note ≡ two.now.note)
-        × (one.now.template ≡ two.now.template) × (is_slot one.now.place ≡ true) × (is_slot two.now.place ≡ true)
-        ) }
-{
-    one.service == two.service
-        && one.note == two.note
-        && one.template.same(&two.template)
-        && is_slot(one.place)
-        && is_slot(two.place)
-}
-
-// It waits, as does this one about which there is nothing to do.
-fn waits_like(idle: Option<&Task>, task: &Task) -> bool
-    ensures { OnTrue result (WaitsLike (option_copied idle.entry) task.now) }
-{
-    match idle {
-        Some(other) => is_to_place(task) && is_like(task, other),
-        None => false,
-    }
-}
-
-// What there is to do about the task, beside one that waits and about which there is nothing to do.
-fn schedule_beside(plain: &Plain, idle: Option<&Task>, task: &Task) -> Option<Duty>
-    requires { IsIdle (world_of plain.now).tables (option_copied idle) }
-    ensures { option_to_list result ≡ schedule (world_of plain.now).tables task.now }
-{
-    if waits_like(idle, task) {
-        None
-    } else {
-        schedule(plain, task)
-    }
-}
-
-// The last task that waits.
-fn later_idle<'a>(idle: Option<&'a Task>, task: &'a Task) -> Option<&'a Task>
-    ensures { option_copied result ≡ later_idle (option_copied idle.entry) task.now }
-{
-    if is_to_place(task) { Some(task) } else { idle }
-}
-
-/// The first of these duties. Of the tasks behind its own nothing is worked out, and about tasks that wait for the same
-/// it is worked out once.
-pub fn scheduler_first(plain: &Plain) -> Option<Duty>
-    ensures { result ≡ first_of (scheduler (world_of plain.now).tables) }
-{
-    let mut idle = None;
-    for task in plain.tasks.as_slice() {
-        let duty = schedule_beside(plain, idle, task);
-        if duty.is_some() {
-            return duty;
-        }
-        idle = later_idle(idle, task);
-    }
-    None
 }
 
 // The duty is to drop the task.

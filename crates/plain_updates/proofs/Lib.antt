@@ -1,4 +1,4 @@
-pub mod FirstChanges
 pub mod UpdateLists
 pub mod UpdateSteps
 pub mod UpdatesDue
+pub mod WaitingPlaces

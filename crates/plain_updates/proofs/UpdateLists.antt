@@ -1,16 +1,13 @@
 -- Lists of duties on updates, part by part.
-use Rattle.std.proofs.Common.{◌≡◌, ℕ, Bool, true, false, cond, List, [], ◌++◌, append_assoc, append-nil, sym, ap, ◌∙◌, Some}
+use Rattle.std.proofs.Common.{◌≡◌, ℕ, Bool, true, cond, List, [], ◌++◌, append_assoc, sym, ap, ◌∙◌, Some}
 use Rattle.std.specs.Prelude.{OnOk, Result, Ok, Err, ◌&&◌}
-use Rattle.swarm_objects.specs.Loops.Update.{is_to_finish, is_to_replace, is_to_start, is_to_swap, lets_replace, open_duties, run_duties, update_duties}
+use Rattle.swarm_objects.specs.Loops.Update.{is_to_finish, is_to_replace, is_to_swap, lets_replace, open_duties, run_duties}
 use Rattle.swarm_objects.specs.Loops.Words.{places_where, when}
 use Rattle.swarm_objects.specs.Services.Runs.{fails, is_of_version, is_under_way}
-use Rattle.swarm_objects.specs.Services.Words.{is_job}
 use Rattle.swarm_objects.specs.Tasks.Places.{place_numbers}
 use Rattle.swarm_objects.specs.World.{Tables}
 use Rattle.swarm_objects.specs.declared.duties.Duty.{Duty}
 use Rattle.swarm_objects.specs.declared.duties.Duty.TheVariants as duty
-use Rattle.swarm_objects.specs.declared.services.Mode.{Mode}
-use Rattle.swarm_objects.specs.declared.services.Mode.TheVariants as mode
 use Rattle.swarm_objects.specs.declared.services.Service.{Service}
 use Rattle.swarm_objects.specs.declared.services.UpdateRun.{UpdateRun}
 
@@ -71,25 +68,3 @@ all_put t s run failed complete numbers first_numbers second_numbers old one two
     ∙ is))
     (third ∙ ap (λ (ks : List ℕ). two ++ places_where may (is_to_replace t s) (duty.Replace s.id) ks) (two_is ∙ is))
     (last ∙ ap (λ (b : Bool). three ++ when b (duty.Finish s.id)) ends)
-
-pub none_open : (t : Tables) (s : Service) (run : UpdateRun) (old : List Duty) → is_under_way run ≡ false →
-    old ≡ old ++ run_duties t s (Some run)
-none_open t s run old closed =
-    sym (append-nil old) ∙ ap (λ b. old ++ cond b (open_duties t s run) []) (sym closed)
-
-pub of_job : (t : Tables) (s : Service) (m : Mode) (old : List Duty) → is_job m ≡ true →
-    old ≡ old ++ update_duties t s m
-of_job t s (mode.Replicated n) old job = absurd cc
-of_job t s mode.Global old job = absurd cc
-of_job t s (mode.Job c n) old job = sym (append-nil old)
-
-pub of_other : (t : Tables) (s : Service) (m : Mode) (old one all : List Duty) → is_job m ≡ false →
-    one ≡ old ++ when (is_to_start t s) (duty.Start s.id) → all ≡ one ++ run_duties t s s.run →
-    all ≡ old ++ update_duties t s m
-of_other t s (mode.Replicated n) old one all other first last =
-    last ∙ ap (λ ds. ds ++ run_duties t s s.run) first
-    ∙ append_assoc old (when (is_to_start t s) (duty.Start s.id)) (run_duties t s s.run)
-of_other t s mode.Global old one all other first last =
-    last ∙ ap (λ ds. ds ++ run_duties t s s.run) first
-    ∙ append_assoc old (when (is_to_start t s) (duty.Start s.id)) (run_duties t s s.run)
-of_other t s (mode.Job c n) old one all other first last = absurd cc

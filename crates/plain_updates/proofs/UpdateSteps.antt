@@ -213,10 +213,6 @@ started w version id v found run rows is some made set' =
     (changed w.tables id v (with_run version (new_run w.tables v (start_status v.rolling_back))) rows at
     (set' ∙ ap (λ r. change_row service_id id (with_run version r) w.tables.services) made))
 
-pub unstarted : (w : World) (version id : ℕ) (found : Option Service) → found ≡ row_at service_id id w.tables.services →
-    found ≡ None → w ≡ effect_by version w (duty.Start id)
-unstarted w version id found is none = nowhere w id (start_run version w.tables) (sym is ∙ none)
-
 pub finished : (w : World) (version id : ℕ) (rows : List Service) →
     rows
     ≡ change_row service_id id (change_run (λ run. in_status (finished_status run.status) run) version)
@@ -252,11 +248,6 @@ fails_paused version t v true (Some x) e = absurd cc
 fails_paused version t v true None e = refl
 fails_paused version t v false (Some x) e = refl
 fails_paused version t v false None e = refl
-
-pub unfailed : (w : World) (version id : ℕ) (found : Option Service) → found ≡ row_at service_id id w.tables.services →
-    found ≡ None → w ≡ effect_by version w (duty.Fail id)
-unfailed w version id found is none =
-    nowhere w id (λ v. fail_run version w.tables v (may_roll_back v) v.previous) (sym is ∙ none)
 
 -- the service that goes back, with its run
 pub rolled : (t : Tables) (version : ℕ) (spec : ServiceSpec) (v before : Service) (run : UpdateRun) →
@@ -309,10 +300,6 @@ ordered version t v k order.StartFirst = refl
 
 one_some : (u v : Service) → Some u ≡ Some v → u ≡ v
 one_some u v e = cc
-
-pub unreplaced : (w : World) (version id k : ℕ) (found : Option Service) →
-    found ≡ row_at service_id id w.tables.services → found ≡ None → w ≡ effect_by version w (duty.Replace id k)
-unreplaced w version id k found is none = nowhere w id (replace_place version w.tables k) (sym is ∙ none)
 
 pub replaced : (w : World) (version id k : ℕ) (v u : Service) (found : Option Service) (run : Option UpdateRun)
     (task : Task)

@@ -1,18 +1,16 @@
 // What there is to do about rolling updates.
-ghost use Rattle.std.specs.Prelude.{◌≡◌, ◌==◌, ◌&&◌, ◌++◌, IfOk, None, OnOk, Some};
+ghost use Rattle.std.specs.Prelude.{◌≡◌, ◌==◌, ◌&&◌, ◌++◌, IfOk, OnOk, Some};
 ghost use Rattle.std.specs.List.{list_all, list_any};
 ghost use Rattle.std.specs.Option.{option_copied};
-ghost use Rattle.swarm_plain.specs.Inside.LeastNumber.{keep_number, least_number};
 ghost use Rattle.swarm_plain.specs.Inside.OfPlace.{is_suspect};
 ghost use Rattle.plain_updates.specs.Inside.Updating.{open_run, wants_fail, wants_finish, wants_replace, wants_start, wants_swap, while_open};
 ghost use Rattle.swarm_model.specs.Settle.{has_waiting_place};
 ghost use Rattle.swarm_objects.specs.Duties.{is_due};
 ghost use Rattle.swarm_objects.specs.Loops.Update.{is_to_finish, is_to_replace, is_to_start, is_to_swap, is_watched, lets_replace, run_duties, update, update_duties};
 ghost use Rattle.swarm_objects.specs.Loops.Words.{places_where, when};
-ghost use Rattle.swarm_objects.specs.Rows.{first_of};
 ghost use Rattle.swarm_objects.specs.Services.Runs.{is_of_version};
 ghost use Rattle.swarm_objects.specs.Services.Words.{is_live_clean};
-ghost use Rattle.swarm_objects.specs.Tasks.Places.{is_in_place, place_number, place_numbers, place_tasks};
+ghost use Rattle.swarm_objects.specs.Tasks.Places.{is_in_place, place_number, place_tasks};
 ghost use Rattle.swarm_objects.specs.Tasks.Words.{is_running};
 ghost use Rattle.swarm_plain.specs.Plain.{world_of};
 
@@ -23,7 +21,6 @@ use swarm_plain::Plain;
 use swarm_plain::held::{
     has_clean, has_dirty_place, has_live_dirty, is_dirty_place, is_suspect, place_numbers,
 };
-use swarm_plain::least::comes_before;
 use swarm_update::has_present_run;
 
 // A dirty place is there, and no run to the present template.
@@ -208,154 +205,6 @@ pub fn update_duties(plain: &Plain) -> Result<List<Duty>, NoMemory>
         put_update(plain, service, &mut duties)?;
     }
     Ok(duties)
-}
-
-// The number of the task's place, where its old tasks are to stop and it comes before the best one so far.
-fn keep_swap(plain: &Plain, service: &Service, best: Option<u64>, task: &Task) -> Option<u64>
-    ensures { let t = (world_of plain.now).tables in let s = service.now in
-        result ≡ keep_number (is_suspect s) (is_to_swap t s) best task.now }
-{
-    let number = task.place.place_number();
-    if is_suspect(service, task)
-        && comes_before(number, best)
-        && is_to_swap(plain, service, number)
-    {
-        Some(number)
-    } else {
-        best
-    }
-}
-
-// The least number of a place whose old tasks are to stop.
-fn least_swap(plain: &Plain, service: &Service) -> Option<u64>
-    ensures { let t = (world_of plain.now).tables in let s = service.now in
-        result ≡ least_number (is_suspect s) (is_to_swap t s) None t.tasks }
-{
-    let mut least = None;
-    for task in plain.tasks.as_slice() {
-        least = keep_swap(plain, service, least, task);
-    }
-    least
-}
-
-// The first place whose old tasks are to stop.
-fn first_swap(plain: &Plain, service: &Service, run: &UpdateRun) -> Option<Duty>
-    ensures { let t = (world_of plain.now).tables in let s = service.now in result ≡ first_of
-        (places_where (is_of_version s run.now) (is_to_swap t s) (Duty.Swap s.id) (place_numbers t s)) }
-{
-    if !is_of_version(service, run) {
-        return None;
-    }
-    match least_swap(plain, service) {
-        Some(number) => Some(Duty::Swap(service.id, number)),
-        None => None,
-    }
-}
-
-// The number of the task's place, where it is to get a new task and comes before the best one so far.
-fn keep_replacement(plain: &Plain, service: &Service, best: Option<u64>, task: &Task) -> Option<u64>
-    ensures { let t = (world_of plain.now).tables in let s = service.now in
-        result ≡ keep_number (is_suspect s) (is_to_replace t s) best task.now }
-{
-    let number = task.place.place_number();
-    if is_suspect(service, task)
-        && comes_before(number, best)
-        && is_to_replace(plain, service, number)
-    {
-        Some(number)
-    } else {
-        best
-    }
-}
-
-// The least number of a place that is to get a new task.
-fn least_replacement(plain: &Plain, service: &Service) -> Option<u64>
-    ensures { let t = (world_of plain.now).tables in let s = service.now in
-        result ≡ least_number (is_suspect s) (is_to_replace t s) None t.tasks }
-{
-    let mut least = None;
-    for task in plain.tasks.as_slice() {
-        least = keep_replacement(plain, service, least, task);
-    }
-    least
-}
-
-// The first place that is to get a new task.
-fn first_replacement(plain: &Plain, service: &Service, run: &UpdateRun) -> Option<Duty>
-    ensures { let t = (world_of plain.now).tables in let s = service.now in
-        let may = is_of_version s run.now && lets_replace t s run.now in
-        result ≡ first_of (places_where may (is_to_replace t s) (Duty.Replace s.id) (place_numbers t s)) }
-{
-    if !replaces(plain, service, run) {
-        return None;
-    }
-    match least_replacement(plain, service) {
-        Some(number) => Some(Duty::Replace(service.id, number)),
-        None => None,
-    }
-}
-
-// The first about the places of a run.
-#[tactic(auto, using(swarm_plain::proofs::First::append_first))]
-fn first_change(plain: &Plain, service: &Service, run: &UpdateRun) -> Option<Duty>
-    ensures { let t = (world_of plain.now).tables in let s = service.now in
-        let may = is_of_version s run.now && lets_replace t s run.now in
-        result ≡ first_of (places_where (is_of_version s run.now) (is_to_swap t s) (Duty.Swap s.id) (place_numbers t s)
-        ++ places_where may (is_to_replace t s) (Duty.Replace s.id) (place_numbers t s)) }
-{
-    match first_swap(plain, service, run) {
-        Some(duty) => Some(duty),
-        None => first_replacement(plain, service, run),
-    }
-}
-
-// The first about the run of a service.
-fn run_first(plain: &Plain, service: &Service, run: &UpdateRun) -> Option<Duty>
-    ensures { let t = (world_of plain.now).tables in result ≡ first_of (run_duties t service.now (Some run.now)) }
-{
-    if !is_under_way(run) {
-        return None;
-    }
-    if fails(plain, service, run) {
-        return Some(Duty::Fail(service.id));
-    }
-    if let Some(duty) = first_change(plain, service, run) {
-        return Some(duty);
-    }
-    if is_to_finish(plain, service, run) {
-        return Some(Duty::Finish(service.id));
-    }
-    None
-}
-
-// The first about the service.
-fn first_update(plain: &Plain, service: &Service) -> Option<Duty>
-    ensures { let t = (world_of plain.now).tables in
-        result ≡ first_of (update_duties t service.now service.now.spec.mode) }
-{
-    if service.spec.mode.is_job() {
-        return None;
-    }
-    if is_to_start(plain, service) {
-        return Some(Duty::Start(service.id));
-    }
-    match &service.run {
-        Some(run) => run_first(plain, service, run),
-        None => None,
-    }
-}
-
-/// The first of these duties.
-pub fn update_first(plain: &Plain) -> Option<Duty>
-    ensures { result ≡ first_of (update (world_of plain.now).tables) }
-{
-    for service in plain.services.as_slice() {
-        let duty = first_update(plain, service);
-        if duty.is_some() {
-            return duty;
-        }
-    }
-    None
 }
 
 // A place of a suspect task is to get a new one.

@@ -1,15 +1,14 @@
 -- An entry that comes next, and what it is answered.
-use Rattle.std.proofs.Common.{◌≡◌, ℕ, ◌+◌, [], ◌∷◌, ◌++◌, Bool, Result, Ok, Err, true, false, cond, None, Option, Some, inl, inr, refl, sym, ap, ◌∙◌, subst, arith}
-use Rattle.std.specs.Prelude.{◌&&◌, not}
+use Rattle.std.proofs.Common.{◌≡◌, ℕ, ◌+◌, [], ◌∷◌, ◌++◌, Result, Ok, Err, true, false, None, Option, Some, refl, sym, ap, ◌∙◌, subst}
 use Rattle.swarm_duties.specs.Reached.{IsReached}
 use Rattle.swarm_duties.specs.Stepping.{DoesStep}
 use Rattle.swarm_duties.specs.declared.steps.StepFault.{StepFault}
 use Rattle.swarm_duties.specs.declared.steps.StepFault.TheVariants.{Illegal, NoMemory}
-use Rattle.swarm_model.proofs.Base.Histories.{IsLegalFrom-snoc, admitted-unrefused, entries-call, outcome-admitted, replay-snoc}
+use Rattle.swarm_model.proofs.Base.Histories.{IsLegalFrom-snoc, admitted-unrefused, outcome-admitted, replay-snoc}
 use Rattle.swarm_model.proofs.Moves.Worlds.{IsOrderly}
-use Rattle.swarm_model.specs.Calls.{entered, is_full, outcome, refusal_of}
+use Rattle.swarm_model.specs.Calls.{outcome, refusal_of}
 use Rattle.swarm_model.specs.History.{effect, may_follow, step}
-use Rattle.swarm_model.specs.Outcome.{Gives, Meets, Outcome}
+use Rattle.swarm_model.specs.Outcome.{Gives, Outcome}
 use Rattle.swarm_objects.specs.Duties.{effect_by, is_due}
 use Rattle.swarm_model.specs.Settle.{settle_answer}
 use Rattle.swarm_objects.specs.CallWords.{is_settle}
@@ -21,44 +20,11 @@ use Rattle.swarm_objects.specs.declared.duties.Settle.{Settle}
 use Rattle.swarm_objects.specs.declared.calls.What.TheVariants as what
 use Rattle.swarm_objects.specs.declared.duties.Duty.{Duty}
 use Rattle.swarm_objects.specs.declared.replies.Refusal.{Refusal}
-use Rattle.swarm_objects.specs.declared.replies.Refusal.TheVariants as refusal
 use Rattle.swarm_objects.specs.declared.replies.Reply.{Reply}
 use Rattle.swarm_objects.specs.declared.replies.Reply.TheVariants as reply
 use Rattle.swarm_plain.proofs.EntryLemmas.{settle-unseen}
-use Rattle.swarm_plain.proofs.DutyEntries.{events-duty, order-duty, unwatched-duty}
+use Rattle.swarm_plain.proofs.DutyEntries.{order-duty, unwatched-duty}
 use Rattle.swarm_plain.specs.Entries.{HasOrder, entered_unseen}
-
--- a call that counts was answered as it must be
-pub counted_call : (before after : World) (c : Call) (reply : Reply) → may_follow before (what.Call c) ≡ true →
-    Meets (outcome before c) before reply after → (after.entries ≡ before.entries → ⊥) →
-    Gives (step before (what.Call c)) reply after
-counted_call before after c reply may (inl gives) more =
-    subst (λ (o : Outcome). Gives o reply after) (outcome-admitted before c may) gives
-counted_call before after c reply may (inr none) more = absurd (more (ap (λ (w : World). w.entries) none.1))
-
--- one that doesn't changed nothing
-pub uncounted_call : (before after : World) (c : Call) (reply : Reply) → may_follow before (what.Call c) ≡ true →
-    Meets (outcome before c) before reply after → after.entries ≡ before.entries → after ≡ before
-uncounted_call before after c reply may (inl gives) same =
-    let is = outcome-admitted before c may in
-    absurd (omega (
-      arith,
-      entries-call before c,
-      same,
-      ap (λ (w : World). w.entries) (gives.1 ∙ ap (λ (o : Outcome). o.after) is),
-    ))
-uncounted_call before after c reply may (inr none) same = none.1
-
-refused_by : (x y : Refusal) (halted full : Bool) (r : Refusal) →
-    ◌≡◌ {A = Option Refusal} (cond halted (Some x) (cond full (Some y) None)) (Some r) → (not halted && not full)
-    ≡ false
-refused_by x y true full r e = refl
-refused_by x y false true r e = refl
-refused_by x y false false r e = absurd cc
-
--- a call that is refused so may not follow
-pub not_admitted : (w : World) (c : Call) (r : Refusal) → refusal_of w c ≡ Some r → may_follow w (what.Call c) ≡ false
-not_admitted w c r e = refused_by refusal.Halted (refusal.Full w.entries) w.halted (is_full w c) r e
 
 -- what a duty does in place, where nobody watches
 pub unseen_duty : (w v after : World) (d : Duty) → w.watchers ≡ [] → v ≡ effect_by (w.entries + 1) w d →
@@ -66,17 +32,9 @@ pub unseen_duty : (w v after : World) (d : Duty) → w.watchers ≡ [] → v ≡
 unseen_duty w v after d none did is =
     is ∙ ap (entered_unseen (w.entries + 1)) did ∙ sym (unwatched-duty w d none)
 
--- and in a copy
-pub seen_duty : (w v after : World) (d : Duty) → v ≡ effect_by (w.entries + 1) w d → after ≡ entered w v →
-    after ≡ effect w d
-seen_duty w v after d did is = is ∙ ap (entered w) did
-
 pub seen_order : (w v : World) (d : Duty) → IsOrderly w → is_due w d ≡ true → v ≡ effect_by (w.entries + 1) w d →
     HasOrder v.tables
 seen_order w v d orderly due did = subst (λ (u : World). HasOrder u.tables) (sym did) (order-duty w d orderly due)
-
-pub seen_events : (w v : World) (d : Duty) → v ≡ effect_by (w.entries + 1) w d → v.events ≡ w.events
-seen_events w v d did = ap (λ (u : World). u.events) did ∙ events-duty (w.entries + 1) w d
 
 -- the settle test, as an entry
 pub settled_call : (w v : World) (budget : ℕ) (answer : Settle) (o : Option Refusal) →

@@ -1,3 +1,2 @@
-pub mod Quiet
 pub mod Reached
 pub mod Stepping

@@ -3,7 +3,6 @@
 
 mod effects;
 mod idle;
-mod quiet;
 mod replay;
 mod settling;
 mod steps;
@@ -11,7 +10,6 @@ mod update_waits;
 mod waits;
 
 pub use effects::do_duty;
-pub use quiet::{Quiet, quiet_after};
 pub use replay::Replay;
-pub use settling::{duties, next_duty, settle, settle_call, settle_knowing};
+pub use settling::{duties, settle, settle_call};
 pub use steps::{StepFault, answer, step};

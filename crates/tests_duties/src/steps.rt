@@ -1,11 +1,15 @@
 // One entry more: a loop's first duty alone, and Halt.
+ghost use Rattle.std.specs.Prelude.{◌≡◌, IfOk};
 ghost use Rattle.swarm_duties.specs.Reached.{IsReached};
+ghost use Rattle.swarm_objects.specs.Duties.{duties};
+ghost use Rattle.swarm_objects.specs.Rows.{first_of};
+ghost use Rattle.swarm_objects.specs.Usable.{IsUsableWorld};
 ghost use Rattle.swarm_plain.specs.Plain.{world_of};
 
 use crate::worlds::{copy_of, create, do_first, join, transact};
 use std::alloc::Global;
 use std::test::Fail;
-use swarm_duties::{Replay, do_duty, next_duty, step};
+use swarm_duties::{Replay, do_duty, duties, step};
 use swarm_objects::{Call, Duty, NoMemory, Role, What, add, list_of};
 use swarm_plain::Plain;
 
@@ -25,11 +29,20 @@ fn begun(alloc: Global) -> Result<Replay, Fail> {
     Ok(replay)
 }
 
-// Does the loop's first duty, if it has one.
+// The loop's first duty, if it has one.
+fn head(plain: &Plain, role: Role) -> Result<Option<Duty>, NoMemory>
+    requires { IsUsableWorld (world_of plain.now) }
+    ensures { IfOk result (λ head. head ≡ first_of (duties role (world_of plain.now))) }
+{
+    let all = duties(plain, role)?;
+    Ok(all.as_slice().first().copied())
+}
+
+// Does it.
 fn do_next(plain: &mut Plain, role: Role) -> Result<bool, NoMemory>
     requires { IsReached (world_of plain.old) }
 {
-    match next_duty(plain, role) {
+    match head(plain, role)? {
         Some(duty) => {
             do_duty(plain, duty)?;
             Ok(true)

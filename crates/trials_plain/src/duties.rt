@@ -1,5 +1,5 @@
 //! Calls of `swarm_duties`.
-ghost use Rattle.std.specs.Prelude.{◌≡◌, IfOk, Ok};
+ghost use Rattle.std.specs.Prelude.{◌≡◌, IfOk};
 ghost use Rattle.swarm_duties.specs.Reached.{IsReached};
 ghost use Rattle.swarm_duties.specs.Stepping.{DoesStep};
 ghost use Rattle.swarm_settle.specs.Matched.{IsMatched};
@@ -14,7 +14,7 @@ use swarm_plain::Plain;
 /// `settle`.
 pub fn settle(plain: &Plain) -> Result<Settle, NoMemory>
     requires { IsUsableWorld (world_of plain.now) }
-    ensures answers { result ≡ Ok (settle_answer (world_of plain.now)) }
+    ensures answers { IfOk result (λ answer. answer ≡ settle_answer (world_of plain.now)) }
     ensures matched { IfOk result (λ answer. answer ≡ Settle.Settled → IsMatched (world_of plain.now)) }
 {
     let answer = swarm_duties::settle(plain);

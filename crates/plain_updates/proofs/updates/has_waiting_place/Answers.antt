@@ -1,5 +1,5 @@
 use Rattle.std.proofs.Common.{◌∙◌}
-use Rattle.plain_updates.proofs.FirstChanges.{any_replaced}
+use Rattle.plain_updates.proofs.WaitingPlaces.{any_replaced}
 use Rattle.swarm_plain.specs.Plain.{tables_of}
 use Rattle.plain_updates.proofs.updates.has_waiting_place.Goals as goal
 

@@ -6,7 +6,7 @@ use Rattle.tests_duties.proofs.steps.do_next.Goals as goal
 
 pub do_duty-requires-clause-due : goal.do_duty-requires-clause-due
 do_duty-requires-clause-due c =
-    due_of_first c.args.role (world_of c.args.plain.now) c.in-Some.duty (sym c.next_duty.ensures ∙ c.in-Some.is)
+    due_of_first c.args.role (world_of c.args.plain.now) c.in-Some.duty (sym c.in_ok-duty.ensures ∙ c.in-Some.is)
 
-pub next_duty-requires : goal.next_duty-requires
-next_duty-requires c = usable (world_of c.args.plain.now) c.requires
+pub head-requires : goal.head-requires
+head-requires c = usable (world_of c.args.plain.now) c.requires
