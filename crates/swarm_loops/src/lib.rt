@@ -7,4 +7,4 @@ mod working;
 
 pub use ends::WorkEnd;
 pub use sharing::{each_loop_is_shared, share};
-pub use working::work;
+pub use working::{work, work_on};

@@ -87,8 +87,41 @@ fn after(place: usize, loops: usize) -> usize
 }
 
 /// Makes turns of the control loops, one loop after the other, until the history has ended, is full or memory is
-/// wanting, and says which. Where no loop has a duty it waits for news. The gate is called before each turn.
+/// wanting, and says which. Where no loop has a duty it waits for news. The gate is called before each turn. The pass is
+/// lent, so that no want of memory loses it.
 #[tactic(auto, using(crate::proofs::Adding::adds_then, crate::proofs::Adding::adds_none))]
+pub fn work_on<G: Gate, R: Wait>(
+    rt: &R,
+    cluster: &Cluster,
+    pass: &mut Pass,
+    roles: &[Role],
+    gate: &G,
+) -> WorkEnd
+    requires pass { IsPassOf cluster.now.cell pass.old }
+    requires roles { 0 < length roles.now }
+    ensures pass { IsPassOf cluster.now.cell pass.new }
+    ensures extends { Extends pass.old pass.new }
+    ensures lawful { IsLawful (seen pass.new) }
+    ensures adds { AddsTurns roles.now (mine pass.old) (mine pass.new) (seen pass.new) }
+    ensures end { EndsWork result (seen pass.new) }
+{
+    let mut turn: u64 = 0;
+    let mut place = 0;
+    let mut idle = Idle::NONE;
+    for _ in rt.forever() {
+        turn = turn.saturating_add(1);
+        gate.before(rt, pass.number(), turn);
+        let found = match make_turn(rt, cluster, pass, roles, place) {
+            Ok(found) => found,
+            Err(end) => return end,
+        };
+        idle = rest_if_idle(rt, cluster, pass, idle, found, roles.len());
+        place = after(place, roles.len());
+    }
+    unreachable!()
+}
+
+/// The same with a pass of one's own, which comes back.
 pub fn work<G: Gate, R: Wait>(
     rt: &R,
     cluster: &Cluster,
@@ -104,18 +137,6 @@ pub fn work<G: Gate, R: Wait>(
     ensures adds { AddsTurns roles.now (mine pass) (mine result.0) (seen result.0) }
     ensures end { EndsWork result.1 (seen result.0) }
 {
-    let mut turn: u64 = 0;
-    let mut place = 0;
-    let mut idle = Idle::NONE;
-    for _ in rt.forever() {
-        turn = turn.saturating_add(1);
-        gate.before(rt, pass.number(), turn);
-        let found = match make_turn(rt, cluster, &mut pass, roles, place) {
-            Ok(found) => found,
-            Err(end) => return (pass, end),
-        };
-        idle = rest_if_idle(rt, cluster, &mut pass, idle, found, roles.len());
-        place = after(place, roles.len());
-    }
-    unreachable!()
+    let end = work_on(rt, cluster, &mut pass, roles, gate);
+    (pass, end)
 }

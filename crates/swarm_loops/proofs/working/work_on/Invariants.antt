@@ -2,7 +2,7 @@ use Rattle.std.proofs.Common.{◌≡◌, ◌≤◌, ◌<◌, length}
 use Rattle.turn_cell.specs.Entries.{StartsWith}
 use Rattle.turn_cell.specs.Passes.{number_of, seen, known, mine, IsPassOf}
 use Rattle.swarm_loops.specs.Turns.{AddsTurns}
-use Rattle.swarm_loops.proofs.working.work.Given as goal
+use Rattle.swarm_loops.proofs.working.work_on.Given as goal
 
 abbrev pub invariant-loop : goal.invariant-loop
 invariant-loop g l =

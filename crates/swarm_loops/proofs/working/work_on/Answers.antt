@@ -3,14 +3,14 @@ use Rattle.turn_cell.specs.Entries.{StartsWith}
 use Rattle.turn_cell.specs.Passes.{number_of, seen, known, mine}
 use Rattle.swarm_loops.specs.Turns.{AddsTurns}
 use Rattle.swarm_loops.proofs.Adding.{adds_then, adds_moved, starts_then}
-use Rattle.swarm_loops.proofs.working.work.Goals as goal
+use Rattle.swarm_loops.proofs.working.work_on.Goals as goal
 
 pub loop-preserved : goal.loop-preserved
 loop-preserved g c =
     let i = c.loop.invariant in
     let t = c.make_turn.ensures in
     let r = c.rest_if_idle-idle.ensures in
-    let p = c.args.pass in
+    let p = c.args.pass.now in
     let q = c.loop.pass in
     let s = c.make_turn.new.pass in
     let u = c.rest_if_idle-idle.new.pass in
