@@ -8,7 +8,7 @@ use Rattle.script_grammar.specs.declared.lines.Line.TheVariants.{Blank, Call as 
 use Rattle.swarm_lines.proofs.Coming.{came_none, came_stays, came_then, saw}
 use Rattle.swarm_lines.proofs.Quiet.{quiet_ticks, quiet_turns, out_append, refused_append}
 use Rattle.swarm_lines.specs.Came.{Answered, Came, Stays, StaysBy}
-use Rattle.swarm_lines.specs.Inside.LineSteps.{DoesLine, PutsAnswer}
+use Rattle.swarm_lines.specs.Inside.LineSteps.{DoesLine, PutsAnswer, ending_by}
 use Rattle.swarm_lines.specs.Putting.{part_out, part_refused}
 use Rattle.swarm_lines.specs.Serial.{is_refused}
 use Rattle.swarm_lines.specs.Stretches.{BeganWait, Settled, StoppedWait, StopsTurns, StopsWait, Waited}
@@ -156,11 +156,6 @@ settle_line n (Err unanswered.NoMemory) result old mid new out out_after s made 
       inr (s.some.are_turns, s.some.few),
       puts.1,
     )
-
--- how the run ends where a call or a duty is no entry
-abbrev pub ending_by : Unanswered → Ending
-ending_by unanswered.Full = Full
-ending_by unanswered.NoMemory = NoMemory
 
 -- it ends within its duties
 pub settle_stops : (cause : Unanswered) (n : ℕ) (old new : List Entry) (out : Option (List ℕ)) →

@@ -89,15 +89,13 @@ some_still done next now new s keeps =
     subst (λ (l : List Step). KeepsLines done next l new) (sym (stays_own now new s))
     (keeps_still done next (own 0 now) now new (came_idle now new [] s) keeps)
 
-pub last_still : (done : List Line) (last : Line) (now new : List Entry) → Stays now new → KeepsLast done last now →
-    KeepsLast done last new
-last_still done last now new s k = record {
-  earlier = k.earlier;
-  later = k.later;
+pub last_still : (done : List Line) (last : Line) (earlier later : List Step) (now new : List Entry) → Stays now new →
+    KeepsLast done last earlier later now → KeepsLast done last earlier later new
+last_still done last earlier later now new s k = record {
   steps = stays_own now new s ∙ k.steps;
-  keeps = keeps_still (map asked done) None k.earlier (before_next k.later now) (before_next k.later new)
-      (before_still k.later now new (came_idle now new [] s)) k.keeps;
-  made = line_still (asked last) k.later now new (came_idle now new [] s) k.made;
+  keeps = keeps_still (map asked done) None earlier (before_next later now) (before_next later new)
+      (before_still later now new (came_idle now new [] s)) k.keeps;
+  made = line_still (asked last) later now new (came_idle now new [] s) k.made;
 }
 
 pub stop_still : (done : List Line) (next : Line) (now new : List Entry) → Stays now new → KeepsStop done next now →
@@ -160,10 +158,8 @@ done_some done left now keeps = none_next (map asked done) (next_asked left) (ow
 
 -- it is the last
 pub last_joins : (done : List Line) (last : Line) (old new : List Entry) (part : List Step) → Came old new part →
-    KeepsDone done old → KeepsLine (asked last) part new → KeepsLast done last new
+    KeepsDone done old → KeepsLine (asked last) part new → KeepsLast done last (own 0 old) part new
 last_joins done last old new part c keeps made = record {
-  earlier = own 0 old;
-  later = part;
   steps = own_came old new part c;
   keeps = keeps_still (map asked done) None (own 0 old) old (before_next part new) (came_idle old new part c) keeps;
   made = made;
@@ -189,12 +185,12 @@ cut_lines lines line earlier later now keeps made =
     keeps_more lines None (line ∷ []) earlier later (before_next later now) now (λ s. s) keeps
     (later, [], sym (append-nil later), made, refl)
 
-pub last_done : (done : List Line) (last : Line) (now : List Entry) → KeepsLast done last now →
-    KeepsDone (done ++ last ∷ []) now
-last_done done last now k =
+pub last_done : (done : List Line) (last : Line) (earlier later : List Step) (now : List Entry) →
+    KeepsLast done last earlier later now → KeepsDone (done ++ last ∷ []) now
+last_done done last earlier later now k =
     subst (λ (l : List Asked). KeepsLines l None (own 0 now) now) (sym (map-append asked done (last ∷ [])))
     (subst (λ (l : List Step). KeepsLines (map asked done ++ asked last ∷ []) None l now) (sym k.steps)
-    (cut_lines (map asked done) (asked last) k.earlier k.later now k.keeps k.made))
+    (cut_lines (map asked done) (asked last) earlier later now k.keeps k.made))
 
 undone_part : (now : List Entry) (next : Option Asked) (part : List Step) → KeepsUndone now next part →
     KeepsPart next part

@@ -247,6 +247,8 @@ ends_line OutFault input rest said says more H G out out_after lines keeps does 
   last = says;
   left = more;
   lines = lines;
+  earlier = own 0 H;
+  later = does.0;
   keeps = last_joins said says H G does.0 does.1.came keeps does.1.keeps;
 }
 ends_line NoRoom input rest said says more H G out out_after lines keeps does = elim does.2 [
@@ -298,7 +300,8 @@ some_by OutFault input rest G keeps says H out out_after does = record {
   done = keeps.done ++ keeps.last ∷ [];
   left = keeps.left;
   lines = keeps.lines ∙ sym (append_assoc keeps.done (keeps.last ∷ []) keeps.left);
-  keeps = done_some (keeps.done ++ keeps.last ∷ []) keeps.left G (last_done keeps.done keeps.last G keeps.keeps);
+  keeps = done_some (keeps.done ++ keeps.last ∷ []) keeps.left G
+      (last_done keeps.done keeps.last keeps.earlier keeps.later G keeps.keeps);
 }
 some_by NoRoom input rest G keeps says H out out_after does = keeps
 some_by Full input rest G keeps says H out out_after does = record {

@@ -32,10 +32,8 @@ KeepsDone done now = KeepsLines (map asked done) None (own 0 now) now
 abbrev pub KeepsSome : List Line → List Line → List Entry → Type 0
 KeepsSome done left now = KeepsLines (map asked done) (next_asked left) (own 0 now) now
 
--- these, and a last one
-pub record KeepsLast (done : List Line) (last : Line) (now : List Entry) : Type 0 where
-  pub earlier : List Step
-  pub later : List Step
+-- these, and a last one, with its steps behind theirs
+pub record KeepsLast (done : List Line) (last : Line) (earlier later : List Step) (now : List Entry) : Type 0 where
   pub steps : own 0 now ≡ earlier ++ later
   pub keeps : KeepsLines (map asked done) None earlier (before_next later now)
   pub made : KeepsLine (asked last) later now
@@ -99,7 +97,9 @@ pub record KeepsToLast (script : Reading) (now : List Entry) : Type 0 where
   pub last : Line
   pub left : List Line
   pub lines : script.said ≡ done ++ last ∷ left
-  pub keeps : KeepsLast done last now
+  pub earlier : List Step
+  pub later : List Step
+  pub keeps : KeepsLast done last earlier later now
 
 pub record KeepsFull (script : Reading) (now : List Entry) : Type 0 where
   pub done : List Line
@@ -133,8 +133,10 @@ KeepsFirstLinesOfScript (Some input) now = KeepsFirstLines (reading input) now
 pub record PutsToLast (out : Stream) (now : List Entry) : Type 0 where
   pub done : List Line
   pub last : Line
-  pub keeps : KeepsLast done last now
-  pub puts : PutsThenPrefix out (part_out keeps.earlier) (part_out keeps.later)
+  pub earlier : List Step
+  pub later : List Step
+  pub keeps : KeepsLast done last earlier later now
+  pub puts : PutsThenPrefix out (part_out earlier) (part_out later)
 
 -- what was put before anything is put of how the reading ended
 abbrev pub PutsReadReplies : Ending → Stream → List Entry → Type 0

@@ -42,6 +42,11 @@ DoesLine (Err JournalFault) line old new out out_after = ⊥
 DoesLine (Err (NoMemoryAt number fault)) line old new out out_after = ⊥
 DoesLine (Err (BadLine number fault)) line old new out out_after = ⊥
 
+-- how the run ends where a call or a duty is no entry
+abbrev pub ending_by : Unanswered → Ending
+ending_by unanswered.Full = Full
+ending_by unanswered.NoMemory = NoMemory
+
 -- what was put of a reply, by the result: whether it is a refusal, or how the run ends
 abbrev pub PutsReply : Reply → Result Bool Ending → Option (List ℕ) → Option (List ℕ) → Type 0
 PutsReply reply (Ok refused) out out_after = Appends out out_after (reply_text reply) × (refused ≡ is_refused reply)
