@@ -10,7 +10,7 @@ use Rattle.swarm_lines.specs.Closing.{AreBack, AreShared, IsClosed, IsDutyOf}
 use Rattle.swarm_lines.specs.Fitting.{AreFit, IsFit}
 use Rattle.swarm_lines.specs.ScriptSteps.{IsRead}
 use Rattle.swarm_lines.specs.declared.endings.Ending.{Ending}
-use Rattle.swarm_model.proofs.Base.Halting.{halted-call}
+use Rattle.swarm_model.proofs.Base.Halting.{halted-call, halted-duty}
 use Rattle.swarm_model.proofs.Base.Histories.{IsLegalFrom-append, replay-snoc, room_admitted, room_duty}
 use Rattle.swarm_model.specs.History.{IsLegal, may_follow, replay, replay_from, step, step_world}
 use Rattle.swarm_model.specs.Own.{Step, own, own_from, step_at}
@@ -128,7 +128,8 @@ halt_step w (Called call) running h = go (is_halt call) refl
     go : (b : Bool) → is_halt call ≡ b → Called call ≡ Called Halt
     go true e = halt_is call true e refl
     go false e = absurd (apart (step w (Called call)).after.halted h (halted-call w call e ∙ running))
-halt_step w (Done d) running h = absurd (apart w.halted h running)
+halt_step w (Done d) running h =
+    absurd (apart (step w (Done d)).after.halted h (halted-duty w d ∙ running))
 
 halt_stands : (w : World) (H : List Entry) → w.halted ≡ false → (replay_from w H).halted ≡ true →
     (e : Entry) × Has H e × (e.what ≡ Called Halt)

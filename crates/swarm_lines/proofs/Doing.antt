@@ -16,6 +16,7 @@ use Rattle.swarm_lines.specs.declared.endings.Ending.{Ending}
 use Rattle.swarm_lines.specs.declared.endings.Ending.TheVariants.{Done, Refused, ReadFault, OutFault, JournalFault, NoMemory, NoMemoryAt, BadLine, Full}
 use Rattle.swarm_lines.specs.declared.unanswered.Unanswered.{Unanswered}
 use Rattle.swarm_lines.specs.declared.unanswered.Unanswered.TheVariants as unanswered
+use Rattle.swarm_model.proofs.Following.Turns.{next_own}
 use Rattle.swarm_model.specs.History.{replay, step_reply}
 use Rattle.swarm_model.specs.Kept.{KeepsSettled}
 use Rattle.swarm_model.specs.Own.{Step, reply_to, step_at}
@@ -79,83 +80,90 @@ call_line call (Err unanswered.NoMemory) result old new out out_after made stays
 
 -- A settle line.
 
-record Behind (n : ℕ) (old mid new : List Entry) (reply : Reply) (s : Settled n old mid)
-    (a : Answered mid new (Settle n) reply) : Type 0 where
-  pub came : Came old new (s.some.turns ++ call_step mid new (Settle n) reply a ∷ [])
-  pub keeps : KeepsSettled n (s.some.turns ++ call_step mid new (Settle n) reply a ∷ [])
-  pub text : reply_text reply ≡ part_out (s.some.turns ++ call_step mid new (Settle n) reply a ∷ [])
-  pub refusal : is_refused reply ≡ part_refused (s.some.turns ++ call_step mid new (Settle n) reply a ∷ [])
+-- what was seen before the call's step
+stays_before : (mid new : List Entry) (part : List Step) (s : Step) → Came mid new part → part ≡ s ∷ [] →
+    Stays mid s.before
+stays_before mid new part s c is =
+    let n = next_own mid c.rest s [] (c.steps ∙ is) in
+    record { rest = n.gap; history = n.before_is; steps = n.none }
 
-behind : (n : ℕ) (old mid new : List Entry) (reply : Reply) (s : Settled n old mid)
-    (a : Answered mid new (Settle n) reply) → Behind n old mid new reply s a
-behind n old mid new reply s a =
+record Behind (n : ℕ) (old mid new : List Entry) (part : List Step) (s : Settled n old mid) : Type 0 where
+  pub came : Came old new (s.some.turns ++ part)
+  pub keeps : KeepsSettled n (s.some.turns ++ part)
+  pub text : part_out part ≡ part_out (s.some.turns ++ part)
+  pub refusal : part_refused part ≡ part_refused (s.some.turns ++ part)
+
+behind : (n : ℕ) (old mid new : List Entry) (part : List Step) (s : Settled n old mid) → Came mid new part →
+    (before : List Entry) → part ≡ step_at before (own_call (Settle n)) ∷ [] → Behind n old mid new part s
+behind n old mid new part s c before is =
     let turns = s.some.turns in
-    let last = call_step mid new (Settle n) reply a ∷ [] in
     let quiet = quiet_turns turns s.some.are_turns in
     record {
-      came = came_then old mid new turns last s.some.came a.one.came;
+      came = came_then old mid new turns part s.some.came c;
       keeps = record {
         turns = turns;
-        before = a.one.before;
-        steps = refl;
+        before = before;
+        steps = ap (λ (l : List Step). turns ++ l) is;
         are_turns = s.some.are_turns;
         most = s.some.few;
         idle = λ less. record {
           world = replay mid;
-          sees = saw mid a.one.before a.one.others;
+          sees = saw mid before (stays_before mid new part (step_at before (own_call (Settle n))) c is);
           idle = s.idle less;
         };
       };
-      text =
-          text_is mid new (Settle n) reply a
-          ∙ sym (out_append turns last ∙ ap (λ (l : List ℕ). l ++ part_out last) quiet.says);
-      refusal =
-          refusal_is mid new (Settle n) reply a
-          ∙ sym (refused_append turns last ∙ ap (λ (b : Bool). b || part_refused last) quiet.goes);
+      text = sym (out_append turns part ∙ ap (λ (l : List ℕ). l ++ part_out part) quiet.says);
+      refusal = sym (refused_append turns part ∙ ap (λ (b : Bool). b || part_refused part) quiet.goes);
     }
 
-pub settle_line : (n : ℕ) (given : Result Reply Unanswered) (result : Result Bool Ending) (old mid new : List Entry)
-    (out out_after : Option (List ℕ)) → Settled n old mid → IfOk given (λ reply. Answered mid new (Settle n) reply) →
-    IfErr given (λ cause. StaysBy cause mid new) → PutsAnswer given result out out_after →
-    DoesLine result (SettleLine n) old new out out_after
-settle_line n (Ok reply) (Ok refused) old mid new out out_after s a failed puts =
-    let b = behind n old mid new reply s a in (
-      s.some.turns ++ call_step mid new (Settle n) reply a ∷ [],
+-- the call came to nothing
+settle_none : (n : ℕ) (old mid new : List Entry) (part : List Step) (s : Settled n old mid) → Came mid new part →
+    part ≡ [] → Came old new s.some.turns
+settle_none n old mid new part s c none =
+    came_stays old mid new s.some.turns s.some.came (subst (Came mid new) none c)
+
+-- duties, and then the call
+pub settle_line : (r : Result Bool Ending) (n : ℕ) (old mid new : List Entry) (out out_after : Option (List ℕ)) →
+    Settled n old mid → DoesLine r (CallLine (Settle n)) mid new out out_after →
+    DoesLine r (SettleLine n) old new out out_after
+settle_line (Ok refused) n old mid new out out_after s does =
+    let b = behind n old mid new does.0 s does.1.came does.1.keeps.0 does.1.keeps.1 in (
+      s.some.turns ++ does.0,
       record { came = b.came; keeps = b.keeps },
-      subst (Appends out out_after) b.text puts.0,
-      puts.1 ∙ b.refusal,
+      subst (Appends out out_after) b.text does.2,
+      does.3 ∙ b.refusal,
     )
-settle_line n (Ok reply) (Err OutFault) old mid new out out_after s a failed puts =
-    let b = behind n old mid new reply s a in (
-      s.some.turns ++ call_step mid new (Settle n) reply a ∷ [],
+settle_line (Err OutFault) n old mid new out out_after s does =
+    let b = behind n old mid new does.0 s does.1.came does.1.keeps.0 does.1.keeps.1 in (
+      s.some.turns ++ does.0,
       record { came = b.came; keeps = b.keeps },
-      subst (AppendsPrefix out out_after) b.text puts,
+      subst (AppendsPrefix out out_after) b.text does.2,
     )
-settle_line n (Ok reply) (Err NoMemory) old mid new out out_after s a failed puts =
-    let b = behind n old mid new reply s a in
-    (s.some.turns ++ call_step mid new (Settle n) reply a ∷ [], b.came, inl b.keeps, puts)
-settle_line n (Ok reply) (Err Full) old mid new out out_after s a failed puts = absurd puts
-settle_line n (Ok reply) (Err Done) old mid new out out_after s a failed puts = absurd puts
-settle_line n (Ok reply) (Err Refused) old mid new out out_after s a failed puts = absurd puts
-settle_line n (Ok reply) (Err ReadFault) old mid new out out_after s a failed puts = absurd puts
-settle_line n (Ok reply) (Err JournalFault) old mid new out out_after s a failed puts = absurd puts
-settle_line n (Ok reply) (Err (NoMemoryAt number fault)) old mid new out out_after s a failed puts = absurd puts
-settle_line n (Ok reply) (Err (BadLine number fault)) old mid new out out_after s a failed puts = absurd puts
-settle_line n (Err unanswered.Full) result old mid new out out_after s made stays puts =
-    subst (λ (r : Result Bool Ending). DoesLine r (SettleLine n) old new out out_after) (sym puts.0) (
-      s.some.turns,
-      came_stays old mid new s.some.turns s.some.came stays.0,
-      (s.some.are_turns, s.some.few),
-      stays.1,
-      puts.1,
-    )
-settle_line n (Err unanswered.NoMemory) result old mid new out out_after s made stays puts =
-    subst (λ (r : Result Bool Ending). DoesLine r (SettleLine n) old new out out_after) (sym puts.0) (
-      s.some.turns,
-      came_stays old mid new s.some.turns s.some.came stays,
-      inr (s.some.are_turns, s.some.few),
-      puts.1,
-    )
+settle_line (Err NoMemory) n old mid new out out_after s does = elim does.2 [
+  | inl whole ↦ (
+    let b = behind n old mid new does.0 s does.1 whole.0 whole.1 in
+    (s.some.turns ++ does.0, b.came, inl b.keeps, does.3)
+  )
+  | inr none ↦ (
+    s.some.turns,
+    settle_none n old mid new does.0 s does.1 none,
+    inr (s.some.are_turns, s.some.few),
+    does.3,
+  )
+]
+settle_line (Err Full) n old mid new out out_after s does = (
+  s.some.turns,
+  settle_none n old mid new does.0 s does.1 does.2,
+  (s.some.are_turns, s.some.few),
+  does.3,
+  does.4,
+)
+settle_line (Err Done) n old mid new out out_after s does = absurd does
+settle_line (Err Refused) n old mid new out out_after s does = absurd does
+settle_line (Err ReadFault) n old mid new out out_after s does = absurd does
+settle_line (Err JournalFault) n old mid new out out_after s does = absurd does
+settle_line (Err (NoMemoryAt number fault)) n old mid new out out_after s does = absurd does
+settle_line (Err (BadLine number fault)) n old mid new out out_after s does = absurd does
 
 -- it ends within its duties
 pub settle_stops : (cause : Unanswered) (n : ℕ) (old new : List Entry) (out : Option (List ℕ)) →

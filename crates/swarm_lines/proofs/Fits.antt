@@ -24,7 +24,7 @@ use Rattle.swarm_objects.specs.declared.calls.Entry.{Entry}
 
 -- Lists of steps.
 
-fit_none : (part : List Step) → part ≡ [] → AreFit part
+pub fit_none : (part : List Step) → part ≡ [] → AreFit part
 fit_none part none s h = absurd (subst (λ (l : List Step). Has l s) none h)
 
 fit_append : (first rest : List Step) → AreFit first → AreFit rest → AreFit (first ++ rest)
