@@ -76,7 +76,7 @@ is_few : (a b : ℕ) (c : Bool) → nat_le a b ≡ c → (b + 1 ≤ a → ⊥) �
 is_few a b true e h = e
 is_few a b false e h = absurd (h (grind (arith, nat_tests)))
 
-le_is : (a b : ℕ) → nat_le a b ≡ true → a ≤ b
+pub le_is : (a b : ℕ) → nat_le a b ≡ true → a ≤ b
 le_is a b e = grind (arith, nat_tests)
 
 is_caller : (by workers : ℕ) (what : What) → ((by == 0) ≡ false → is_shared by workers what ≡ true) →
@@ -146,7 +146,7 @@ halt_stands w (e ∷ H) running h = go (step_world w e).halted refl (halt_stands
 -- It is caller 0's, which makes none by a line.
 
 -- caller 0's entry is among its steps
-has_own : (before H : List Entry) (e : Entry) → Has H e → (e.by == 0) ≡ true →
+pub has_own : (before H : List Entry) (e : Entry) → Has H e → (e.by == 0) ≡ true →
     (s : Step) × Has (own_from 0 before H) s × (s.entry ≡ e)
 has_own before [] e h own = absurd h
 has_own before (x ∷ H) e (inl same) own =

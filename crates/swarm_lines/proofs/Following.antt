@@ -143,7 +143,7 @@ follows_script workers NoMemory (Some input) (Some left) start ends keeps = reco
 
 -- What was put before its sink failed.
 
-last_cut : (workers : ℕ) (done : List Line) (last : Line) (earlier later : List Step) (start : List Entry) →
+pub last_cut : (workers : ℕ) (done : List Line) (last : Line) (earlier later : List Step) (start : List Entry) →
     Ends workers start → KeepsLast done last earlier later start →
     KeepsCut (halted start) (map asked done) (asked last) earlier later
 last_cut workers done last earlier later start ends k =

@@ -199,7 +199,7 @@ told (BadLine number fault) Full a b m n x y z k l j H read tells = let no : Ful
 
 -- Halt behind what was read puts nothing out, and is not refused.
 
-own_halted : (now start : List Entry) → Stays now start →
+pub own_halted : (now start : List Entry) → Stays now start →
     own 0 (start ++ own_call Halt ∷ []) ≡ own 0 now ++ step_at start (own_call Halt) ∷ []
 own_halted now start s =
     own_came start (start ++ own_call Halt ∷ []) (step_at start (own_call Halt) ∷ [])

@@ -1,16 +1,19 @@
 -- What is known of the whole history once all passes have come back, and what it has to do with what caller 0 kept.
 use Rattle.std.specs.Prelude.{◌≡◌, ℕ, ◌+◌, ◌<◌, ◌≤◌, List, [], ◌∷◌, ◌++◌, true}
 use Rattle.std.specs.List.{list_all}
+use Rattle.script_grammar.specs.HasText.{call_has_text}
 use Rattle.swarm_input.specs.Streams.{Stream}
 use Rattle.swarm_lines.specs.Came.{Halts, Stays}
+use Rattle.swarm_lines.specs.Lengths.{is_short}
 use Rattle.swarm_lines.specs.ScriptSteps.{IsRead}
 use Rattle.swarm_lines.specs.declared.endings.Ending.{Ending}
 use Rattle.swarm_model.specs.Script.{is_of_a_caller, own_call, share}
 use Rattle.swarm_objects.specs.Kinds.{role_of}
 use Rattle.swarm_objects.specs.Rows.{Has}
 use Rattle.swarm_objects.specs.declared.calls.Call.TheVariants.{Halt}
+use Rattle.swarm_objects.specs.declared.calls.Call.{Call}
 use Rattle.swarm_objects.specs.declared.calls.Entry.{Entry}
-use Rattle.swarm_objects.specs.declared.calls.What.TheVariants.{Duty as Done}
+use Rattle.swarm_objects.specs.declared.calls.What.TheVariants.{Call as Called, Duty as Done}
 use Rattle.swarm_objects.specs.declared.duties.Duty.{Duty}
 use Rattle.swarm_objects.specs.declared.loops.Role.{Role}
 use Rattle.turn_cell.specs.Entries.{mine_of}
@@ -42,3 +45,8 @@ pub record IsClosed (workers : ℕ) (ending : Ending) (script out : Stream) (H :
   pub stays : Stays now start
   pub ends : H ≡ start ++ own_call Halt ∷ []
   pub callers : list_all (is_of_a_caller workers) H ≡ true
+
+-- a journal can have the entry, if it is a call; each duty has a text
+pub record IsWritable (e : Entry) : Type 0 where
+  pub few : e.by ≤ 16
+  pub call : (c : Call) → e.what ≡ Called c → (call_has_text c ≡ true) × (is_short e ≡ true)

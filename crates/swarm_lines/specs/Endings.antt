@@ -36,3 +36,27 @@ TellsEnding (BadLine number fault) (BadLine n f) out =
 TellsEnding (BadLine number fault) (NoMemoryAt n f) out =
     (n ≡ number) × (f ≡ fault) × (out.after ≡ out.before) × (out.faults_after ≡ out.faults_before)
 TellsEnding before after out = (after ≡ before) × (out.after ≡ out.before) × (out.faults_after ≡ out.faults_before)
+
+-- how the run ends where memory is wanting
+abbrev pub out_of_memory : Ending → Ending
+out_of_memory (BadLine number fault) = NoMemoryAt number fault
+out_of_memory (NoMemoryAt number fault) = NoMemoryAt number fault
+out_of_memory Done = NoMemory
+out_of_memory Refused = NoMemory
+out_of_memory ReadFault = NoMemory
+out_of_memory OutFault = NoMemory
+out_of_memory JournalFault = NoMemory
+out_of_memory NoMemory = NoMemory
+out_of_memory Full = NoMemory
+
+-- how the run ends where the journal's sink failed: an earlier cause stands
+abbrev pub after_fault : Ending → Ending
+after_fault Done = JournalFault
+after_fault Refused = JournalFault
+after_fault ReadFault = ReadFault
+after_fault OutFault = OutFault
+after_fault JournalFault = JournalFault
+after_fault NoMemory = NoMemory
+after_fault (NoMemoryAt number fault) = NoMemoryAt number fault
+after_fault (BadLine number fault) = BadLine number fault
+after_fault Full = Full

@@ -53,8 +53,9 @@ pub fn take_duties<R: Wait>(
     let mut count = 0;
     for _ in rt.forever() {
         let look = caller::look(rt, cluster, pass);
-        let Some(duty) = look.settle.duty() else {
-            return Ok(look);
+        let duty = match look.settle.duty() {
+            Some(duty) => duty,
+            None => return Ok(look),
         };
         if count == budget {
             return Ok(look);

@@ -1,7 +1,8 @@
 use Rattle.std.proofs.Common.{◌≡◌, ◌≤◌, ◌<◌, ◌+◌, sym, ap, ◌∙◌, subst, arith, Ok, Err, Some}
 use Rattle.swarm_lines.proofs.Stretching.{took_all, took_both, took_full, took_idle, took_more, took_none}
 use Rattle.swarm_lines.proofs.stretches.take_duties.Goals as goal
-use Rattle.swarm_lines.specs.Came.{Turned}
+use Rattle.swarm_lines.specs.Came.{StaysBy, Turned}
+use Rattle.swarm_lines.specs.declared.unanswered.Unanswered.TheVariants.{Full, NoMemory}
 use Rattle.swarm_model.specs.History.{replay}
 use Rattle.swarm_model.specs.Settle.{settle_answer}
 use Rattle.swarm_objects.specs.Kinds.{duty_named}
@@ -40,3 +41,29 @@ loop-preserved g c =
       took_both c.args.budget c.loop.count (seen c.args.pass.now) (seen c.loop.pass) (seen c.look-look.new.pass)
       (seen c.turn.new.pass) i.5 c.look-look.ensures.stays
       (t.idle (c.in-Ok-false.is ∙ ap Ok c.in-Ok-false.field-0-test)))
+
+pub returns-in-None-duty-clause-ok : goal.returns-in-None-duty-clause-ok
+returns-in-None-duty-clause-ok g c =
+    let e = c.look-look.ensures in
+    took_idle c.args.budget c.loop.count (seen c.args.pass.now) (seen c.loop.pass) (seen c.look-look.new.pass)
+    c.loop.invariant.5 e.stays (ap duty_named (sym e.look.0) ∙ sym c.duty.ensures ∙ c.in-None-duty.is)
+
+pub returns-in-Err-Full-clause-err : goal.returns-in-Err-Full-clause-err
+returns-in-Err-Full-clause-err g c =
+    let i = c.loop.invariant in
+    let e = c.look-look.ensures in
+    let busy : duty_named (settle_answer (replay (seen c.look-look.new.pass))) ≡ Some c.in-Some-duty.duty =
+    ap duty_named (sym e.look.0) ∙ sym c.duty.ensures ∙ c.in-Some-duty.is in
+    let strict : c.loop.count < c.args.budget =
+    (let other = c.if-count-budget.false in let most = i.4 in omega arith) in
+    let stops : StaysBy Full (seen c.look-look.new.pass) (seen c.turn.new.pass) =
+    rw c.in-Err-Full.field-0-is at c.in-Err-Full.ensures.err in
+    took_full c.args.budget c.loop.count (seen c.args.pass.now) (seen c.loop.pass) (seen c.look-look.new.pass)
+    (seen c.turn.new.pass) c.in-Some-duty.duty i.5 strict e.stays busy stops
+
+pub returns-in-Err-NoMemory-clause-err : goal.returns-in-Err-NoMemory-clause-err
+returns-in-Err-NoMemory-clause-err g c =
+    let stays : StaysBy NoMemory (seen c.look-look.new.pass) (seen c.turn.new.pass) =
+    rw c.in-Err-NoMemory.field-0-is at c.in-Err-NoMemory.ensures.err in
+    (took_both c.args.budget c.loop.count (seen c.args.pass.now) (seen c.loop.pass) (seen c.look-look.new.pass)
+    (seen c.turn.new.pass) c.loop.invariant.5 c.look-look.ensures.stays stays).some

@@ -1,0 +1,14 @@
+pub mod Callers
+pub mod Came
+pub mod Closing
+pub mod Endings
+pub mod Finished
+pub mod Fitting
+pub mod Inside
+pub mod Lengths
+pub mod OfScript
+pub mod Putting
+pub mod ScriptSteps
+pub mod Serial
+pub mod Stretches
+pub mod Workers
