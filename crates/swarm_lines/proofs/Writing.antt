@@ -91,11 +91,11 @@ pub writable : (workers : ℕ) (ending : Ending) (script out : Stream) (H : List
 writable workers ending script out H c few e h = go (e.by == 0) refl
   where
     go : (b : Bool) → (e.by == 0) ≡ b → IsWritable e
-    go true own =
-        let step = has_own [] H e h own in
+    go true mine =
+        let step = has_own [] H e h mine in
         let there = Has-append_cases (own 0 c.now) (step_at c.start (own_call Halt) ∷ []) step.0
         (subst (λ (l : List Step). Has l step.0) (own_steps workers ending script out H c) step.1) in
-        own_writable e (zero_is e.by own)
+        own_writable e (zero_is e.by mine)
         (λ call is.
         step_writable (own 0 c.now) c.start step.0 c.read.fit there call
         (ap (λ (x : Entry). x.what) step.2 ∙ is))
