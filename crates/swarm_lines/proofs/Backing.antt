@@ -1,7 +1,7 @@
 -- From what passes say to what is known of the whole history.
 use Rattle.std.proofs.Common.{◌≡◌, ℕ, zero, suc, ◌+◌, ◌<◌, ◌≤◌, List, [], ◌∷◌, ◌++◌, length, get_or, refl, sym, ap, ◌∙◌, subst, arith, inl, inr, Some, slice_get}
 use Rattle.std.specs.List.{All, Any}
-use Rattle.std.proofs.lemmas.Option.{slice_get-get_or}
+use Rattle.std.proofs.lemmas.Option.{get_or_from_slice_get, slice_get-get_or}
 use Rattle.swarm_input.specs.Streams.{Stream}
 use Rattle.swarm_lines.proofs.Coming.{found}
 use Rattle.swarm_lines.specs.Closing.{AreBack, AreShared, IsDutyOf}
@@ -10,6 +10,7 @@ use Rattle.swarm_lines.specs.Workers.{AreReady, HasRead, HasWorked, HaveRun, Hav
 use Rattle.swarm_lines.specs.declared.endings.Ending.{Ending}
 use Rattle.swarm_loops.proofs.Adding.{adds_none}
 use Rattle.swarm_loops.specs.Turns.{AddsTurns, IsTurn}
+use Rattle.swarm_model.specs.Own.{own}
 use Rattle.swarm_model.specs.Script.{share}
 use Rattle.swarm_objects.specs.Rows.{Has}
 use Rattle.swarm_objects.specs.declared.calls.Entry.{Entry}
@@ -25,12 +26,20 @@ module _ {V : Type 0} {C : Ghosts V Entry} where
   pub are_new : (cell : TurnCell V Entry) (p : Pass V Entry C) (ps : List (Pass V Entry C)) → Each (IsNew cell) (p ∷ ps) →
       AreReady cell ps
   are_new cell p ps each k d below =
-      let new = each (k + 1) (get_or ps k d) (next p ps k d below) in
-      record { cell_is = new.0; number = new.1; empty = new.3 }
-    where
-      next : (p : Pass V Entry C) (ps : List (Pass V Entry C)) (k : ℕ) (d : Pass V Entry C) → k < length ps →
-          slice_get (p ∷ ps) (k + 1) ≡ Some (get_or ps k d)
-      next p ps k d below = slice_get-get_or (p ∷ ps) (k + 1) d (omega arith)
+      let new = each (suc k) (get_or ps k d) (slice_get-get_or (p ∷ ps) (suc k) d (omega (arith, below))) in
+      record { cell_is = new.0; number = new.1 ∙ omega arith; empty = new.3 }
+
+  -- the passes of a new cluster, caller 0's and the others
+  pub others_new : (cell : TurnCell V Entry) (p : Pass V Entry C) (ps passes : List (Pass V Entry C)) → passes ≡ p ∷ ps →
+      Each (IsNew cell) passes → AreReady cell ps
+  others_new cell p ps passes is each =
+      are_new cell p ps (subst (λ (l : List (Pass V Entry C)). Each (IsNew cell) l) is each)
+
+  pub first_new : (cell : TurnCell V Entry) (p : Pass V Entry C) (ps passes : List (Pass V Entry C)) → passes ≡ p ∷ ps →
+      Each (IsNew cell) passes → IsPassOf cell p × (number_of p ≡ 0) × (own 0 (seen p) ≡ [])
+  first_new cell p ps passes is each =
+      let new = (subst (λ (l : List (Pass V Entry C)). Each (IsNew cell) l) is each) 0 p refl in
+      (new.0, new.1, ap (own 0) new.2)
 
   -- A worker.
 
@@ -90,7 +99,8 @@ module _ {V : Type 0} {C : Ghosts V Entry} where
   every_number cell workers ending script out [] run n below = absurd (let count = run.count in omega arith)
   every_number cell workers ending script out (p ∷ ps) run n below =
       let within : n < length (p ∷ ps) = (let count = run.count in omega (arith, count, below)) in
-      (n, get_or (p ∷ ps) n p, within, refl, run.numbers n p within)
+      let q = get_or (p ∷ ps) n p in
+      (n, q, within, get_or_from_slice_get (p ∷ ps) n q q (slice_get-get_or (p ∷ ps) n p within), run.numbers n p within)
 
   shares_of : (cell : TurnCell V Entry) (workers n : ℕ) (H : List Entry) (p : Pass V Entry C) →
       HasWorked cell workers n p → mine_of (λ e. e.by) n H ≡ mine p → (m : ℕ × Entry) →

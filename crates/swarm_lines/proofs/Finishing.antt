@@ -1,7 +1,10 @@
 -- The end of a run: the ways of the journal, and the finished history.
-use Rattle.std.proofs.Common.{◌≡◌, ℕ, ◌+◌, ◌≤◌, inl, inr, List, [], ◌∷◌, ◌++◌, length, true, refl, Option, Some, None, sym, ◌∙◌, ap, subst, arith}
+use Rattle.std.proofs.Common.{◌≡◌, ℕ, ◌+◌, ◌≤◌, inl, inr, List, [], ◌∷◌, ◌++◌, length, true, refl, Option, Some, None, Result, Ok, Err, sym, ◌∙◌, ap, subst, arith}
 use Rattle.std.specs.List.{list_all}
 use Rattle.std.proofs.lemmas.List.{append-nil, length-append}
+use Rattle.std.specs.Io.KnownBytes.{Consumes}
+use Rattle.swarm_input.specs.declared.faults.WriteFault.{WriteFault}
+use Rattle.swarm_input.specs.declared.faults.WriteFault.TheVariants.{Failed as SinkFailed, NoMemory as NoSpace}
 use Rattle.swarm_input.proofs.Prefixes.{prefix_all, prefix_then, then_all}
 use Rattle.swarm_input.specs.Script.{bad_line}
 use Rattle.swarm_input.specs.Streams.{PutsBoth, PutsThenPrefix, Stream, stream_of}
@@ -12,11 +15,11 @@ use Rattle.swarm_lines.proofs.Telling.{as_unsaid, puts_halted}
 use Rattle.swarm_lines.specs.Callers.{PutsOf, PutsOwnReplies, PutsOwnUpToLast}
 use Rattle.swarm_lines.specs.Came.{Stays}
 use Rattle.swarm_lines.specs.Closing.{IsClosed}
-use Rattle.swarm_lines.specs.Endings.{after_fault, out_of_memory}
+use Rattle.swarm_lines.specs.Endings.{after_fault, after_journal, out_of_memory}
 use Rattle.swarm_lines.specs.Finished.{IsFinished, Stands}
 use Rattle.swarm_lines.specs.OfScript.{IsOfScript, PutsUpToLast}
 use Rattle.swarm_lines.specs.Putting.{part_out}
-use Rattle.swarm_lines.specs.ScriptSteps.{KeepsScript, PutsToLast}
+use Rattle.swarm_lines.specs.ScriptSteps.{KeepsFirstLinesOfScript, KeepsScript, PutsToLast}
 use Rattle.swarm_lines.specs.declared.endings.Ending.{Ending}
 use Rattle.swarm_lines.specs.declared.endings.Ending.TheVariants.{Done, Refused, ReadFault, OutFault, JournalFault, NoMemory, NoMemoryAt, BadLine, Full}
 use Rattle.swarm_model.proofs.Base.Halting.{entries-legal}
@@ -92,6 +95,22 @@ stands_memory (BadLine number fault) a b m n x z k j now s some = record {
   lines = as_unsaid a b now number fault s.lines;
   answers = part_of_both x z k j (part_out (own 0 now)) (bad_line number fault) s.answers;
 }
+
+-- By the journal's result.
+
+-- where memory is wanting, some first lines are kept
+pub some_source : (a b : Option (List ℕ)) (now : List Entry) (bytes : List ℕ) → Consumes a b bytes →
+    KeepsFirstLinesOfScript a now → KeepsScript NoMemory a b now
+some_source None b now bytes c h = tt
+some_source (Some input) None now bytes c h = absurd c
+some_source (Some input) (Some left) now bytes c h = h
+
+pub stands_after : (e : Ending) (r : Result (Unit {0}) WriteFault) (a b : Option (List ℕ)) (m n : ℕ)
+    (x z : Option (List ℕ)) (k j : ℕ) (now : List Entry) → Stands e (stream_of a b m n) (stream_of x z k j) now →
+    KeepsScript NoMemory a b now → Stands (after_journal e r) (stream_of a b m n) (stream_of x z k j) now
+stands_after e (Ok done) a b m n x z k j now s some = s
+stands_after e (Err SinkFailed) a b m n x z k j now s some = stands_fault e a b m n x z k j now s
+stands_after e (Err NoSpace) a b m n x z k j now s some = stands_memory e a b m n x z k j now s some
 
 -- The finished history.
 

@@ -4,6 +4,8 @@ use Rattle.swarm_lines.specs.declared.endings.Ending.{Ending}
 use Rattle.swarm_lines.specs.declared.endings.Ending.TheVariants.{Done, Refused, ReadFault, NoMemory, BadLine, NoMemoryAt, OutFault, JournalFault, Full}
 use Rattle.swarm_input.specs.declared.input.ReadFault.{ReadFault as ReaderFault}
 use Rattle.swarm_input.specs.declared.input.ReadFault.TheVariants.{Failed, Bad, NoMemory as NoRoom}
+use Rattle.swarm_input.specs.declared.faults.WriteFault.{WriteFault}
+use Rattle.swarm_input.specs.declared.faults.WriteFault.TheVariants.{Failed as SinkFailed, NoMemory as NoSpace}
 use Rattle.swarm_input.specs.Script.{reading, bad_line}
 use Rattle.swarm_input.specs.Streams.{Stream, PutsUnlessFailed}
 
@@ -60,3 +62,8 @@ after_fault NoMemory = NoMemory
 after_fault (NoMemoryAt number fault) = NoMemoryAt number fault
 after_fault (BadLine number fault) = BadLine number fault
 after_fault Full = Full
+
+abbrev pub after_journal : Ending → Result (Unit {0}) WriteFault → Ending
+after_journal ending (Ok done) = ending
+after_journal ending (Err NoSpace) = out_of_memory ending
+after_journal ending (Err SinkFailed) = after_fault ending

@@ -3,13 +3,13 @@
 
 mod caller;
 mod endings;
-mod joining;
 mod lines;
+mod runs;
 mod scripts;
 mod stretches;
 mod team;
 mod unanswered;
 
 pub use endings::Ending;
-pub use joining::run_beside;
+pub use runs::run_beside;
 pub use scripts::tell_ending;

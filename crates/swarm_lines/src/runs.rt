@@ -2,7 +2,7 @@
 ghost use Rattle.std.specs.Prelude.{◌≡◌, ◌≤◌, ◌+◌, length, IfOk, OnErr, []};
 ghost use Rattle.swarm_input.specs.Streams.{stream};
 ghost use Rattle.swarm_lines.specs.Closing.{AreBack};
-ghost use Rattle.swarm_lines.specs.Workers.{HasRead, HaveRun};
+ghost use Rattle.swarm_lines.specs.Workers.{AreReady, HasRead, HaveRun, HaveWorked};
 ghost use Rattle.swarm_model.specs.Own.{own};
 ghost use Rattle.turn_cell.specs.Entries.{Each};
 ghost use Rattle.turn_cell.specs.Passes.{number_of, seen, IsNew, IsPassOf};
@@ -60,8 +60,18 @@ fn run_all<R: Threads + Wait + Sync, S: Source, O: Sink, G: Gate + Sync>(
     };
     let (_, ending) = join_mut(
         rt,
-        &mut || work_all(rt, alloc, cluster, others, workers, gate),
-        &mut || read_and_halt(rt, alloc, cluster, first, script, out),
+        &mut ||
+            requires { (workers ≤ 16) × (length others.now ≡ workers) × AreReady cluster.now.cell others.now }
+            ensures { (length others.exit.now ≡ workers)
+                × HaveWorked cluster.entry.now.cell workers others.exit.now }
+        { work_all(rt, alloc, cluster, others, workers, gate) },
+        &mut || -> Ending
+            requires { IsPassOf cluster.now.cell first.now × (number_of first.now ≡ 0)
+                × (own 0 (seen first.now) ≡ []) }
+            ensures { HasRead cluster.entry.now.cell result
+                (stream S.left S.faults script.entry.now script.exit.now)
+                (stream O.written O.faults out.entry.now out.exit.now) first.exit.now }
+        { read_and_halt(rt, alloc, cluster, first, script, out) },
     );
     ending
 }

@@ -1,8 +1,8 @@
-use Rattle.swarm_lines.proofs.joining.read_and_halt.Goals as goal
+use Rattle.swarm_lines.proofs.runs.read_and_halt.Goals as goal
 use Rattle.turn_cell.specs.Passes.{seen}
 
-pub returns-clause-read : goal.returns-clause-read
-returns-clause-read g c = record {
+pub returns : goal.returns
+returns g c = record {
   cell_is = c.halt.ensures.pass.0;
   number = c.halt.ensures.pass.1;
   now = seen c.read_script-ending.new.pass;
