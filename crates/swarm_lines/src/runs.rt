@@ -91,7 +91,10 @@ pub fn run_beside<R: Threads + Wait + Sync, S: Source, O: Sink, G: Gate + Sync>(
         (stream O.written O.faults out.old out.new) r.1) }
     ensures untouched { OnErr result ((script.new ≡ script.old) × (out.new ≡ out.old)) }
 {
-    let (cluster, mut passes) = Cluster::new(alloc, workers as u64 + 1)?;
+    let (cluster, mut passes) = match Cluster::new(alloc, workers as u64 + 1) {
+        Ok(made) => made,
+        Err(NoMemory) => return Err(NoMemory),
+    };
     let ending = run_all(rt, alloc, &cluster, passes.as_mut_slice(), workers, script, out, gate);
     Ok((ending, cluster.close(passes)))
 }

@@ -3,7 +3,7 @@ use Rattle.swarm_lines.proofs.team.work_all.Goals as goal
 use Rattle.swarm_lines.specs.Workers.{HasWorked, IsReady}
 
 pub for_each_mut-requires-clause-accepts : goal.for_each_mut-requires-clause-accepts
-for_each_mut-requires-clause-accepts g c = λ i p below e. (
+for_each_mut-requires-clause-accepts g c = λ shared sent i p below e. (
   c.requires.workers,
   (let count = c.requires.count in omega (arith, count, below)),
   subst (IsReady c.args.cluster.now.cell (i + 1)) (sym e) (c.requires.ready i p.now below),
