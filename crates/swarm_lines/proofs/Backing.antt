@@ -1,5 +1,5 @@
 -- From what passes say to what is known of the whole history.
-use Rattle.std.proofs.Common.{◌≡◌, ℕ, zero, suc, ◌+◌, ◌<◌, ◌≤◌, List, [], ◌∷◌, ◌++◌, length, get_or, refl, sym, ap, ◌∙◌, subst, arith, inl, inr, Some, slice_get}
+use Rattle.std.proofs.Common.{◌≡◌, ℕ, zero, suc, ◌+◌, ◌<◌, ◌≤◌, List, [], ◌∷◌, ◌++◌, length, take, get_or, refl, sym, ap, ◌∙◌, subst, arith, inl, inr, Some, slice_get}
 use Rattle.std.specs.List.{All, Any}
 use Rattle.std.proofs.lemmas.Option.{get_or_from_slice_get, slice_get-get_or}
 use Rattle.swarm_input.specs.Streams.{Stream}
@@ -93,6 +93,24 @@ module _ {V : Type 0} {C : Ghosts V Entry} where
 
   -- Closing.
 
+  lent : {X : Type 0} (n : ℕ) (xs ys : List X) → length xs ≡ n → take n (xs ++ ys) ≡ xs
+  lent {X} n xs ys long = ap (λ (k : ℕ). take k (xs ++ ys)) (sym long) ∙ take-append xs ys
+    where
+      take-append : (xs ys : List X) → take (length xs) (xs ++ ys) ≡ xs
+      take-append [] ys = take_none ys
+        where
+          take_none : (ys : List X) → take 0 ys ≡ []
+          take_none [] = refl
+          take_none (y ∷ ys) = refl
+      take-append (x ∷ xs) ys = ap (λ (l : List X). x ∷ l) (take-append xs ys)
+
+  -- in the list that lent them
+  pub lent_run : (cell : TurnCell V Entry) (workers : ℕ) (ending : Ending) (script out : Stream) (n : ℕ)
+      (xs ys : List (Pass V Entry C)) → length xs ≡ n → HaveRun cell workers ending script out xs →
+      HaveRun cell workers ending script out (take n (xs ++ ys))
+  lent_run cell workers ending script out n xs ys long run =
+      subst (HaveRun cell workers ending script out) (sym (lent n xs ys long)) run
+
   pub every_number : (cell : TurnCell V Entry) (workers : ℕ) (ending : Ending) (script out : Stream)
       (passes : List (Pass V Entry C)) → HaveRun cell workers ending script out passes → (n : ℕ) → n < workers + 1 →
       Any (λ p. number_of p ≡ n) passes
@@ -112,11 +130,12 @@ module _ {V : Type 0} {C : Ghosts V Entry} where
       (turn.duty, turn.is_duty, turn.shared)
 
   pub are_back : (cell : TurnCell V Entry) (workers : ℕ) (ending : Ending) (script out : Stream)
-      (passes : List (Pass V Entry C)) (H : List Entry) → C.caller ≡ (λ e. e.by) →
+      (passes : List (Pass V Entry C)) (H : List Entry) →
       HaveRun cell workers ending script out passes → All (λ p. AgreesWith p H) passes →
-      ((n : ℕ) → workers + 1 ≤ n → mine_of (λ e. e.by) n H ≡ []) → AreBack workers ending script out H
-  are_back cell workers ending script out [] H by run agrees none = absurd (let count = run.count in omega arith)
-  are_back cell workers ending script out (p ∷ ps) H by run agrees none =
+      ((n : ℕ) → workers + 1 ≤ n → mine_of (λ e. e.by) n H ≡ []) → C.caller ≡ (λ e. e.by) →
+      AreBack workers ending script out H
+  are_back cell workers ending script out [] H run agrees none by = absurd (let count = run.count in omega arith)
+  are_back cell workers ending script out (p ∷ ps) H run agrees none by =
       let read = run.first p in
       let first = agrees 0 p (omega arith) in
       record {
@@ -124,9 +143,11 @@ module _ {V : Type 0} {C : Ghosts V Entry} where
         read = read.read;
         last = seen p;
         halts = read.halts;
-        stays = found (number_of p) (seen p) H
-            (read.number, first.0.0,
-            subst (λ (f : Entry → ℕ). mine_of f (number_of p) H ≡ mine_of f (number_of p) (seen p)) by first.1);
+        stays = found (number_of p) (seen p) H (
+          read.number,
+          first.0.0,
+          subst (λ (f : Entry → ℕ). mine_of f (number_of p) H ≡ mine_of f (number_of p) (seen p)) by first.1,
+        );
         shared = record {
           none = none;
           shares = λ n some few.

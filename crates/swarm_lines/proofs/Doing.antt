@@ -141,9 +141,9 @@ settle_line (Err OutFault) n old mid new out out_after s does =
     )
 settle_line (Err NoMemory) n old mid new out out_after s does = elim does.2 [
   | inl whole ↦ (
-    let b = behind n old mid new does.0 s does.1 whole.0 whole.1 in
-    (s.some.turns ++ does.0, b.came, inl b.keeps, does.3)
-  )
+      let b = behind n old mid new does.0 s does.1 whole.0 whole.1 in
+      (s.some.turns ++ does.0, b.came, inl b.keeps, does.3)
+      )
   | inr none ↦ (
     s.some.turns,
     settle_none n old mid new does.0 s does.1 none,

@@ -160,8 +160,12 @@ ticks_more (z ∷ ss) left part s keeps one =
 sum_more : (ss : List Stretch) (s : Stretch) → sum_ms (ss ++ s ∷ []) ≡ sum_ms ss + s.ms
 sum_more [] s = omega (arith, sum_by-cons (λ (x : Stretch). x.ms) s [])
 sum_more (z ∷ ss) s =
-    omega (arith, sum_more ss s, sum_by-cons (λ (x : Stretch). x.ms) z ss,
-    sum_by-cons (λ (x : Stretch). x.ms) z (ss ++ s ∷ []))
+    omega (
+      arith,
+      sum_more ss s,
+      sum_by-cons (λ (x : Stretch). x.ms) z ss,
+      sum_by-cons (λ (x : Stretch). x.ms) z (ss ++ s ∷ []),
+    )
 
 pub waiting_none : (ms : ℕ) (old : List Entry) → Waiting ms ms old old
 waiting_none ms old =

@@ -134,12 +134,7 @@ fn settle<R: Wait, O: Sink>(
 }
 
 // Does a wait line, which puts nothing out.
-fn wait_out<R: Wait>(
-    rt: &R,
-    cluster: &Cluster,
-    pass: &mut Pass,
-    ms: Ms,
-) -> Result<bool, Ending>
+fn wait_out<R: Wait>(rt: &R, cluster: &Cluster, pass: &mut Pass, ms: Ms) -> Result<bool, Ending>
     requires pass { IsPassOf cluster.now.cell pass.old × (number_of pass.old ≡ 0) }
     ensures pass { IsPassOf cluster.now.cell pass.new × (number_of pass.new ≡ 0) }
     ensures line { (out : Option (List ℕ)) → DoesLine result (Line.Wait ms) (seen pass.old) (seen pass.new) out out }

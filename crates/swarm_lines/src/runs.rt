@@ -95,6 +95,15 @@ pub fn run_beside<R: Threads + Wait + Sync, S: Source, O: Sink, G: Gate + Sync>(
         Ok(made) => made,
         Err(NoMemory) => return Err(NoMemory),
     };
-    let ending = run_all(rt, alloc, &cluster, passes.as_mut_slice(), workers, script, out, gate);
+    let ending = run_all(
+        rt,
+        alloc,
+        &cluster,
+        passes.as_mut_slice(),
+        workers,
+        script,
+        out,
+        gate,
+    );
     Ok((ending, cluster.close(passes)))
 }

@@ -100,12 +100,7 @@ fn stride<R: Wait>(
 }
 
 /// Does a wait line: strides until its time has passed, and then duties.
-pub fn wait<R: Wait>(
-    rt: &R,
-    cluster: &Cluster,
-    pass: &mut Pass,
-    ms: Ms,
-) -> Result<(), Unanswered>
+pub fn wait<R: Wait>(rt: &R, cluster: &Cluster, pass: &mut Pass, ms: Ms) -> Result<(), Unanswered>
     requires pass { IsPassOf cluster.now.cell pass.old × (number_of pass.old ≡ 0) }
     ensures pass { IsPassOf cluster.now.cell pass.new × (number_of pass.new ≡ 0) }
     ensures ok { OnOk result (Waited ms (seen pass.old) (seen pass.new)) }

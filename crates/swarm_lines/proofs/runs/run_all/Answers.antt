@@ -13,13 +13,13 @@ join_mut-ending-requires-after_bounds g c κs within =
     let long = parts.1 in (
       (
         (c.requires.workers, omega arith, others_new cell first others c.args.passes.now parts.0 c.requires.new),
-        search sendable depth 20,
-        search sendable depth 20,
+        (search sendable depth 20, search sendable depth 20),
       ),
       first_new cell first others c.args.passes.now parts.0 c.requires.new,
     )
 
 pub returns : goal.returns
 returns g c = record {
-  ran = have_run _ _ _ _ _ _ _ c.join_mut-ending.ensures.0.0 c.join_mut-ending.ensures.1 c.join_mut-ending.ensures.0.1;
+  ran = have_run _ _ _ _ _ _ _ c.join_mut-ending.ensures.0.met.1.0 c.join_mut-ending.ensures.1.met.1
+      c.join_mut-ending.ensures.0.met.1.1;
 }

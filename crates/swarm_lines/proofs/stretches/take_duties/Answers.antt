@@ -28,19 +28,29 @@ loop-preserved-in-Ok-true g c =
     (t.did (c.in-Ok-true.is ∙ ap Ok c.in-Ok-true.field-0-test)) in
     let below : c.loop.count + 1 ≤ c.args.budget =
     (let other = c.if-count-budget.false in let most = i.4 in omega arith) in
-    let strict : c.loop.count < c.args.budget = omega (arith, below) in
-    (tt, tt, t.pass.0, t.pass.1, below,
+    let strict : c.loop.count < c.args.budget = omega (arith, below) in (
+      tt,
+      tt,
+      t.pass.0,
+      t.pass.1,
+      below,
       took_more c.args.budget c.loop.count (seen c.args.pass.now) (seen c.loop.pass) (seen c.look-look.new.pass)
-      (seen c.turn.new.pass) c.in-Some-duty.duty i.5 strict e.stays busy did)
+          (seen c.turn.new.pass) c.in-Some-duty.duty i.5 strict e.stays busy did,
+    )
 
 pub loop-preserved : goal.loop-preserved
 loop-preserved g c =
     let i = c.loop.invariant in
-    let t = c.turn.ensures in
-    (tt, tt, t.pass.0, t.pass.1, i.4,
+    let t = c.turn.ensures in (
+      tt,
+      tt,
+      t.pass.0,
+      t.pass.1,
+      i.4,
       took_both c.args.budget c.loop.count (seen c.args.pass.now) (seen c.loop.pass) (seen c.look-look.new.pass)
-      (seen c.turn.new.pass) i.5 c.look-look.ensures.stays
-      (t.idle (c.in-Ok-false.is ∙ ap Ok c.in-Ok-false.field-0-test)))
+          (seen c.turn.new.pass) i.5 c.look-look.ensures.stays
+          (t.idle (c.in-Ok-false.is ∙ ap Ok c.in-Ok-false.field-0-test)),
+    )
 
 pub returns-in-None-duty-clause-ok : goal.returns-in-None-duty-clause-ok
 returns-in-None-duty-clause-ok g c =
