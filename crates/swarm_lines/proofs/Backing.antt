@@ -20,6 +20,17 @@ use Rattle.turn_cell.specs.declared.cell.TurnCell.{TurnCell}
 use Rattle.turn_cell.specs.declared.pass.Pass.{Pass}
 use Rattle.turn_cell.specs.declared.work.Counted.{Ghosts}
 
+take_none : {X : Type 0} (ys : List X) → take 0 ys ≡ []
+take_none [] = refl
+take_none (y ∷ ys) = refl
+
+take_first : {X : Type 0} (xs ys : List X) → take (length xs) (xs ++ ys) ≡ xs
+take_first [] ys = take_none ys
+take_first (x ∷ xs) ys = ap (λ l. x ∷ l) (take_first xs ys)
+
+lent : {X : Type 0} (n : ℕ) (xs ys : List X) → length xs ≡ n → take n (xs ++ ys) ≡ xs
+lent n xs ys long = ap (λ (k : ℕ). take k (xs ++ ys)) (sym long) ∙ take_first xs ys
+
 module _ {V : Type 0} {C : Ghosts V Entry} where
   -- New passes.
 
@@ -92,17 +103,6 @@ module _ {V : Type 0} {C : Ghosts V Entry} where
           subst (λ (n : ℕ). HasWorked cell workers n (get_or ps k d)) (omega arith) (worked k d (omega arith))
 
   -- Closing.
-
-  lent : {X : Type 0} (n : ℕ) (xs ys : List X) → length xs ≡ n → take n (xs ++ ys) ≡ xs
-  lent {X} n xs ys long = ap (λ (k : ℕ). take k (xs ++ ys)) (sym long) ∙ take-append xs ys
-    where
-      take-append : (xs ys : List X) → take (length xs) (xs ++ ys) ≡ xs
-      take-append [] ys = take_none ys
-        where
-          take_none : (ys : List X) → take 0 ys ≡ []
-          take_none [] = refl
-          take_none (y ∷ ys) = refl
-      take-append (x ∷ xs) ys = ap (λ (l : List X). x ∷ l) (take-append xs ys)
 
   -- in the list that lent them
   pub lent_run : (cell : TurnCell V Entry) (workers : ℕ) (ending : Ending) (script out : Stream) (n : ℕ)

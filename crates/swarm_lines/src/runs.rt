@@ -39,6 +39,7 @@ fn read_and_halt<R: Wait, S: Source, O: Sink>(
 
 // The workers and the script, each in its thread where one can be made. The workers come first: what comes second may
 // be called before them, and must not need them.
+#[tactic(auto, using(crate::proofs::Backing::have_run))]
 fn run_all<R: Threads + Wait + Sync, S: Source, O: Sink, G: Gate + Sync>(
     rt: &R,
     alloc: Global,

@@ -1,6 +1,6 @@
 use Rattle.std.proofs.Common.{◌≡◌, arith}
 use denote.Param.Send.{sendable}
-use Rattle.swarm_lines.proofs.Backing.{first_new, have_run, others_new}
+use Rattle.swarm_lines.proofs.Backing.{first_new, others_new}
 use Rattle.swarm_lines.proofs.runs.run_all.Goals as goal
 
 pub join_mut-ending-requires-after_bounds : goal.join_mut-ending-requires-after_bounds
@@ -17,9 +17,3 @@ join_mut-ending-requires-after_bounds g c κs within =
       ),
       first_new cell first others c.args.passes.now parts.0 c.requires.new,
     )
-
-pub returns : goal.returns
-returns g c = record {
-  ran = have_run _ _ _ _ _ _ _ c.join_mut-ending.ensures.0.met.1.0 c.join_mut-ending.ensures.1.met.1
-      c.join_mut-ending.ensures.0.met.1.1;
-}
