@@ -1,10 +1,11 @@
 -- Words of a form have one of few shapes, and of each clap finds that form.
-use Rattle.std.proofs.Common.{◌≡◌, ◌∙◌, ◌&&◌, ◌||◌, ◌⊎◌, inl, inr, ap, sym, subst, refl, ℕ, ◌≤◌, Bool, true, false, List, [], ◌∷◌, codes, Option, Some, None, Ok, Err, option_map}
+use Rattle.std.proofs.Common.{◌≡◌, ◌∙◌, ◌&&◌, ◌||◌, ◌⊎◌, inl, inr, ap, sym, subst, refl, ℕ, ◌≤◌, Bool, true, false, List, [], ◌∷◌, ◌++◌, take, drop, codes, Option, Some, None, Ok, Err, option_map, arith}
+use Rattle.std.proofs.lemmas.List.{take-append-drop}
 use Rattle.std.specs.Option.{option_eq, option_or}
 use Rattle.script_maker.specs.Script.{most_number}
 use Rattle.swarm_objects.specs.Same.{same_number}
 use Rattle.swarm_objects.proofs.SameLemmas.{Decides-option_eq, Decides-same_number}
-use Rattle.swarm_command.proofs.Numbered.{TakesNumber, first_digit, is_script_number, takes_digit}
+use Rattle.swarm_command.proofs.Numbered.{TakesNumber, are_few_workers, first_digit, is_script_number, takes_digit, workers_digit}
 use Rattle.std.proofs.lemmas.Slice.Eq.{bytes_eq-Decides}
 use Rattle.std.specs.Prelude.{if◌then◌else◌, is_some}
 use Rattle.std.specs.Str.{bytes_eq}
@@ -13,7 +14,7 @@ use Rattle.clap.specs.declared.parser.ArgMatches.{ArgMatches}
 use Rattle.clap.specs.declared.parser.ArgMatches.TheViews.{out-ArgMatches}
 use Rattle.clap.proofs.OnLiterals.{clap_on_literals}
 use Rattle.clap.proofs.WalkLemmas.{first_value-rows}
-use Rattle.swarm_command.specs.CommandLine.{IsReading, form_of, is_replay, is_run, made_number, number_beside_run, run_number, script_number}
+use Rattle.swarm_command.specs.CommandLine.{IsReading, form_of, is_replay, joined_workers, made_number, most_workers, number_beside_run, run_number, run_workers, script_number, usual_workers, workers_number}
 use Rattle.swarm_command.specs.Inside.Clap.{found_form, made_form, named_form, spells, swarm_app}
 use Rattle.swarm_command.specs.declared.forms.Form.{Form}
 use Rattle.swarm_command.specs.declared.forms.WordFault.TheVariants.{Other, NoMemory}
@@ -24,17 +25,9 @@ pub record Reads (form : Form) (words : List Text) : Type 0 where
   pub taken : takes swarm_app words ≡ true
   pub found : found_form (subcommand_of swarm_app words) ≡ Some form
 
-reads_run : Reads Run (codes "run" ∷ [])
+reads_run : Reads (Run usual_workers) (codes "run" ∷ [])
 unfolding clap_on_literals
 reads_run = record { taken = refl; found = refl }
-
-reads_joined : Reads Run (codes "run" ∷ codes "--workers=0" ∷ [])
-unfolding clap_on_literals
-reads_joined = record { taken = refl; found = refl }
-
-reads_spaced : Reads Run (codes "run" ∷ codes "--workers" ∷ codes "0" ∷ [])
-unfolding clap_on_literals
-reads_spaced = record { taken = refl; found = refl }
 
 reads_replay : Reads Replay (codes "replay" ∷ [])
 unfolding clap_on_literals
@@ -46,31 +39,81 @@ and_true false b e = cc
 
 -- the shapes
 
-run_reads : (words : List Text) → is_run words ≡ true → Reads Run words
-run_reads [] e = absurd (cc e)
-run_reads (a ∷ []) e = subst (λ x. Reads Run (x ∷ [])) (sym ((bytes_eq-Decides a (codes "run")).0 e)) reads_run
-run_reads (a ∷ b ∷ []) e =
-    let p = and_true (bytes_eq a (codes "run")) (bytes_eq b (codes "--workers=0")) e in
-    subst (λ x. Reads Run (x ∷ b ∷ [])) (sym ((bytes_eq-Decides a (codes "run")).0 p.0))
-    (subst (λ x. Reads Run (codes "run" ∷ x ∷ [])) (sym ((bytes_eq-Decides b (codes "--workers=0")).0 p.1)) reads_joined)
-run_reads (a ∷ b ∷ c ∷ []) e =
-    let p = and_true (bytes_eq a (codes "run")) (bytes_eq b (codes "--workers") && bytes_eq c (codes "0")) e in
-    let q = and_true (bytes_eq b (codes "--workers")) (bytes_eq c (codes "0")) p.1 in
-    subst (λ x. Reads Run (x ∷ b ∷ c ∷ [])) (sym ((bytes_eq-Decides a (codes "run")).0 p.0))
-    (subst (λ x. Reads Run (codes "run" ∷ x ∷ c ∷ [])) (sym ((bytes_eq-Decides b (codes "--workers")).0 q.0))
-    (subst (λ x. Reads Run (codes "run" ∷ codes "--workers" ∷ x ∷ [])) (sym ((bytes_eq-Decides c (codes "0")).0 q.1)) reads_spaced))
-run_reads (a ∷ b ∷ c ∷ d ∷ more) e = absurd (cc e)
-
 is_one_replay : (words : List Text) → is_replay words ≡ true → words ≡ codes "replay" ∷ []
 is_one_replay [] e = absurd (cc e)
 is_one_replay (a ∷ []) e = ap (λ (x : Text). x ∷ []) ((bytes_eq-Decides a (codes "replay")).0 e)
 is_one_replay (a ∷ b ∷ more) e = absurd (cc e)
 
--- `make` with a number
-
 if_some : (t : Bool) (o : Option ℕ) (n : ℕ) → (if t then o else None) ≡ Some n → (t ≡ true) × (o ≡ Some n)
 if_some true o n e = (refl, e)
 if_some false o n e = absurd (cc e)
+
+-- `run`, with a number of workers or without
+
+takes_workers : (word : Text) (n : ℕ) → workers_number word ≡ Some n → TakesNumber word
+takes_workers word n e =
+    let b = workers_digit word n e in
+    subst TakesNumber (sym b.is) (takes_digit b.digit b.rest b.inside.0 b.inside.1)
+
+reads_joined : (word : Text) (n : ℕ) → workers_number word ≡ Some n → Reads (Run n) (codes "run" ∷ (codes "--workers=" ++ word) ∷ [])
+reads_joined word n e =
+    let t = takes_workers word n e in
+    record { taken = t.joined; found = t.joined_found ∙ ap (λ (o : Option ℕ). option_map Run o) e }
+
+reads_spaced : (word : Text) (n : ℕ) → workers_number word ≡ Some n → Reads (Run n) (codes "run" ∷ codes "--workers" ∷ word ∷ [])
+reads_spaced word n e =
+    let t = takes_workers word n e in
+    record { taken = t.spaced; found = t.spaced_found ∙ ap (λ (o : Option ℕ). option_map Run o) e }
+
+-- the number stands behind `--workers=`
+record IsJoined (option : Text) (n : ℕ) : Type 0 where
+  pub number : workers_number (drop 10 option) ≡ Some n
+  pub is : option ≡ codes "--workers=" ++ drop 10 option
+
+is_joined : (option : Text) (n : ℕ) → joined_workers option ≡ Some n → IsJoined option n
+is_joined option n e =
+    let p = if_some (bytes_eq (take 10 option) (codes "--workers=")) (workers_number (drop 10 option)) n e in
+    record {
+      number = p.1;
+      is = sym (take-append-drop 10 option)
+          ∙ ap (λ l. l ++ drop 10 option) ((bytes_eq-Decides (take 10 option) (codes "--workers=")).0 p.0);
+    }
+
+run_reads : (words : List Text) (n : ℕ) → run_workers words ≡ Some n → Reads (Run n) words
+run_reads [] n e = absurd (cc e)
+run_reads (a ∷ []) n e =
+    let p = if_some (bytes_eq a (codes "run")) (Some usual_workers) n e in
+    let same : usual_workers ≡ n = cc p.1 in
+    subst (λ (k : ℕ). Reads (Run k) (a ∷ [])) same
+    (subst (λ x. Reads (Run usual_workers) (x ∷ [])) (sym ((bytes_eq-Decides a (codes "run")).0 p.0)) reads_run)
+run_reads (a ∷ b ∷ []) n e =
+    let p = if_some (bytes_eq a (codes "run")) (joined_workers b) n e in
+    let joined = is_joined b n p.1 in
+    subst (λ x. Reads (Run n) (x ∷ b ∷ [])) (sym ((bytes_eq-Decides a (codes "run")).0 p.0))
+    (subst (λ x. Reads (Run n) (codes "run" ∷ x ∷ [])) (sym joined.is) (reads_joined (drop 10 b) n joined.number))
+run_reads (a ∷ b ∷ c ∷ []) n e =
+    let p = if_some (bytes_eq a (codes "run") && bytes_eq b (codes "--workers")) (workers_number c) n e in
+    let q = and_true (bytes_eq a (codes "run")) (bytes_eq b (codes "--workers")) p.0 in
+    subst (λ x. Reads (Run n) (x ∷ b ∷ c ∷ [])) (sym ((bytes_eq-Decides a (codes "run")).0 q.0))
+    (subst (λ x. Reads (Run n) (codes "run" ∷ x ∷ c ∷ [])) (sym ((bytes_eq-Decides b (codes "--workers")).0 q.1))
+    (reads_spaced c n p.1))
+run_reads (a ∷ b ∷ c ∷ d ∷ more) n e = absurd (cc e)
+
+-- no more than there may be
+pub few_ran : (words : List Text) (n : ℕ) → run_workers words ≡ Some n → n ≤ most_workers
+few_ran [] n e = absurd (cc e)
+few_ran (a ∷ []) n e =
+    let p = if_some (bytes_eq a (codes "run")) (Some usual_workers) n e in
+    let same : usual_workers ≡ n = cc p.1 in
+    subst (λ (k : ℕ). k ≤ most_workers) same (omega arith)
+few_ran (a ∷ b ∷ []) n e =
+    are_few_workers (drop 10 b) n (is_joined b n (if_some (bytes_eq a (codes "run")) (joined_workers b) n e).1).number
+few_ran (a ∷ b ∷ c ∷ []) n e =
+    are_few_workers c n
+    (if_some (bytes_eq a (codes "run") && bytes_eq b (codes "--workers")) (workers_number c) n e).1
+few_ran (a ∷ b ∷ c ∷ d ∷ more) n e = absurd (cc e)
+
+-- `make` with a number
 
 -- two words, the second a script's number
 record IsMade (words : List Text) (n : ℕ) : Type 0 where
@@ -142,7 +185,7 @@ is_number o n e = (Decides-option_eq same_number Decides-same_number o (Some n))
 
 -- what clap makes of a spelling of a form
 pub reads : (form : Form) (words : List Text) → spells form words ≡ true → Reads form words
-reads Run words e = run_reads words e
+reads (Run n) words e = run_reads words n (number_is (run_workers words) n e)
 reads Replay words e = subst (Reads Replay) (sym (is_one_replay words e)) reads_replay
 reads (Make n) words e =
     let m = is_made words n (number_is (made_number words) n e) in
@@ -157,23 +200,23 @@ same_form : (g f : Form) (words : List Text) → spells g words ≡ true → Som
 same_form g f words h e = let same : g ≡ f = cc e in subst (λ (x : Form). spells x words ≡ true) same h
 
 pub is_spelled : (form : Form) (words : List Text) → form_of words ≡ Some form → spells form words ≡ true
-is_spelled form words e = go (is_run words) refl (is_replay words) refl (made_number words) refl (run_number words) refl e where
-  go : (run : Bool) → is_run words ≡ run → (replay : Bool) → is_replay words ≡ replay → (made : Option ℕ) → made_number words ≡ made
+is_spelled form words e =
+    go (run_workers words) refl (is_replay words) refl (made_number words) refl (run_number words) refl e where
+  go : (workers : Option ℕ) → run_workers words ≡ workers → (replay : Bool) → is_replay words ≡ replay → (made : Option ℕ) → made_number words ≡ made
       → (ran : Option ℕ) → run_number words ≡ ran
-      → (if run then Some Run else (if replay then Some Replay else option_or (option_map Make made) (option_map MakeRun ran))) ≡ Some form
+      → option_or (option_map Run workers) (if replay then Some Replay else option_or (option_map Make made) (option_map MakeRun ran)) ≡ Some form
       → spells form words ≡ true
-  go true is replay other made m ran r e = same_form Run form words is e
-  go false is true other made m ran r e = same_form Replay form words other e
-  go false is false other (Some n) m ran r e = same_form (Make n) form words (is_number (made_number words) n m) e
-  go false is false other None m (Some n) r e = same_form (MakeRun n) form words (is_number (run_number words) n r) e
-  go false is false other None m None r e = absurd (cc e)
-
-is_form : (run : Bool) (words : List Text) → is_run words ≡ run → run ≡ true → form_of words ≡ Some Run
-is_form true words is e = rw is refl
-is_form false words is e = absurd (cc e)
+  go (Some k) is replay other made m ran r e = same_form (Run k) form words (is_number (run_workers words) k is) e
+  go None is true other made m ran r e = same_form Replay form words other e
+  go None is false other (Some n) m ran r e = same_form (Make n) form words (is_number (made_number words) n m) e
+  go None is false other None m (Some n) r e = same_form (MakeRun n) form words (is_number (run_number words) n r) e
+  go None is false other None m None r e = absurd (cc e)
 
 pub asks_for : (form : Form) (words : List Text) → spells form words ≡ true → form_of words ≡ Some form
-asks_for Run words e = is_form true words e refl
+asks_for (Run n) words e =
+    ap {B = Option Form} (λ (o : Option ℕ). option_or (option_map Run o)
+    (if is_replay words then Some Replay else option_or (option_map Make (made_number words)) (option_map MakeRun (run_number words))))
+    (number_is (run_workers words) n e)
 asks_for Replay words e = subst (λ ws. form_of ws ≡ Some Replay) (sym (is_one_replay words e)) refl
 asks_for (Make n) words e =
     let m = is_made words n (number_is (made_number words) n e) in
@@ -186,6 +229,9 @@ asks_for (MakeRun n) words e =
 
 -- words with a number, and what they ask for
 
+pub asks_run : (n : ℕ) (words : List Text) → run_workers words ≡ Some n → form_of words ≡ Some (Run n)
+asks_run n words e = asks_for (Run n) words (is_number (run_workers words) n e)
+
 pub asks_make : (n : ℕ) (words : List Text) → made_number words ≡ Some n → form_of words ≡ Some (Make n)
 asks_make n words e = asks_for (Make n) words (is_number (made_number words) n e)
 
@@ -196,6 +242,9 @@ number_beside : (s f : Bool) (first second : Text) (n : ℕ) → (if s then scri
 number_beside true f first second n e = is_script_number first n e
 number_beside false true first second n e = is_script_number second n e
 number_beside false false first second n e = absurd (cc e)
+
+pub workers_within : (n : ℕ) (words : List Text) → form_of words ≡ Some (Run n) → n ≤ most_workers
+workers_within n words e = few_ran words n (number_is (run_workers words) n (is_spelled (Run n) words e))
 
 pub made_within : (n : ℕ) (words : List Text) → form_of words ≡ Some (Make n) → n ≤ most_number
 made_within n words e =
@@ -208,14 +257,14 @@ ran_within n words e =
     number_beside (bytes_eq m.second (codes "--run")) (bytes_eq m.first (codes "--run")) m.first m.second n m.number
 
 -- some form is asked for, where a test says so
-pub any_asked : (run replay : Bool) (made ran : Option ℕ)
-    → (run || (replay || (is_some made || is_some ran)))
-    ≡ is_some (if run then Some Run else (if replay then Some Replay else option_or (option_map Make made) (option_map MakeRun ran)))
-any_asked true replay made ran = refl
-any_asked false true made ran = refl
-any_asked false false (Some n) ran = refl
-any_asked false false None (Some n) = refl
-any_asked false false None None = refl
+pub any_asked : (workers : Option ℕ) (replay : Bool) (made ran : Option ℕ)
+    → (is_some workers || (replay || (is_some made || is_some ran)))
+    ≡ is_some (option_or (option_map Run workers) (if replay then Some Replay else option_or (option_map Make made) (option_map MakeRun ran)))
+any_asked (Some k) replay made ran = refl
+any_asked None true made ran = refl
+any_asked None false (Some n) ran = refl
+any_asked None false None (Some n) = refl
+any_asked None false None None = refl
 
 -- reading that wants memory
 pub unread_some : (a : Option Form) → is_some a ≡ true → IsReading a (Err NoMemory)

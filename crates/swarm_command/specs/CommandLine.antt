@@ -1,5 +1,5 @@
 -- The words that the program takes.
-use Rattle.std.specs.Prelude.{ℕ, ◌≡◌, nat_le, List, [], ◌∷◌, codes, Bool, false, ◌&&◌, if◌then◌else◌, Option, Some, None, option_map, Result, Ok, Err, ⊤}
+use Rattle.std.specs.Prelude.{ℕ, ◌≡◌, nat_le, List, [], ◌∷◌, take, drop, codes, Bool, false, ◌&&◌, if◌then◌else◌, Option, Some, None, option_map, Result, Ok, Err, ⊤}
 use Rattle.std.specs.Option.{option_or}
 use Rattle.std.specs.Str.{bytes_eq}
 use Rattle.script_grammar.specs.Words.{number_of, ◌>>=◌}
@@ -9,14 +9,30 @@ use Rattle.swarm_command.specs.declared.forms.Form.TheVariants.{Run, Replay, Mak
 use Rattle.swarm_command.specs.declared.forms.WordFault.{WordFault}
 use Rattle.swarm_command.specs.declared.forms.WordFault.TheVariants.{Other, NoMemory}
 
--- `run`, `run --workers=0` or `run --workers 0`
-abbrev pub is_run : List (List ℕ) → Bool
-is_run [] = false
-is_run (run ∷ []) = bytes_eq run (codes "run")
-is_run (run ∷ option ∷ []) = bytes_eq run (codes "run") && bytes_eq option (codes "--workers=0")
-is_run (run ∷ option ∷ number ∷ []) =
-    bytes_eq run (codes "run") && (bytes_eq option (codes "--workers") && bytes_eq number (codes "0"))
-is_run (a ∷ b ∷ c ∷ d ∷ more) = false
+-- the most workers, and how many there are where no number is given
+abbrev pub most_workers : ℕ
+most_workers = 16
+
+abbrev pub usual_workers : ℕ
+usual_workers = 4
+
+-- a number of workers, as it is printed
+abbrev pub workers_number : List ℕ → Option ℕ
+workers_number word = number_of word >>= λ n. if nat_le n most_workers then Some n else None
+
+-- the one behind `--workers=`
+abbrev pub joined_workers : List ℕ → Option ℕ
+joined_workers option =
+    if bytes_eq (take 10 option) (codes "--workers=") then workers_number (drop 10 option) else None
+
+-- `run`, `run --workers=K` or `run --workers K`: how many workers they ask for
+abbrev pub run_workers : List (List ℕ) → Option ℕ
+run_workers [] = None
+run_workers (run ∷ []) = if bytes_eq run (codes "run") then Some usual_workers else None
+run_workers (run ∷ option ∷ []) = if bytes_eq run (codes "run") then joined_workers option else None
+run_workers (run ∷ option ∷ number ∷ []) =
+    if bytes_eq run (codes "run") && bytes_eq option (codes "--workers") then workers_number number else None
+run_workers (a ∷ b ∷ c ∷ d ∷ more) = None
 
 -- `replay`
 abbrev pub is_replay : List (List ℕ) → Bool
@@ -57,8 +73,8 @@ usage = codes "usage: swarm run [--workers K] | swarm replay | swarm make N [--r
 -- what the words ask for
 abbrev pub form_of : List (List ℕ) → Option Form
 form_of words =
-    if is_run words then Some Run
-    else (if is_replay words then Some Replay
+    option_or (option_map Run (run_workers words))
+    (if is_replay words then Some Replay
     else option_or (option_map Make (made_number words)) (option_map MakeRun (run_number words)))
 
 -- the form that the words have, and `Other` exactly where they have none, also where memory is wanting

@@ -2,18 +2,18 @@
 ghost use Rattle.std.specs.Prelude.{◌≡◌, codes, option_and_then};
 ghost use Rattle.clap.specs.Words.{first_value, found_of, subcommand_rows_of};
 ghost use Rattle.swarm_command.specs.CommandLine.{script_number};
-ghost use Rattle.swarm_command.specs.Inside.Clap.{found_form, has_no_workers, is_set, made_form, named_form};
+ghost use Rattle.swarm_command.specs.Inside.Clap.{found_form, is_set, made_form, named_form, run_form};
 
 use crate::forms::Form;
-use crate::spellings::script_number;
+use crate::spellings::{USUAL_WORKERS, script_number, workers_number};
 use clap::ArgMatches;
 
-fn has_no_workers(found: &ArgMatches<'_>) -> bool
-    ensures { result ≡ has_no_workers (first_value (found_of found.now) (codes "workers")) }
+fn run_form(found: &ArgMatches<'_>) -> Option<Form>
+    ensures { result ≡ run_form (first_value (found_of found.now) (codes "workers")) }
 {
     match found.get_str("workers") {
-        Some(number) => number == "0",
-        None => true,
+        Some(number) => workers_number(number.as_bytes()).map(Form::Run),
+        None => Some(Form::Run(USUAL_WORKERS)),
     }
 }
 
@@ -49,8 +49,8 @@ fn named_form(name: &str, found: &ArgMatches<'_>) -> Option<Form>
     ensures { result ≡ named_form name.now (first_value (found_of found.now) (codes "workers"))
         (first_value (found_of found.now) (codes "number")) (first_value (found_of found.now) (codes "run")) }
 {
-    if name == "run" && has_no_workers(found) {
-        return Some(Form::Run);
+    if name == "run" {
+        return run_form(found);
     }
     if name == "replay" {
         return Some(Form::Replay);

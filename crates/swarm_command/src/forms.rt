@@ -14,8 +14,8 @@ pub const USAGE: &[u8] = b"usage: swarm run [--workers K] | swarm replay | swarm
 /// What words ask for.
 #[derive(Clone, Copy, Debug, PartialEq, Eq)]
 pub enum Form {
-    /// A script is run without workers.
-    Run,
+    /// A script is run beside so many workers.
+    Run(u32),
     /// A journal is replayed.
     Replay,
     /// The script of this number is written.

@@ -1,11 +1,11 @@
 -- The command as clap reads it, and what it finds of each form.
-use Rattle.std.specs.Prelude.{ℕ, List, Bool, codes, Option, Some, None, true, false, ◌&&◌, if◌then◌else◌, option_and_then}
+use Rattle.std.specs.Prelude.{ℕ, List, Bool, codes, Option, Some, None, true, false, if◌then◌else◌, option_and_then, option_map}
 use Rattle.std.specs.Option.{option_eq}
 use Rattle.std.specs.Str.{bytes_eq}
 use Rattle.clap.specs.Words.{App, Row, Rule, Text, first_of, new_app, new_rule, with_rule, with_subcommand}
 use Rattle.clap.specs.declared.builder.ArgAction.TheVariants.{Set, SetTrue}
 use Rattle.swarm_objects.specs.Same.{same_number}
-use Rattle.swarm_command.specs.CommandLine.{is_replay, is_run, made_number, run_number, script_number}
+use Rattle.swarm_command.specs.CommandLine.{is_replay, made_number, run_number, run_workers, script_number, usual_workers, workers_number}
 use Rattle.swarm_command.specs.declared.forms.Form.{Form}
 use Rattle.swarm_command.specs.declared.forms.Form.TheVariants.{Run, Replay, Make, MakeRun}
 
@@ -42,15 +42,15 @@ swarm_app =
 
 -- the words are a spelling of the form
 abbrev pub spells : Form → List Text → Bool
-spells Run words = is_run words
+spells (Run workers) words = option_eq same_number (run_workers words) (Some workers)
 spells Replay words = is_replay words
 spells (Make number) words = option_eq same_number (made_number words) (Some number)
 spells (MakeRun number) words = option_eq same_number (run_number words) (Some number)
 
--- no number of workers, or 0
-abbrev pub has_no_workers : Option Text → Bool
-has_no_workers None = true
-has_no_workers (Some number) = bytes_eq number (codes "0")
+-- the form of a number of workers, if that is given
+abbrev pub run_form : Option Text → Option Form
+run_form None = Some (Run usual_workers)
+run_form (Some number) = option_map Run (workers_number number)
 
 -- the flag is set
 abbrev pub is_set : Option Text → Bool
@@ -65,7 +65,7 @@ made_form (Some number) run = if is_set run then Some (MakeRun number) else Some
 -- the form of a subcommand with these values of its arguments
 abbrev pub named_form : Text → Option Text → Option Text → Option Text → Option Form
 named_form name workers number run =
-    if bytes_eq name (codes "run") && has_no_workers workers then Some Run
+    if bytes_eq name (codes "run") then run_form workers
     else (if bytes_eq name (codes "replay") then Some Replay
     else (if bytes_eq name (codes "make") then made_form (option_and_then script_number number) run
     else None))

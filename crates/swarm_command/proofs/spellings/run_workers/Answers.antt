@@ -1,6 +1,6 @@
 use Rattle.std.proofs.Common.{rules}
 use Rattle.swarm_command.proofs.Two.{of_two}
-use Rattle.swarm_command.proofs.spellings.is_run.Goals as goal
+use Rattle.swarm_command.proofs.spellings.run_workers.Goals as goal
 
 pub returns-in-len2 : goal.returns-in-len2
 returns-in-len2 c =
