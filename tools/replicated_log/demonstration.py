@@ -89,7 +89,7 @@ def own_journal(program: Path, script: Path, folder: Path) -> bytes:
     """The journal of the script itself, without any log."""
     folder.mkdir()
     with script.open("rb") as lines:
-        subprocess.run([program, "run"], stdin=lines, stdout=subprocess.DEVNULL, cwd=folder)
+        subprocess.run([program, "run", "--workers", "0"], stdin=lines, stdout=subprocess.DEVNULL, cwd=folder)
     return (folder / JOURNAL).read_bytes()
 
 

@@ -11,15 +11,19 @@ use Rattle.script_maker.proofs.Reading.{script_is_read}
 use Rattle.swarm_input.specs.Script.{Reading, reading}
 use Rattle.swarm_input.specs.Streams.{Stream, stream_of}
 use Rattle.swarm_input.proofs.Prefixes.{prefix_none}
-use Rattle.swarm_run.specs.Endings.{exit_status}
-use Rattle.swarm_run.specs.ScriptSteps.{IsRead, with_halt}
-use Rattle.swarm_run.specs.Serial.{entries, has_refusal, serial}
-use Rattle.swarm_run.specs.declared.endings.Ending.{Ending}
-use Rattle.swarm_run.specs.declared.endings.Ending.TheVariants.{Done, Refused, ReadFault, OutFault, JournalFault, NoMemory, NoMemoryAt, BadLine, Full}
+use Rattle.swarm_lines.proofs.Closing.{closed}
+use Rattle.swarm_lines.proofs.Finishing.{finished}
+use Rattle.swarm_lines.proofs.Telling.{told}
+use Rattle.swarm_lines.specs.Closing.{AreBack, IsClosed}
+use Rattle.swarm_lines.specs.Endings.{TellsEnding, exit_status}
+use Rattle.swarm_lines.specs.Finished.{IsFinished}
+use Rattle.swarm_lines.specs.Serial.{entries, has_refusal, serial}
+use Rattle.swarm_lines.specs.declared.endings.Ending.{Ending}
+use Rattle.swarm_lines.specs.declared.endings.Ending.TheVariants.{Done, Refused, ReadFault, OutFault, JournalFault, NoMemory, NoMemoryAt, BadLine, Full}
 use Rattle.swarm_top.specs.Inside.Makes.{PutsAs, is_whole, put_status}
 use Rattle.swarm_top.specs.Make.{IsMake, IsMakeRun, IsPut, IsSummed, run_status, run_summary}
 use Rattle.swarm_top.specs.Summary.{summary}
-use Rattle.swarm_top.proofs.Whole.{few_said, many_said, refused_halt, refused_said}
+use Rattle.swarm_top.proofs.Serials.{few_said, many_said, refused_said}
 
 -- A text that is put.
 
@@ -100,25 +104,46 @@ record Comes (e : Ending) (s : Reading) (W : List Entry) : Type 0 where
   pub history : W ≡ serial s.said
   pub status : cond (has_refusal (entries s.said)) 1 0 ≡ exit_status e
 
-comes : (e : Ending) (input : List ℕ) (left : Option (List ℕ)) (H : List Entry) →
-    IsRead e (stream_of (Some input) left 0 0) (stream_of None None 0 0) H → is_whole e ≡ true → Comes e (reading input) (with_halt H)
-comes Done input None H read w = absurd read.lines
-comes Done input (Some l) H read w = record {
-  history = read.lines.1;
-  status = ap (λ (b : Bool). cond b 1 0) (refused_said (reading input) (with_halt H) false read.lines.1 (refused_halt H ∙ read.answers.1));
-}
-comes Refused input None H read w = absurd read.lines
-comes Refused input (Some l) H read w = record {
-  history = read.lines.1;
-  status = ap (λ (b : Bool). cond b 1 0) (refused_said (reading input) (with_halt H) true read.lines.1 (refused_halt H ∙ read.answers.1));
-}
-comes ReadFault input left H read w = absurd (cc w)
-comes OutFault input left H read w = absurd (cc w)
-comes JournalFault input left H read w = absurd (cc w)
-comes NoMemory input left H read w = absurd (cc w)
-comes (NoMemoryAt number fault) input left H read w = absurd (cc w)
-comes (BadLine number fault) input left H read w = absurd (cc w)
-comes Full input left H read w = absurd (cc w)
+-- the script was read from a source of these bytes without workers, and its replies went to a sink that tells nothing
+abbrev pub IsAlone : Ending → List ℕ → Option (List ℕ) → List Entry → Type 0
+IsAlone e input left W = AreBack 0 e (stream_of (Some input) left 0 0) (stream_of None None 0 0) W
+
+-- the closed history is the serial one
+alone : (e : Ending) (input : List ℕ) (left : Option (List ℕ)) (W : List Entry) → IsAlone e input left W → IsLegal W →
+    TellsEnding e e (stream_of None None 0 0) → IsFinished 0 e (stream_of (Some input) left 0 0) (stream_of None None 0 0) W
+alone e input left W back legal tells =
+    let c = closed 0 e (stream_of (Some input) left 0 0) (stream_of None None 0 0) W back legal in
+    let by = told e e (Some input) left 0 0 None None None 0 0 0 c.now c.read tells in
+    finished 0 e e (stream_of (Some input) left 0 0) (stream_of None None 0 0) (stream_of None None 0 0) W legal c by.full
+    (record { lines = by.lines; answers = by.answers })
+
+comes : (e : Ending) (input : List ℕ) (left : Option (List ℕ)) (W : List Entry) → IsAlone e input left W → IsLegal W →
+    is_whole e ≡ true → Comes e (reading input) W
+comes Done input None W back legal w = absurd ((alone Done input None W back legal (refl, refl, refl)).lines refl)
+comes Done input (Some l) W back legal w =
+    let f = alone Done input (Some l) W back legal (refl, refl, refl) in
+    let lines = f.lines refl in
+    let answers = f.answers refl in
+    record {
+      history = lines.1;
+      status = ap (λ (b : Bool). cond b 1 0) (refused_said (reading input) W false lines.1 answers.1);
+    }
+comes Refused input None W back legal w = absurd ((alone Refused input None W back legal (refl, refl, refl)).lines refl)
+comes Refused input (Some l) W back legal w =
+    let f = alone Refused input (Some l) W back legal (refl, refl, refl) in
+    let lines = f.lines refl in
+    let answers = f.answers refl in
+    record {
+      history = lines.1;
+      status = ap (λ (b : Bool). cond b 1 0) (refused_said (reading input) W true lines.1 answers.1);
+    }
+comes ReadFault input left W back legal w = absurd (cc w)
+comes OutFault input left W back legal w = absurd (cc w)
+comes JournalFault input left W back legal w = absurd (cc w)
+comes NoMemory input left W back legal w = absurd (cc w)
+comes (NoMemoryAt number fault) input left W back legal w = absurd (cc w)
+comes (BadLine number fault) input left W back legal w = absurd (cc w)
+comes Full input left W back legal w = absurd (cc w)
 
 at_most_one : (status : ℕ) → (status ≡ 0) ⊎ (status ≡ 1) → status ≤ 1
 at_most_one status (inl e) = omega (arith, e)
@@ -133,16 +158,16 @@ other_status : (a b status : ℕ) → a ≡ b → (status ≡ a) ⊎ ((status �
 other_status a b status same (inl e) = inl (e ∙ same)
 other_status a b status same (inr e) = inr e
 
-pub summed : (e : Ending) (input : List ℕ) (left : Option (List ℕ)) (H : List Entry) (x y : Option (List ℕ)) (k l status : ℕ) →
-    IsRead e (stream_of (Some input) left 0 0) (stream_of None None 0 0) H → is_whole e ≡ true → IsLegal (with_halt H) →
-    PutsAs (summary (replay (with_halt H))) (exit_status e) (stream_of x y k l) status → IsSummed (reading input) (stream_of x y k l) status
-summed e input left H x y k l status read whole legal puts =
+pub summed : (e : Ending) (input : List ℕ) (left : Option (List ℕ)) (W : List Entry) (x y : Option (List ℕ)) (k l status : ℕ) →
+    IsAlone e input left W → is_whole e ≡ true → IsLegal W →
+    PutsAs (summary (replay W)) (exit_status e) (stream_of x y k l) status → IsSummed (reading input) (stream_of x y k l) status
+summed e input left W x y k l status back whole legal puts =
     let s = reading input in
-    let by = comes e input left H read whole in
+    let by = comes e input left W back legal whole in
     let small = small_whole e whole in
-    let text = summary (replay (with_halt H)) in
-    let is : text ≡ run_summary s = ap (λ (W : List Entry). summary (replay W)) by.history in
-    let few : nat_lt most_entries (length (entries s.said)) ≡ false = few_said s (with_halt H) legal by.history in
+    let text = summary (replay W) in
+    let is : text ≡ run_summary s = ap (λ (h : List Entry). summary (replay h)) by.history in
+    let few : nat_lt most_entries (length (entries s.said)) ≡ false = few_said s W legal by.history in
     let decided : exit_status e ≡ run_status s =
     sym by.status ∙ sym (ap (λ (b : Bool). cond b 7 (cond (has_refusal (entries s.said)) 1 0)) few) in
     let statuses = status_put x y k l text (exit_status e) status puts in
@@ -176,24 +201,25 @@ nothing s x k status late is = record {
 pub unsummed : (s : Reading) (x : Option (List ℕ)) (k status : ℕ) → status ≡ 5 → IsSummed s (stream_of x x k k) status
 unsummed s x k status is = nothing s x k status (omega (arith, is)) (inr is)
 
-pub stopped : (e : Ending) (input : List ℕ) (left : Option (List ℕ)) (H : List Entry) (x : Option (List ℕ)) (k status : ℕ) →
-    IsRead e (stream_of (Some input) left 0 0) (stream_of None None 0 0) H → is_whole e ≡ false → (reading input).bad ≡ None → status ≡ exit_status e →
+pub stopped : (e : Ending) (input : List ℕ) (left : Option (List ℕ)) (W : List Entry) (x : Option (List ℕ)) (k status : ℕ) →
+    IsAlone e input left W → IsLegal W → is_whole e ≡ false → (reading input).bad ≡ None → status ≡ exit_status e →
     IsSummed (reading input) (stream_of x x k k) status
-stopped Done input left H x k status read part good is = absurd (cc part)
-stopped Refused input left H x k status read part good is = absurd (cc part)
-stopped ReadFault input left H x k status read part good is = absurd (omega (arith, read.cause refl))
-stopped OutFault input left H x k status read part good is = absurd (omega (arith, read.answers.1))
-stopped JournalFault input left H x k status read part good is = absurd read.answers
-stopped NoMemory input left H x k status read part good is = unsummed (reading input) x k status is
-stopped (NoMemoryAt number fault) input left H x k status read part good is = absurd read.answers
-stopped (BadLine number fault) input None H x k status read part good is = absurd read.lines
-stopped (BadLine number fault) input (Some l) H x k status read part good is =
-    let both = sym good ∙ read.lines.0 in
+stopped Done input left W x k status back legal part good is = absurd (cc part)
+stopped Refused input left W x k status back legal part good is = absurd (cc part)
+stopped ReadFault input left W x k status back legal part good is = absurd (omega (arith, back.read.cause refl))
+stopped OutFault input left W x k status back legal part good is = absurd (omega (arith, back.read.answers.1))
+stopped JournalFault input left W x k status back legal part good is = absurd back.read.answers
+stopped NoMemory input left W x k status back legal part good is = unsummed (reading input) x k status is
+stopped (NoMemoryAt number fault) input left W x k status back legal part good is = absurd back.read.answers
+stopped (BadLine number fault) input None W x k status back legal part good is = absurd back.read.lines
+stopped (BadLine number fault) input (Some l) W x k status back legal part good is =
+    let both = sym good ∙ back.read.lines.0 in
     absurd (cc both)
-stopped Full input None H x k status read part good is = absurd read.lines
-stopped Full input (Some l) H x k status read part good is =
+stopped Full input None W x k status back legal part good is = absurd back.read.lines
+stopped Full input (Some l) W x k status back legal part good is =
     let s = reading input in
-    let many : nat_lt most_entries (length (entries s.said)) ≡ true = many_said s (with_halt H) read.lines in
+    let f = alone Full input (Some l) W back legal (refl, refl, refl) in
+    let many : nat_lt most_entries (length (entries s.said)) ≡ true = many_said s W (f.lines refl) in
     let seven : run_status s ≡ 7 = ap (λ (b : Bool). cond b 7 (cond (has_refusal (entries s.said)) 1 0)) many in
     nothing s x k status (omega (arith, is)) (inl (is ∙ sym seven))
 

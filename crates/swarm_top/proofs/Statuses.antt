@@ -7,11 +7,11 @@ use Rattle.swarm_objects.specs.declared.calls.Entry.{Entry}
 use Rattle.swarm_objects.specs.declared.replies.Reply.{Reply}
 use Rattle.swarm_input.specs.Script.{Reading, reading}
 use Rattle.swarm_input.specs.Streams.{Stream}
-use Rattle.swarm_run.specs.Endings.{exit_status}
-use Rattle.swarm_run.specs.Serial.{is_refused}
-use Rattle.swarm_run.specs.declared.endings.Ending.{Ending}
-use Rattle.swarm_run.specs.declared.endings.Ending.TheVariants.{Done, Refused, ReadFault, OutFault, JournalFault, NoMemory, NoMemoryAt, BadLine, Full}
-use Rattle.swarm_top.specs.Callers.{FollowsScript, PutsOwnReplies}
+use Rattle.swarm_lines.specs.Endings.{exit_status}
+use Rattle.swarm_lines.specs.Serial.{is_refused}
+use Rattle.swarm_lines.specs.declared.endings.Ending.{Ending}
+use Rattle.swarm_lines.specs.declared.endings.Ending.TheVariants.{Done, Refused, ReadFault, OutFault, JournalFault, NoMemory, NoMemoryAt, BadLine, Full}
+use Rattle.swarm_lines.specs.Callers.{FollowsScript, PutsOwnReplies}
 use Rattle.swarm_top.specs.Theorem.{HasCauseOf, IsDecidedStatus, NoneFails}
 
 by_script : (script : Reading) (replies : List Reply) (bad refused : Bool) → is_some script.bad ≡ bad →

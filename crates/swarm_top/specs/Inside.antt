@@ -1,3 +1,2 @@
 -- Words of private contracts; the run theorem rests on none of them.
-pub mod Endings
 pub mod Makes

@@ -5,7 +5,7 @@ use Rattle.swarm_input.specs.Script.{Reading, reading}
 use Rattle.swarm_input.specs.Streams.{Stream, HasFailed, HasRisen, Puts, PutsPrefix}
 use Rattle.swarm_model.specs.History.{replay}
 use Rattle.swarm_objects.specs.Limits.{most_entries}
-use Rattle.swarm_run.specs.Serial.{entries, has_refusal, serial}
+use Rattle.swarm_lines.specs.Serial.{entries, has_refusal, serial}
 use Rattle.swarm_top.specs.Summary.{summary}
 
 -- where the sink failed or memory was wanting, a prefix of the text is put

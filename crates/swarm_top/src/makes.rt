@@ -1,11 +1,10 @@
 // A number's script, and the line that sums up its run.
-ghost use Rattle.std.specs.Prelude.{◌≡◌, ◌≢◌, ◌≤◌, IfOk, None, string_bytes};
+ghost use Rattle.std.specs.Prelude.{◌≡◌, ◌≢◌, ◌≤◌, IfOk, None, length, string_bytes};
 ghost use Rattle.script_maker.specs.Script.{most_number};
 ghost use Rattle.swarm_input.specs.Script.{reading};
 ghost use Rattle.swarm_input.specs.Streams.{stream};
+ghost use Rattle.swarm_lines.specs.Endings.{exit_status};
 ghost use Rattle.swarm_model.specs.History.{IsLegal, replay};
-ghost use Rattle.swarm_run.specs.Endings.{exit_status};
-ghost use Rattle.swarm_run.specs.ScriptSteps.{with_halt};
 ghost use Rattle.swarm_top.specs.Inside.Makes.{PutsAs, is_whole, put_status};
 ghost use Rattle.swarm_top.specs.Make.{IsMake, IsMakeRun, IsSummed};
 ghost use Rattle.swarm_top.specs.Summary.{summary};
@@ -13,8 +12,11 @@ ghost use Rattle.swarm_top.specs.Summary.{summary};
 use crate::summaries::summary_of;
 use script_maker::script;
 use std::alloc::{AllocError, Global};
-use swarm_objects::{Failed, PlainSink, PlainSource, Sink};
-use swarm_run::{Ending, Run, read_script};
+use std::sync::Wait;
+use std::thread::Threads;
+use swarm_lines::{Ending, run_beside};
+use swarm_objects::{Failed, Gate, NoMemory, PlainSink, PlainSource, Sink};
+use swarm_world::World;
 
 // The status where all that is left to do was to put a text.
 fn put_status(put: Result<(), Failed>, ending: Ending) -> u8
@@ -55,54 +57,69 @@ fn is_whole(ending: Ending) -> bool
     }
 }
 
-// The line that sums up the world after Halt.
-fn sum_up(alloc: Global, run: Run) -> Result<String, AllocError>
-    ensures text { IfOk result (λ text. string_bytes text ≡ summary (replay (with_halt run))) }
-    ensures legal { IsLegal (with_halt run) }
+// The line that sums up the world, which has so many entries.
+fn sum_up(alloc: Global, world: World, entries: u64) -> Result<String, AllocError>
+    requires legal { IsLegal world }
+    requires entries { entries ≡ length world }
+    ensures { IfOk result (λ text. string_bytes text ≡ summary (replay world)) }
 {
-    let world = run.halt();
-    let text = summary_of(alloc, &world, world.len());
+    let text = summary_of(alloc, &world, entries);
     drop(world);
     text
 }
 
 // Puts the line that sums up a run that came to the script's end.
-fn put_summary<O: Sink>(alloc: Global, run: Run, out: &mut O, ending: Ending) -> u8
-    ensures puts { PutsAs (summary (replay (with_halt run))) (exit_status ending) (stream O.written O.faults out.old
-        out.new) result }
-    ensures legal { IsLegal (with_halt run) }
+fn put_summary<O: Sink>(alloc: Global, world: World, entries: u64, out: &mut O, ending: Ending) -> u8
+    requires legal { IsLegal world }
+    requires entries { entries ≡ length world }
+    ensures { PutsAs (summary (replay world)) (exit_status ending) (stream O.written O.faults out.old out.new) result }
 {
-    match sum_up(alloc, run) {
+    match sum_up(alloc, world, entries) {
         Ok(text) => put_text(out, text.as_bytes(), ending),
         Err(_) => Ending::NoMemory.status(),
     }
 }
 
-// Runs the script, and puts the line that sums up what came of it.
-fn run_text<O: Sink>(alloc: Global, text: String, out: &mut O) -> u8
+// Runs the script without workers, and puts the line that sums up what came of it.
+fn run_text<R: Threads + Wait + Sync, O: Sink, G: Gate + Sync>(
+    rt: &R,
+    alloc: Global,
+    text: String,
+    out: &mut O,
+    gate: &G,
+) -> u8
     ensures { let script = reading (string_bytes text) in
         script.bad ≡ None → IsSummed script (stream O.written O.faults out.old out.new) result }
 {
-    let Ok(mut run) = Run::new(alloc) else {
-        return Ending::NoMemory.status();
-    };
     let mut lines = PlainSource::new(text.into_bytes());
-    let ending = read_script(alloc, &mut run, &mut lines, &mut PlainSink::new());
+    let mut replies = PlainSink::new();
+    let (ending, world) = match run_beside(rt, alloc, 0, &mut lines, &mut replies, gate) {
+        Ok(back) => back,
+        Err(NoMemory) => return Ending::NoMemory.status(),
+    };
+    let entries = world.len();
     if is_whole(ending) {
-        put_summary(alloc, run, out, ending)
+        put_summary(alloc, world, entries, out, ending)
     } else {
+        drop(world);
         ending.status()
     }
 }
 
 /// Runs the script of the number, and puts the line that sums up what came of it. The replies aren't shown.
-pub fn make_run<O: Sink>(alloc: Global, number: u64, out: &mut O) -> u8
+pub fn make_run<R: Threads + Wait + Sync, O: Sink, G: Gate + Sync>(
+    rt: &R,
+    alloc: Global,
+    number: u64,
+    out: &mut O,
+    gate: &G,
+) -> u8
     requires { number ≤ most_number }
     ensures make_run { IsMakeRun number (stream O.written O.faults out.old out.new) result }
     ensures words { result ≢ 2 }
 {
     match script(alloc, number) {
-        Ok(text) => run_text(alloc, text, out),
+        Ok(text) => run_text(rt, alloc, text, out, gate),
         Err(_) => Ending::NoMemory.status(),
     }
 }

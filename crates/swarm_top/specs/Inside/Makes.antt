@@ -1,8 +1,8 @@
 -- How a text is put, and whether a reading came to the script's end.
 use Rattle.std.specs.Prelude.{ℕ, ◌≡◌, ◌⊎◌, List, Bool, true, false, Result, Ok, Err}
 use Rattle.swarm_input.specs.Streams.{Stream, HasFailed, Puts, PutsPrefix}
-use Rattle.swarm_run.specs.declared.endings.Ending.{Ending}
-use Rattle.swarm_run.specs.declared.endings.Ending.TheVariants.{Done, Refused, ReadFault, OutFault, JournalFault, NoMemory, NoMemoryAt, BadLine, Full}
+use Rattle.swarm_lines.specs.declared.endings.Ending.{Ending}
+use Rattle.swarm_lines.specs.declared.endings.Ending.TheVariants.{Done, Refused, ReadFault, OutFault, JournalFault, NoMemory, NoMemoryAt, BadLine, Full}
 
 abbrev pub is_whole : Ending → Bool
 is_whole Done = true

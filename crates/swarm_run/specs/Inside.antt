@@ -1,3 +1,0 @@
--- Words of private contracts; the run theorem rests on none of them.
-pub mod LineSteps
-pub mod RunState
