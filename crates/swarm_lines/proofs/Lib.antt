@@ -1,6 +1,5 @@
 pub mod Alone
 pub mod Answering
-pub mod Backing
 pub mod Closing
 pub mod Coming
 pub mod Doing

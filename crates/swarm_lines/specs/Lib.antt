@@ -11,4 +11,3 @@ pub mod Putting
 pub mod ScriptSteps
 pub mod Serial
 pub mod Stretches
-pub mod Workers

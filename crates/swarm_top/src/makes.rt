@@ -9,12 +9,13 @@ ghost use Rattle.swarm_top.specs.Inside.Makes.{PutsAs, is_whole, put_status};
 ghost use Rattle.swarm_top.specs.Make.{IsMake, IsMakeRun, IsSummed};
 ghost use Rattle.swarm_top.specs.Summary.{summary};
 
+use crate::runs::run_beside;
 use crate::summaries::summary_of;
 use script_maker::script;
 use std::alloc::{AllocError, Global};
 use std::sync::Wait;
 use std::thread::Threads;
-use swarm_lines::{Ending, run_beside};
+use swarm_lines::Ending;
 use swarm_objects::{Failed, Gate, NoMemory, PlainSink, PlainSource, Sink};
 use swarm_world::World;
 

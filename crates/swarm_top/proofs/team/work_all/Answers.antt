@@ -1,6 +1,6 @@
 use Rattle.std.proofs.Common.{◌≡◌, ◌<◌, ◌+◌, sym, subst, arith}
-use Rattle.swarm_lines.proofs.team.work_all.Goals as goal
-use Rattle.swarm_lines.specs.Workers.{HasWorked, IsReady}
+use Rattle.swarm_top.proofs.team.work_all.Goals as goal
+use Rattle.swarm_top.specs.Inside.Workers.{HasWorked, IsReady}
 
 pub for_each_mut-requires-clause-accepts : goal.for_each_mut-requires-clause-accepts
 for_each_mut-requires-clause-accepts g c = λ shared sent i p below e. (

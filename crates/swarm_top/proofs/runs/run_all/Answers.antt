@@ -1,7 +1,7 @@
 use Rattle.std.proofs.Common.{◌≡◌, arith}
 use denote.Param.Send.{sendable}
-use Rattle.swarm_lines.proofs.Backing.{first_new, others_new}
-use Rattle.swarm_lines.proofs.runs.run_all.Goals as goal
+use Rattle.swarm_top.proofs.Backing.{first_new, others_new}
+use Rattle.swarm_top.proofs.runs.run_all.Goals as goal
 
 pub join_mut-ending-requires-after_bounds : goal.join_mut-ending-requires-after_bounds
 join_mut-ending-requires-after_bounds g c κs within =

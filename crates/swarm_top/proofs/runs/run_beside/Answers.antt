@@ -1,6 +1,6 @@
 use Rattle.std.proofs.Common.{◌≡◌, ◌<◌, ◌≤◌, ◌∙◌, refl, subst, sym}
-use Rattle.swarm_lines.proofs.Backing.{are_back, every_number, lent_run}
-use Rattle.swarm_lines.proofs.runs.run_beside.Goals as goal
+use Rattle.swarm_top.proofs.Backing.{are_back, every_number, lent_run}
+use Rattle.swarm_top.proofs.runs.run_beside.Goals as goal
 
 pub close-requires-clause-all : goal.close-requires-clause-all
 close-requires-clause-all g c = λ n below.

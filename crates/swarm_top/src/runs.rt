@@ -2,19 +2,17 @@
 ghost use Rattle.std.specs.Prelude.{◌≡◌, ◌≤◌, ◌+◌, length, IfOk, OnErr, []};
 ghost use Rattle.swarm_input.specs.Streams.{stream};
 ghost use Rattle.swarm_lines.specs.Closing.{AreBack};
-ghost use Rattle.swarm_lines.specs.Workers.{AreReady, HasRead, HaveRun, HaveWorked};
+ghost use Rattle.swarm_top.specs.Inside.Workers.{AreReady, HasRead, HaveRun, HaveWorked};
 ghost use Rattle.swarm_model.specs.Own.{own};
 ghost use Rattle.turn_cell.specs.Entries.{Each};
 ghost use Rattle.turn_cell.specs.Passes.{number_of, seen, IsNew, IsPassOf};
 
-use crate::caller::halt;
-use crate::endings::Ending;
-use crate::scripts::read_script;
 use crate::team::work_all;
 use std::alloc::Global;
 use std::sync::Wait;
 use std::thread::{Threads, join_mut};
 use swarm_cluster::{Cluster, Pass};
+use swarm_lines::{Ending, halt, read_script};
 use swarm_objects::{Gate, NoMemory, Sink, Source};
 use swarm_world::World;
 

@@ -6,7 +6,7 @@ use Rattle.swarm_input.specs.Streams.{Stream}
 use Rattle.swarm_lines.proofs.Coming.{found}
 use Rattle.swarm_lines.specs.Closing.{AreBack, AreShared, IsDutyOf}
 use Rattle.swarm_lines.specs.Came.{Stays}
-use Rattle.swarm_lines.specs.Workers.{AreReady, HasRead, HasWorked, HaveRun, HaveWorked, IsReady}
+use Rattle.swarm_top.specs.Inside.Workers.{AreReady, HasRead, HasWorked, HaveRun, HaveWorked, IsReady}
 use Rattle.swarm_lines.specs.declared.endings.Ending.{Ending}
 use Rattle.swarm_loops.proofs.Adding.{adds_none}
 use Rattle.swarm_loops.specs.Turns.{AddsTurns, IsTurn}

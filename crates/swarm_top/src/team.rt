@@ -1,6 +1,6 @@
 // The workers beside a script.
 ghost use Rattle.std.specs.Prelude.{◌≡◌, ◌<◌, ◌≤◌, ◌+◌, length};
-ghost use Rattle.swarm_lines.specs.Workers.{AreReady, HasWorked, HaveWorked, IsReady};
+ghost use Rattle.swarm_top.specs.Inside.Workers.{AreReady, HasWorked, HaveWorked, IsReady};
 ghost use Rattle.turn_cell.specs.Passes.{number_of};
 
 use std::alloc::Global;

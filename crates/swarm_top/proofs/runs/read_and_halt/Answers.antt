@@ -1,4 +1,4 @@
-use Rattle.swarm_lines.proofs.runs.read_and_halt.Goals as goal
+use Rattle.swarm_top.proofs.runs.read_and_halt.Goals as goal
 use Rattle.turn_cell.specs.Passes.{seen}
 
 pub returns : goal.returns
