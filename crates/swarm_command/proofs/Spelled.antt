@@ -202,15 +202,15 @@ same_form g f words h e = let same : g ≡ f = cc e in subst (λ (x : Form). spe
 pub is_spelled : (form : Form) (words : List Text) → form_of words ≡ Some form → spells form words ≡ true
 is_spelled form words e =
     go (run_workers words) refl (is_replay words) refl (made_number words) refl (run_number words) refl e where
-  go : (workers : Option ℕ) → run_workers words ≡ workers → (replay : Bool) → is_replay words ≡ replay → (made : Option ℕ) → made_number words ≡ made
-      → (ran : Option ℕ) → run_number words ≡ ran
-      → option_or (option_map Run workers) (if replay then Some Replay else option_or (option_map Make made) (option_map MakeRun ran)) ≡ Some form
-      → spells form words ≡ true
-  go (Some k) is replay other made m ran r e = same_form (Run k) form words (is_number (run_workers words) k is) e
-  go None is true other made m ran r e = same_form Replay form words other e
-  go None is false other (Some n) m ran r e = same_form (Make n) form words (is_number (made_number words) n m) e
-  go None is false other None m (Some n) r e = same_form (MakeRun n) form words (is_number (run_number words) n r) e
-  go None is false other None m None r e = absurd (cc e)
+      go : (workers : Option ℕ) → run_workers words ≡ workers → (replay : Bool) → is_replay words ≡ replay → (made : Option ℕ) → made_number words ≡ made
+          → (ran : Option ℕ) → run_number words ≡ ran
+          → option_or (option_map Run workers) (if replay then Some Replay else option_or (option_map Make made) (option_map MakeRun ran)) ≡ Some form
+          → spells form words ≡ true
+      go (Some k) is replay other made m ran r e = same_form (Run k) form words (is_number (run_workers words) k is) e
+      go None is true other made m ran r e = same_form Replay form words other e
+      go None is false other (Some n) m ran r e = same_form (Make n) form words (is_number (made_number words) n m) e
+      go None is false other None m (Some n) r e = same_form (MakeRun n) form words (is_number (run_number words) n r) e
+      go None is false other None m None r e = absurd (cc e)
 
 pub asks_for : (form : Form) (words : List Text) → spells form words ≡ true → form_of words ≡ Some form
 asks_for (Run n) words e =

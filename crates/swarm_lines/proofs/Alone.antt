@@ -1,7 +1,7 @@
 -- Where caller 0 is alone, what it kept makes the history the one that a script has without workers.
-use Rattle.std.proofs.Common.{◌≡◌, ℕ, ◌+◌, ◌<◌, List, [], ◌∷◌, ◌++◌, length, map, take, true, false, Bool, ◌&&◌, ◌==◌, cond, refl, Option, Some, None, sym, ◌∙◌, ap, subst, append_assoc}
+use Rattle.std.proofs.Common.{◌≡◌, ℕ, ◌+◌, ◌<◌, List, [], ◌∷◌, ◌++◌, length, map, take, true, false, Bool, ◌==◌, cond, refl, Option, Some, None, sym, ◌∙◌, ap, subst, append_assoc}
 use Rattle.std.proofs.lemmas.List.{append-nil, append_cancel_left, append_cancel_right}
-use Rattle.std.specs.List.{flat_map, list_all}
+use Rattle.std.specs.List.{list_all}
 use Rattle.script_grammar.specs.declared.lines.Line.{Line}
 use Rattle.swarm_input.specs.Script.{Reading, reading}
 use Rattle.swarm_input.specs.Streams.{PutsThenPrefix, Stream}
@@ -9,19 +9,19 @@ use Rattle.swarm_lines.proofs.Following.{Ends, halted, last_cut}
 use Rattle.swarm_lines.proofs.Joining.{last_done}
 use Rattle.swarm_lines.specs.OfScript.{BeginsNext, IsOfFullHistory, IsOfScript, PutsUpToLast}
 use Rattle.swarm_lines.specs.Putting.{part_out, texts_of}
-use Rattle.swarm_lines.specs.ScriptSteps.{KeepsDone, KeepsFull, KeepsLast, KeepsScript, KeepsSome, KeepsStop, PutsToLast, next_asked}
+use Rattle.swarm_lines.specs.ScriptSteps.{KeepsDone, KeepsFull, KeepsLast, KeepsScript, KeepsStop, PutsToLast, next_asked}
 use Rattle.swarm_lines.specs.Serial.{asked, entries, entries_from, line_entries, line_out, output_text, serial}
 use Rattle.swarm_lines.specs.declared.endings.Ending.{Ending}
 use Rattle.swarm_lines.specs.declared.endings.Ending.TheVariants.{Done, Refused, ReadFault, OutFault, JournalFault, NoMemory, NoMemoryAt, BadLine, Full}
 use Rattle.swarm_model.proofs.Base.Histories.{IsLegalFrom-append, admitted-Halt, replay-append, room_admitted, room_duty}
 use Rattle.swarm_model.proofs.Following.Alone.{AreOwn, both, is_own, none_left, of_callers, own_all, own_append, own_join}
 use Rattle.swarm_model.proofs.Following.KeptAlone.{kept-alone-law, kept-stop-law}
-use Rattle.swarm_model.proofs.Following.Own.{own-append, replies_own}
+use Rattle.swarm_model.proofs.Following.Own.{replies_own}
 use Rattle.swarm_model.specs.Follows.{IsEnd}
-use Rattle.swarm_model.specs.History.{IsLegal, IsLegalFrom, may_follow, replay, replay_from, replies, replies_from}
+use Rattle.swarm_model.specs.History.{IsLegal, IsLegalFrom, may_follow, replay, replay_from, replies}
 use Rattle.swarm_model.specs.Kept.{KeepsLines, before_next}
-use Rattle.swarm_model.specs.Own.{Step, own, own_from, own_replies, own_replies_from, reply_to, step_at}
-use Rattle.swarm_model.specs.Script.{Asked, is_of_a_caller, own_call}
+use Rattle.swarm_model.specs.Own.{Step, own, own_from, own_replies, step_at}
+use Rattle.swarm_model.specs.Script.{Asked, own_call}
 use Rattle.swarm_model.specs.Serial.{BeginsNext as BeginsAsked, asked_entries, entries_from as asked_from}
 use Rattle.swarm_objects.specs.Limits.{most_entries}
 use Rattle.swarm_objects.specs.World.{World, empty_world}
@@ -29,7 +29,6 @@ use Rattle.swarm_objects.specs.declared.calls.Call.TheVariants.{Halt}
 use Rattle.swarm_objects.specs.declared.calls.Entry.{Entry}
 use Rattle.swarm_objects.specs.declared.calls.What.TheVariants.{Call as Called, Duty as Done_duty}
 use Rattle.swarm_objects.specs.declared.calls.What.{What}
-use Rattle.swarm_objects.specs.declared.replies.Reply.{Reply}
 
 -- The entries of lines.
 

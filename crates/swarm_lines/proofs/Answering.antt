@@ -1,5 +1,5 @@
 -- What is put for the lines of a script.
-use Rattle.std.proofs.Common.{◌≡◌, ℕ, ◌≤◌, ◌<◌, List, [], ◌∷◌, ◌++◌, take, Bool, true, false, ◌||◌, refl, Option, Some, None, Result, Ok, Err, sym, ◌∙◌, ap, subst, arith, ◌+◌}
+use Rattle.std.proofs.Common.{◌≡◌, ℕ, ◌≤◌, ◌<◌, List, ◌++◌, take, Bool, true, false, ◌||◌, refl, Option, Some, Result, Err, sym, ◌∙◌, ap, subst, arith, ◌+◌}
 use Rattle.std.specs.Io.KnownBytes.{Appends}
 use Rattle.std.proofs.lemmas.List.{append-nil}
 use Rattle.script_grammar.specs.declared.lines.Line.{Line}

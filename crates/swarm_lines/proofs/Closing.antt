@@ -1,14 +1,13 @@
 -- The whole history, from what all passes know of it.
-use Rattle.std.proofs.Common.{◌≡◌, ℕ, ◌⊎◌, inl, inr, ◌+◌, ◌≤◌, ◌<◌, List, [], ◌∷◌, ◌++◌, Bool, true, false, cond, ◌&&◌, ◌||◌, refl, ap, ◌∙◌, sym, subst, append-nil, arith, eq-eqb, ◌==◌}
+use Rattle.std.proofs.Common.{◌≡◌, ℕ, inl, inr, ◌+◌, ◌≤◌, ◌<◌, List, [], ◌∷◌, ◌++◌, Bool, true, false, cond, ◌&&◌, ◌||◌, refl, ap, ◌∙◌, sym, subst, append-nil, arith, eq-eqb, ◌==◌}
 use Rattle.std.proofs.lemmas.Bool.Decides.{nat_tests}
 use Rattle.std.specs.List.{list_all}
 use Rattle.std.specs.Prelude.{nat_le}
 use Rattle.swarm_input.specs.Streams.{Stream}
 use Rattle.swarm_lines.proofs.Coming.{own_came}
-use Rattle.swarm_lines.specs.Came.{Appended, Came, Halts, Stays}
+use Rattle.swarm_lines.specs.Came.{Halts, Stays}
 use Rattle.swarm_lines.specs.Closing.{AreBack, AreShared, IsClosed, IsDutyOf}
 use Rattle.swarm_lines.specs.Fitting.{AreFit, IsFit}
-use Rattle.swarm_lines.specs.ScriptSteps.{IsRead}
 use Rattle.swarm_lines.specs.declared.endings.Ending.{Ending}
 use Rattle.swarm_model.proofs.Base.Halting.{halted-call, halted-duty}
 use Rattle.swarm_model.proofs.Base.Histories.{IsLegalFrom-append, replay-snoc, room_admitted, room_duty}

@@ -1,9 +1,8 @@
 -- What a line did, whole and in part.
-use Rattle.std.proofs.Common.{◌≡◌, ℕ, inl, inr, List, [], ◌∷◌, ◌++◌, Bool, false, true, ◌||◌, refl, Option, Some, Result, Ok, Err, sym, ◌∙◌, ap, subst}
+use Rattle.std.proofs.Common.{◌≡◌, ℕ, inl, inr, List, [], ◌∷◌, ◌++◌, Bool, false, true, ◌||◌, refl, Option, Result, Ok, Err, sym, ◌∙◌, ap, subst}
 use Rattle.std.specs.Prelude.{IfErr, IfOk}
 use Rattle.std.specs.Io.KnownBytes.{Appends}
 use Rattle.std.proofs.lemmas.List.{append-nil}
-use Rattle.script_grammar.specs.declared.lines.Line.{Line}
 use Rattle.script_grammar.specs.declared.lines.Line.TheVariants.{Blank, Call as CallLine, Settle as SettleLine, Wait}
 use Rattle.swarm_lines.proofs.Coming.{came_none, came_stays, came_then, saw}
 use Rattle.swarm_lines.proofs.Quiet.{quiet_ticks, quiet_turns, out_append, refused_append}
@@ -11,7 +10,7 @@ use Rattle.swarm_lines.specs.Came.{Answered, Came, Stays, StaysBy}
 use Rattle.swarm_lines.specs.Inside.LineSteps.{DoesLine, PutsAnswer, ending_by}
 use Rattle.swarm_lines.specs.Putting.{part_out, part_refused}
 use Rattle.swarm_lines.specs.Serial.{is_refused}
-use Rattle.swarm_lines.specs.Stretches.{BeganWait, Settled, StoppedWait, StopsTurns, StopsWait, Waited}
+use Rattle.swarm_lines.specs.Stretches.{Settled, StopsTurns, StopsWait, Waited}
 use Rattle.swarm_lines.specs.declared.endings.Ending.{Ending}
 use Rattle.swarm_lines.specs.declared.endings.Ending.TheVariants.{Done, Refused, ReadFault, OutFault, JournalFault, NoMemory, NoMemoryAt, BadLine, Full}
 use Rattle.swarm_lines.specs.declared.unanswered.Unanswered.{Unanswered}
@@ -19,7 +18,7 @@ use Rattle.swarm_lines.specs.declared.unanswered.Unanswered.TheVariants as unans
 use Rattle.swarm_model.proofs.Following.Turns.{next_own}
 use Rattle.swarm_model.specs.History.{replay, step_reply}
 use Rattle.swarm_model.specs.Kept.{KeepsSettled}
-use Rattle.swarm_model.specs.Own.{Step, reply_to, step_at}
+use Rattle.swarm_model.specs.Own.{Step, step_at}
 use Rattle.swarm_model.specs.Script.{own_call}
 use Rattle.swarm_objects.specs.Outside.{AppendsPrefix}
 use Rattle.swarm_objects.specs.declared.calls.Call.{Call}

@@ -1,7 +1,7 @@
 -- The end of a run: the ways of the journal, and the finished history.
-use Rattle.std.proofs.Common.{◌≡◌, ℕ, ◌+◌, ◌≤◌, inl, inr, List, [], ◌∷◌, ◌++◌, length, true, refl, Option, Some, None, Result, Ok, Err, sym, ◌∙◌, ap, subst, arith}
+use Rattle.std.proofs.Common.{◌≡◌, ℕ, inl, inr, List, [], ◌∷◌, length, true, Option, Some, None, Result, Ok, Err, sym, ◌∙◌, ap, subst, arith}
 use Rattle.std.specs.List.{list_all}
-use Rattle.std.proofs.lemmas.List.{append-nil, length-append}
+use Rattle.std.proofs.lemmas.List.{length-append}
 use Rattle.std.specs.Io.KnownBytes.{Consumes}
 use Rattle.swarm_input.specs.declared.faults.WriteFault.{WriteFault}
 use Rattle.swarm_input.specs.declared.faults.WriteFault.TheVariants.{Failed as SinkFailed, NoMemory as NoSpace}
@@ -12,12 +12,12 @@ use Rattle.swarm_lines.proofs.Alone.{of_script, replies_alone, up_to_last}
 use Rattle.swarm_lines.proofs.Following.{Ends, follows_script, halted, own_cut, put_still, script_still}
 use Rattle.swarm_lines.proofs.Quiet.{out_append}
 use Rattle.swarm_lines.proofs.Telling.{as_unsaid, puts_halted}
-use Rattle.swarm_lines.specs.Callers.{PutsOf, PutsOwnReplies, PutsOwnUpToLast}
+use Rattle.swarm_lines.specs.Callers.{PutsOf, PutsOwnUpToLast}
 use Rattle.swarm_lines.specs.Came.{Stays}
 use Rattle.swarm_lines.specs.Closing.{IsClosed}
 use Rattle.swarm_lines.specs.Endings.{after_fault, after_journal, out_of_memory}
 use Rattle.swarm_lines.specs.Finished.{IsFinished, Stands}
-use Rattle.swarm_lines.specs.OfScript.{IsOfScript, PutsUpToLast}
+use Rattle.swarm_lines.specs.OfScript.{PutsUpToLast}
 use Rattle.swarm_lines.specs.Putting.{part_out}
 use Rattle.swarm_lines.specs.ScriptSteps.{KeepsFirstLinesOfScript, KeepsScript, PutsToLast}
 use Rattle.swarm_lines.specs.declared.endings.Ending.{Ending}

@@ -1,5 +1,5 @@
 -- What a script's lines make is fit for a journal, and isn't Halt.
-use Rattle.std.proofs.Common.{◌≡◌, ℕ, ◌-◌, ◌≤◌, ◌<◌, inl, inr, List, [], ◌∷◌, ◌++◌, Bool, true, false, not, refl, sym, ◌∙◌, ap, subst, arith, Option, Some, None, Result, Ok, Err}
+use Rattle.std.proofs.Common.{◌≡◌, ℕ, ◌-◌, ◌≤◌, inl, inr, List, [], ◌∷◌, ◌++◌, Bool, true, false, not, refl, sym, subst, arith, Option, Some, Result, Ok, Err}
 use Rattle.std.proofs.lemmas.Bool.Decides.{nat_tests}
 use Rattle.script_grammar.specs.HasText.{is_number}
 use Rattle.script_grammar.specs.declared.lines.Line.{Line}
@@ -18,7 +18,6 @@ use Rattle.swarm_model.specs.Script.{own_call}
 use Rattle.swarm_objects.proofs.RowLemmas.{Has-append_cases}
 use Rattle.swarm_objects.specs.CallWords.{is_halt}
 use Rattle.swarm_objects.specs.Rows.{Has}
-use Rattle.swarm_objects.specs.declared.calls.Call.{Call}
 use Rattle.swarm_objects.specs.declared.calls.Call.TheVariants.{Settle, Tick}
 use Rattle.swarm_objects.specs.declared.calls.Entry.{Entry}
 

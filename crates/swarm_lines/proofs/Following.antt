@@ -1,15 +1,14 @@
 -- What caller 0 kept makes the whole history follow the script, with any number of workers.
-use Rattle.std.proofs.Common.{◌≡◌, ℕ, List, [], ◌∷◌, ◌++◌, map, true, refl, Option, Some, None, sym, ◌∙◌, ap, subst}
+use Rattle.std.proofs.Common.{◌≡◌, ℕ, List, [], ◌∷◌, ◌++◌, map, true, Option, Some, None, sym, subst}
 use Rattle.std.specs.List.{list_all}
 use Rattle.script_grammar.specs.declared.lines.Line.{Line}
-use Rattle.swarm_input.specs.Script.{Reading, reading, reading_of}
+use Rattle.swarm_input.specs.Script.{Reading, reading}
 use Rattle.swarm_input.specs.Streams.{PutsThenPrefix, Stream}
-use Rattle.swarm_input.specs.declared.faults.Fault.{Fault}
 use Rattle.swarm_lines.proofs.Joining.{last_done, last_still, some_still, stop_still}
-use Rattle.swarm_lines.specs.Callers.{FollowsScript, PutsOf, PutsOwnReplies, PutsOwnUpToLast, output}
+use Rattle.swarm_lines.specs.Callers.{FollowsScript, PutsOwnUpToLast, output}
 use Rattle.swarm_lines.specs.Came.{Stays}
-use Rattle.swarm_lines.specs.Putting.{part_out, texts_of}
-use Rattle.swarm_lines.specs.ScriptSteps.{KeepsAllLines, KeepsDone, KeepsGoodLines, KeepsLast, KeepsScript, KeepsSome, KeepsStop, PutsToLast, next_asked}
+use Rattle.swarm_lines.specs.Putting.{part_out}
+use Rattle.swarm_lines.specs.ScriptSteps.{KeepsAllLines, KeepsDone, KeepsLast, KeepsScript, KeepsStop, PutsToLast, next_asked}
 use Rattle.swarm_lines.specs.Serial.{asked}
 use Rattle.swarm_lines.specs.declared.endings.Ending.{Ending}
 use Rattle.swarm_lines.specs.declared.endings.Ending.TheVariants.{Done, Refused, ReadFault, OutFault, JournalFault, NoMemory, NoMemoryAt, BadLine, Full}
@@ -18,8 +17,8 @@ use Rattle.swarm_model.proofs.Following.KeptLast.{kept-last-law, kept-undone-law
 use Rattle.swarm_model.specs.Follows.{FollowsPart}
 use Rattle.swarm_model.specs.History.{IsLegal}
 use Rattle.swarm_model.specs.Kept.{KeepsCut}
-use Rattle.swarm_model.specs.Own.{Step, own, reply_to}
-use Rattle.swarm_model.specs.Script.{Asked, is_of_a_caller, own_call}
+use Rattle.swarm_model.specs.Own.{Step}
+use Rattle.swarm_model.specs.Script.{is_of_a_caller, own_call}
 use Rattle.swarm_model.specs.Undone.{FollowsUndone}
 use Rattle.swarm_objects.specs.declared.calls.Call.TheVariants.{Halt}
 use Rattle.swarm_objects.specs.declared.calls.Entry.{Entry}

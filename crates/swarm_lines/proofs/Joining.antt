@@ -1,5 +1,5 @@
 -- A line joins the earlier ones, whatever others appended meanwhile.
-use Rattle.std.proofs.Common.{◌≡◌, ℕ, inl, inr, List, [], ◌∷◌, ◌++◌, Bool, true, false, cond, ◌==◌, map, Option, None, Some, refl, sym, ◌∙◌, ap, subst, append_assoc, append-nil, arith}
+use Rattle.std.proofs.Common.{◌≡◌, inl, inr, List, [], ◌∷◌, ◌++◌, Bool, true, false, cond, ◌==◌, map, Option, None, Some, refl, sym, ◌∙◌, subst, append_assoc, append-nil, arith}
 use Rattle.std.proofs.lemmas.List.{map-append}
 use Rattle.script_grammar.specs.declared.lines.Line.{Line}
 use Rattle.swarm_lines.proofs.Coming.{busy_then, own_came}

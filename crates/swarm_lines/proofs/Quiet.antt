@@ -11,10 +11,8 @@ use Rattle.swarm_model.specs.History.{replay, step_reply}
 use Rattle.swarm_model.specs.Kept.{AreTurns, IsTurn, KeepsTick, KeepsTicks, KeepsUndone, Stretch}
 use Rattle.swarm_model.specs.Own.{Step, reply_to, step_at}
 use Rattle.swarm_model.specs.Script.{Asked, Asks, Nothing, Settles, Waits, own_call}
-use Rattle.swarm_objects.specs.Rows.{Has}
 use Rattle.swarm_objects.specs.declared.calls.Call.TheVariants.{Tick}
 use Rattle.swarm_objects.specs.declared.calls.Entry.{Entry}
-use Rattle.swarm_objects.specs.declared.replies.Reply.{Reply}
 use Rattle.swarm_print.specs.Texts.{reply_text}
 
 pub out_append : (first rest : List Step) → part_out (first ++ rest) ≡ part_out first ++ part_out rest

@@ -1,5 +1,5 @@
 -- Every line of the journal is short enough to be read back.
-use Rattle.std.proofs.Common.{◌≡◌, ◌≤◌, ◌<◌, ◌^◌, ◌⊎◌, ℕ, List, length, nat_le, true, refl, sym, ◌∙◌, Ok, Err, arith, inl, inr}
+use Rattle.std.proofs.Common.{◌≡◌, ◌≤◌, ◌<◌, ◌^◌, ◌⊎◌, ℕ, List, length, nat_le, true, refl, sym, Ok, Err, arith, inl, inr}
 use Rattle.std.proofs.lemmas.Bool.Decides.{nat_tests}
 use Rattle.swarm_objects.specs.declared.calls.Call.TheVariants.{Halt, Settle, Tick}
 use Rattle.swarm_objects.specs.declared.duties.Duty.{Duty}

@@ -1,5 +1,5 @@
 -- Caller 0's calls and turns.
-use Rattle.std.proofs.Common.{◌≡◌, ℕ, ◌⊎◌, inl, inr, List, [], ◌∷◌, ◌++◌, Bool, true, false, ◌==◌, refl, ap, ◌∙◌, sym, subst, Some}
+use Rattle.std.proofs.Common.{◌≡◌, ℕ, inl, inr, List, [], ◌∷◌, ◌++◌, Bool, true, false, ◌==◌, refl, ap, ◌∙◌, sym, subst}
 use Rattle.swarm_lines.proofs.Coming.{Finds, came_one, found}
 use Rattle.swarm_lines.specs.Came.{Answered, Appended, Halts, Stays, StaysBy, Turned}
 use Rattle.swarm_lines.specs.declared.unanswered.Unanswered.{Unanswered}
@@ -7,9 +7,7 @@ use Rattle.swarm_lines.specs.declared.unanswered.Unanswered.TheVariants.{Full, N
 use Rattle.swarm_model.proofs.ReplyLaws.{call_is_entry}
 use Rattle.swarm_model.specs.History.{replay, step_reply}
 use Rattle.swarm_model.specs.Script.{own_call, own_duty}
-use Rattle.swarm_objects.specs.CallWords.{is_entry, is_halt}
-use Rattle.swarm_objects.specs.Duties.{duties}
-use Rattle.swarm_objects.specs.Rows.{first_of}
+use Rattle.swarm_objects.specs.CallWords.{is_entry}
 use Rattle.swarm_objects.specs.declared.calls.Call.{Call}
 use Rattle.swarm_objects.specs.declared.calls.Call.TheVariants.{Halt}
 use Rattle.swarm_objects.specs.declared.calls.Entry.{Entry}

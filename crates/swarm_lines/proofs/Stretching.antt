@@ -1,9 +1,9 @@
 -- A stretch of turns, and a wait line.
-use Rattle.std.proofs.Common.{◌≡◌, ℕ, ◌+◌, ◌-◌, ◌≤◌, ◌<◌, inl, inr, List, [], ◌∷◌, ◌++◌, length, refl, ap, ◌∙◌, sym, subst, append_assoc, append-nil, arith, Some, None, length-append}
-use Rattle.std.specs.Prelude.{false, is_some, sum_by, true}
+use Rattle.std.proofs.Common.{◌≡◌, ℕ, ◌+◌, ◌-◌, ◌<◌, inl, inr, List, [], ◌∷◌, ◌++◌, refl, ap, ◌∙◌, sym, subst, append_assoc, arith, Some, None, length-append}
+use Rattle.std.specs.Prelude.{is_some, sum_by}
 use Rattle.std.proofs.lemmas.List.Sums.{sum_by-cons}
-use Rattle.swarm_lines.proofs.Coming.{busy_then, came_none, came_stays, came_then, saw, stays_came}
-use Rattle.swarm_lines.specs.Came.{Answered, Came, Stays, StaysBy, Turned}
+use Rattle.swarm_lines.proofs.Coming.{came_none, came_stays, came_then, saw, stays_came}
+use Rattle.swarm_lines.specs.Came.{Answered, Stays, StaysBy, Turned}
 use Rattle.swarm_lines.specs.Stretches.{BeganWait, HasNoRoom, Settled, Settling, StoppedWait, StopsTurns, StopsWait, Took, Waited, Waiting}
 use Rattle.swarm_lines.specs.declared.unanswered.Unanswered.{Unanswered}
 use Rattle.swarm_lines.specs.declared.unanswered.Unanswered.TheVariants.{Full, NoMemory}
@@ -12,9 +12,8 @@ use Rattle.swarm_model.proofs.Following.Strides.{IsNextTick, tick_is}
 use Rattle.swarm_model.specs.History.{replay}
 use Rattle.swarm_model.specs.Kept.{IsTurn, KeepsTick, KeepsTicks, Stretch}
 use Rattle.swarm_model.specs.Own.{Step, step_at}
-use Rattle.swarm_model.specs.Script.{full_stretch, is_busy, next_tick, own_call, own_duty}
+use Rattle.swarm_model.specs.Script.{full_stretch, next_tick, own_call, own_duty}
 use Rattle.swarm_model.specs.Settle.{settle_answer}
-use Rattle.swarm_model.specs.Undone.{SeesBusy}
 use Rattle.swarm_objects.proofs.RowLemmas.{Has-append_cases}
 use Rattle.swarm_objects.specs.Kinds.{duty_named, role_of}
 use Rattle.swarm_objects.specs.Rows.{Has}

@@ -1,5 +1,5 @@
 -- How the reading ended, told, and what Halt leaves of what was put.
-use Rattle.std.proofs.Common.{◌≡◌, ℕ, ◌+◌, ◌≤◌, ◌<◌, inl, inr, List, [], ◌∷◌, ◌++◌, take, Bool, true, false, ◌||◌, refl, Option, Some, None, sym, ◌∙◌, ap, subst, arith}
+use Rattle.std.proofs.Common.{◌≡◌, ℕ, ◌+◌, ◌≤◌, ◌<◌, inl, inr, List, [], ◌∷◌, ◌++◌, take, Bool, true, false, ◌||◌, refl, Option, Some, None, sym, ◌∙◌, ap, subst}
 use Rattle.std.proofs.lemmas.List.{append-nil}
 use Rattle.std.specs.Io.KnownBytes.{Appends}
 use Rattle.std.specs.List.{list_any}
@@ -12,7 +12,7 @@ use Rattle.swarm_lines.proofs.Answering.{rose_later}
 use Rattle.swarm_lines.proofs.Coming.{own_came}
 use Rattle.swarm_lines.proofs.Quiet.{out_append, refused_append}
 use Rattle.swarm_lines.specs.Callers.{PutsOf, output}
-use Rattle.swarm_lines.specs.Came.{Came, Stays}
+use Rattle.swarm_lines.specs.Came.{Stays}
 use Rattle.swarm_lines.specs.Endings.{TellsEnding}
 use Rattle.swarm_lines.specs.Putting.{part_out, part_refused, texts_of}
 use Rattle.swarm_lines.specs.ScriptSteps.{IsRead, KeepsScript, PutsToLast}

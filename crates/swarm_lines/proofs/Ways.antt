@@ -1,5 +1,5 @@
 -- The ways of a reading: one line more, a fault, the end.
-use Rattle.std.proofs.Common.{◌≡◌, ℕ, ◌+◌, ◌≤◌, ◌<◌, inl, inr, List, [], ◌∷◌, ◌++◌, length, Bool, true, false, not, cond, refl, Option, Some, None, Result, Ok, Err, sym, ◌∙◌, ap, subst, append_assoc, arith}
+use Rattle.std.proofs.Common.{◌≡◌, ℕ, ◌+◌, ◌≤◌, inl, inr, List, [], ◌∷◌, ◌++◌, length, Bool, true, false, not, refl, Option, Some, None, Ok, Err, sym, ◌∙◌, ap, subst, append_assoc, arith}
 use Rattle.std.specs.Io.KnownBytes.{Consumes}
 use Rattle.std.proofs.lemmas.List.{append-nil, length-append}
 use Rattle.script_grammar.specs.Lines.{meaning_of}
@@ -15,14 +15,11 @@ use Rattle.swarm_input.specs.declared.input.ReadFault.{ReadFault}
 use Rattle.swarm_input.specs.declared.input.ScriptLine.{ScriptLine}
 use Rattle.swarm_lines.proofs.Joining.{done_some, last_done, last_joins, line_joins, part_joins, stop_joins, stop_some}
 use Rattle.swarm_lines.proofs.Readings.{all_read, good, read_bad, read_line, says_more}
-use Rattle.swarm_lines.specs.Came.{Came}
 use Rattle.swarm_lines.specs.Endings.{ending_of, whole_ending}
 use Rattle.swarm_lines.specs.Inside.LineSteps.{DoesLine, MakesLine, SaysLine}
-use Rattle.swarm_lines.specs.ScriptSteps.{IsReading, KeepsDone, KeepsFirstLines, KeepsFirstLinesOfScript, KeepsFull, KeepsGoodLines, KeepsLast, KeepsScript, KeepsStop, KeepsToLast, Reached, ReachedBy}
-use Rattle.swarm_lines.specs.Serial.{asked}
+use Rattle.swarm_lines.specs.ScriptSteps.{IsReading, KeepsDone, KeepsFirstLines, KeepsFirstLinesOfScript, KeepsGoodLines, KeepsScript, Reached, ReachedBy}
 use Rattle.swarm_lines.specs.declared.endings.Ending.{Ending}
 use Rattle.swarm_lines.specs.declared.endings.Ending.TheVariants.{Done, Refused, ReadFault as SourceFault, OutFault, JournalFault, NoMemory as NoRoom, NoMemoryAt, BadLine, Full}
-use Rattle.swarm_model.specs.Kept.{KeepsPart}
 use Rattle.swarm_model.specs.Own.{Step, own}
 use Rattle.swarm_objects.specs.declared.calls.Entry.{Entry}
 

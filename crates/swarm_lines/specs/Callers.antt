@@ -5,7 +5,6 @@ use Rattle.std.specs.List.{list_any}
 use Rattle.swarm_model.specs.Follows.{Follows, FollowsPart, IsEnd, IsLine}
 use Rattle.swarm_model.specs.History.{replay}
 use Rattle.swarm_model.specs.Own.{own_replies, own_replies_from}
-use Rattle.swarm_model.specs.Script.{Asked}
 use Rattle.swarm_model.specs.Undone.{FollowsUndone}
 use Rattle.swarm_objects.specs.declared.calls.Entry.{Entry}
 use Rattle.swarm_objects.specs.declared.replies.Reply.{Reply}

@@ -6,7 +6,7 @@ use Rattle.swarm_input.specs.declared.input.ReadFault.{ReadFault as ReaderFault}
 use Rattle.swarm_input.specs.declared.input.ReadFault.TheVariants.{Failed, Bad, NoMemory as NoRoom}
 use Rattle.swarm_input.specs.declared.faults.WriteFault.{WriteFault}
 use Rattle.swarm_input.specs.declared.faults.WriteFault.TheVariants.{Failed as SinkFailed, NoMemory as NoSpace}
-use Rattle.swarm_input.specs.Script.{reading, bad_line}
+use Rattle.swarm_input.specs.Script.{bad_line}
 use Rattle.swarm_input.specs.Streams.{Stream, PutsUnlessFailed}
 
 -- the status of each ending

@@ -1,9 +1,8 @@
 -- What a history has to do with a script, by the way that the run ended.
-use Rattle.std.specs.Prelude.{ℕ, ◌+◌, ◌≡◌, ◌≢◌, ◌⊎◌, ◌≤◌, ◌<◌, nat_lt, take, List, [], ◌∷◌, ◌++◌, length, true, if◌then◌else◌, Option, Some, None, is_some, ⊤}
-use Rattle.std.specs.List.{list_all}
+use Rattle.std.specs.Prelude.{ℕ, ◌+◌, ◌≡◌, ◌≤◌, ◌<◌, take, List, [], ◌∷◌, ◌++◌, length, Option, Some, None, ⊤}
 use Rattle.std.specs.Io.KnownBytes.{Consumes}
 use Rattle.swarm_objects.specs.Limits.{most_entries}
-use Rattle.swarm_model.specs.History.{replay, replies}
+use Rattle.swarm_model.specs.History.{replay}
 use Rattle.swarm_model.specs.Script.{own_call}
 use Rattle.swarm_objects.specs.World.{World}
 use Rattle.swarm_objects.specs.declared.calls.Call.TheVariants.{Halt}

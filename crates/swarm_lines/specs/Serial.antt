@@ -1,5 +1,5 @@
 -- The history that a single caller makes of a script's lines, and what it puts of a history.
-use Rattle.std.specs.Prelude.{ℕ, nat_eq, List, [], ◌∷◌, ◌++◌, codes, Bool, true, false}
+use Rattle.std.specs.Prelude.{ℕ, nat_eq, List, [], ◌∷◌, ◌++◌, Bool, true, false}
 use Rattle.std.specs.List.{flat_map, list_any}
 use Rattle.swarm_model.specs.History.{replay, replay_from, replies, replies_from}
 use Rattle.swarm_model.specs.Script.{Asked, Asks, Nothing, Settles, Waits, own_call}

@@ -1,15 +1,14 @@
 -- From what passes say to what is known of the whole history.
-use Rattle.std.proofs.Common.{◌≡◌, ℕ, zero, suc, ◌+◌, ◌<◌, ◌≤◌, List, [], ◌∷◌, ◌++◌, length, take, get_or, refl, sym, ap, ◌∙◌, subst, arith, inl, inr, Some, slice_get}
+use Rattle.std.proofs.Common.{◌≡◌, ℕ, zero, suc, ◌+◌, ◌<◌, ◌≤◌, List, [], ◌∷◌, ◌++◌, length, take, get_or, refl, sym, ap, ◌∙◌, subst, arith}
 use Rattle.std.specs.List.{All, Any}
 use Rattle.std.proofs.lemmas.Option.{get_or_from_slice_get, slice_get-get_or}
 use Rattle.swarm_input.specs.Streams.{Stream}
 use Rattle.swarm_lines.proofs.Coming.{found}
-use Rattle.swarm_lines.specs.Closing.{AreBack, AreShared, IsDutyOf}
-use Rattle.swarm_lines.specs.Came.{Stays}
+use Rattle.swarm_lines.specs.Closing.{AreBack, IsDutyOf}
 use Rattle.swarm_top.specs.Inside.Workers.{AreReady, HasRead, HasWorked, HaveRun, HaveWorked, IsReady}
 use Rattle.swarm_lines.specs.declared.endings.Ending.{Ending}
 use Rattle.swarm_loops.proofs.Adding.{adds_none}
-use Rattle.swarm_loops.specs.Turns.{AddsTurns, IsTurn}
+use Rattle.swarm_loops.specs.Turns.{AddsTurns}
 use Rattle.swarm_model.specs.Own.{own}
 use Rattle.swarm_model.specs.Script.{share}
 use Rattle.swarm_objects.specs.Rows.{Has}

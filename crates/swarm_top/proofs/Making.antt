@@ -14,7 +14,7 @@ use Rattle.swarm_input.proofs.Prefixes.{prefix_none}
 use Rattle.swarm_lines.proofs.Closing.{closed}
 use Rattle.swarm_lines.proofs.Finishing.{finished}
 use Rattle.swarm_lines.proofs.Telling.{told}
-use Rattle.swarm_lines.specs.Closing.{AreBack, IsClosed}
+use Rattle.swarm_lines.specs.Closing.{AreBack}
 use Rattle.swarm_lines.specs.Endings.{TellsEnding, exit_status}
 use Rattle.swarm_lines.specs.Finished.{IsFinished}
 use Rattle.swarm_lines.specs.Serial.{entries, has_refusal, serial}

@@ -70,7 +70,13 @@ fn sum_up(alloc: Global, world: World, entries: u64) -> Result<String, AllocErro
 }
 
 // Puts the line that sums up a run that came to the script's end.
-fn put_summary<O: Sink>(alloc: Global, world: World, entries: u64, out: &mut O, ending: Ending) -> u8
+fn put_summary<O: Sink>(
+    alloc: Global,
+    world: World,
+    entries: u64,
+    out: &mut O,
+    ending: Ending,
+) -> u8
     requires legal { IsLegal world }
     requires entries { entries ≡ length world }
     ensures { PutsAs (summary (replay world)) (exit_status ending) (stream O.written O.faults out.old out.new) result }

@@ -1,5 +1,5 @@
 -- What passes say after the script and the workers.
-use Rattle.std.specs.Prelude.{◌≡◌, ℕ, ◌+◌, ◌<◌, ◌≤◌, List, [], length, slice_index_or}
+use Rattle.std.specs.Prelude.{◌≡◌, ℕ, ◌+◌, ◌<◌, List, [], length, slice_index_or}
 use Rattle.std.specs.List.{All}
 use Rattle.swarm_input.specs.Streams.{Stream}
 use Rattle.swarm_lines.specs.Came.{Halts}

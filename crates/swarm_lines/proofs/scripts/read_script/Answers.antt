@@ -9,7 +9,6 @@ use Rattle.swarm_lines.proofs.Ways.{begins, end, line_ends, line_some, next, rea
 use Rattle.swarm_lines.proofs.scripts.read_script.Goals as goal
 use Rattle.swarm_lines.specs.Endings.{ending_of, whole_ending}
 use Rattle.swarm_lines.specs.Inside.LineSteps.{SaysLine}
-use Rattle.swarm_lines.specs.Putting.{part_out, part_refused}
 use Rattle.swarm_model.specs.Own.{own}
 use Rattle.turn_cell.specs.Passes.{seen}
 

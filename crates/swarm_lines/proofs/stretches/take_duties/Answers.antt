@@ -1,4 +1,4 @@
-use Rattle.std.proofs.Common.{◌≡◌, ◌≤◌, ◌<◌, ◌+◌, sym, ap, ◌∙◌, subst, arith, Ok, Err, Some}
+use Rattle.std.proofs.Common.{◌≡◌, ◌≤◌, ◌<◌, ◌+◌, sym, ap, ◌∙◌, subst, arith, Ok, Some}
 use Rattle.swarm_lines.proofs.Stretching.{took_all, took_both, took_full, took_idle, took_more, took_none}
 use Rattle.swarm_lines.proofs.stretches.take_duties.Goals as goal
 use Rattle.swarm_lines.specs.Came.{StaysBy, Turned}

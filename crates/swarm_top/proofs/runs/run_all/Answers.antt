@@ -1,4 +1,4 @@
-use Rattle.std.proofs.Common.{◌≡◌, arith}
+use Rattle.std.proofs.Common.{arith}
 use denote.Param.Send.{sendable}
 use Rattle.swarm_top.proofs.Backing.{first_new, others_new}
 use Rattle.swarm_top.proofs.runs.run_all.Goals as goal

@@ -1,4 +1,4 @@
-use Rattle.std.proofs.Common.{◌≡◌, ◌<◌, ◌≤◌, ◌∙◌, refl, subst, sym}
+use Rattle.std.proofs.Common.{◌<◌, ◌≤◌, ◌∙◌, refl, subst, sym}
 use Rattle.swarm_top.proofs.Backing.{are_back, every_number, lent_run}
 use Rattle.swarm_top.proofs.runs.run_beside.Goals as goal
 

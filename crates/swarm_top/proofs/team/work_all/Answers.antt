@@ -1,4 +1,4 @@
-use Rattle.std.proofs.Common.{◌≡◌, ◌<◌, ◌+◌, sym, subst, arith}
+use Rattle.std.proofs.Common.{◌+◌, sym, subst, arith}
 use Rattle.swarm_top.proofs.team.work_all.Goals as goal
 use Rattle.swarm_top.specs.Inside.Workers.{HasWorked, IsReady}
 
