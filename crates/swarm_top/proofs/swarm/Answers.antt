@@ -6,7 +6,7 @@ use Rattle.swarm_top.proofs.Whole.{is_no_run_at}
 use Rattle.swarm_top.proofs.swarm.Goals as goal
 
 pub run_script-requires-after_bounds : goal.run_script-requires-after_bounds
-run_script-requires-after_bounds g c = λ bounds.
+run_script-requires-after_bounds g c = λ bounds outlive.
     few_asked (map (λ word. string_bytes word) c.args.words.now) _ _ c.in-Ok-Run.ensures c.in-Ok-Run.field-0-is
 
 pub make-requires : goal.make-requires
@@ -14,7 +14,7 @@ make-requires g c =
     made_asked (map (λ word. string_bytes word) c.args.words.now) _ _ c.in-Ok-Make.ensures c.in-Ok-Make.field-0-is
 
 pub make_run-requires-after_bounds : goal.make_run-requires-after_bounds
-make_run-requires-after_bounds g c = λ bounds.
+make_run-requires-after_bounds g c = λ bounds outlive.
     ran_asked (map (λ word. string_bytes word) c.args.words.now) _ _ c.in-Ok-MakeRun.ensures c.in-Ok-MakeRun.field-0-is
 
 pub returns-in-Ok-Run-clause-run : goal.returns-in-Ok-Run-clause-run
