@@ -1,5 +1,5 @@
 -- A number's word begins with a digit, and clap takes a word that does.
-use Rattle.std.proofs.Common.{◌≡◌, ap, sym, subst, refl, ℕ, suc, zero, ◌+◌, ◌-◌, ◌≤◌, ◌<◌, ◌^◌, true, false, [], ◌∷◌, ◌++◌, codes, Option, Some, None, nat_le, decimal, arith}
+use Rattle.std.proofs.Common.{◌≡◌, ap, sym, subst, refl, ℕ, suc, zero, ◌+◌, ◌-◌, ◌≤◌, ◌<◌, ◌^◌, true, [], ◌∷◌, ◌++◌, codes, Option, Some, None, nat_le, decimal, arith}
 use Rattle.std.specs.Prelude.{if◌then◌else◌}
 use Rattle.std.specs.Str.Parse.{IsNumeral}
 use Rattle.std.proofs.lemmas.Bool.Decides.{nat_tests}

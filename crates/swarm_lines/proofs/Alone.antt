@@ -1,5 +1,5 @@
 -- Where caller 0 is alone, what it kept makes the history the one that a script has without workers.
-use Rattle.std.proofs.Common.{◌≡◌, ℕ, ◌+◌, ◌<◌, List, [], ◌∷◌, ◌++◌, length, map, take, true, false, Bool, ◌==◌, cond, refl, Option, Some, None, sym, ◌∙◌, ap, subst, append_assoc}
+use Rattle.std.proofs.Common.{◌≡◌, ℕ, ◌<◌, List, [], ◌∷◌, ◌++◌, length, map, take, true, false, Bool, ◌==◌, cond, refl, Option, Some, None, sym, ◌∙◌, ap, subst, append_assoc}
 use Rattle.std.proofs.lemmas.List.{append-nil, append_cancel_left, append_cancel_right}
 use Rattle.std.specs.List.{list_all}
 use Rattle.script_grammar.specs.declared.lines.Line.{Line}
