@@ -114,7 +114,7 @@ impl TurnWork<World> for Looking {
 
     fn run(self, value: &mut World) -> Answer<Look> {
         let look = Look {
-            settle: value.settled(),
+            settle: value.look(),
             now: value.now(),
         };
         told(value, look)
