@@ -2,7 +2,7 @@
 use Rattle.std.proofs.Common.{◌≡◌, ℕ, true}
 use Rattle.std.specs.Prelude.{◌&&◌, not}
 use Rattle.std.specs.List.{list_any}
-use Rattle.swarm_plain.proofs.LeastNumber.{any_suspect}
+use Rattle.swarm_plain.proofs.Suspects.{any_suspect}
 use Rattle.swarm_plain.specs.Inside.OfPlace.{is_suspect}
 use Rattle.swarm_model.specs.Settle.{has_waiting_place}
 use Rattle.swarm_objects.proofs.Tests.{first_so}

@@ -1,28 +1,17 @@
 -- The tasks that make a place dirty.
 use Rattle.std.proofs.Common.{◌≡◌, ℕ, Bool, true, false, List, [], ◌∷◌, Option, Some, None, inl, inr, refl, ◌∙◌}
-use Rattle.std.specs.Prelude.{◌⊎◌, ◌&&◌, ◌||◌, fold, not}
+use Rattle.std.specs.Prelude.{◌⊎◌, ◌&&◌, ◌||◌, not}
 use Rattle.std.specs.List.{last_or, list_any}
 use Rattle.swarm_plain.proofs.Numbers.{number_at, one_place}
 use Rattle.swarm_model.proofs.Laws.Any.{any-has}
-use Rattle.swarm_objects.proofs.Gaps.{IsRising-with_row}
 use Rattle.swarm_objects.proofs.Tests.{second_so}
-use Rattle.swarm_objects.specs.Rows.{Has, IsRising, is_some_and, itself, with_number}
+use Rattle.swarm_objects.specs.Rows.{Has, is_some_and}
 use Rattle.swarm_objects.specs.Same.{same_place}
 use Rattle.swarm_objects.specs.Services.Words.{is_live_dirty}
 use Rattle.swarm_objects.specs.Tasks.Places.{closes_dirty, counts_for, has_live, is_dirty_place, is_in_place, newest, place_at, place_number, place_tasks}
 use Rattle.swarm_objects.specs.World.{Tables}
 use Rattle.swarm_objects.specs.declared.services.Service.{Service}
 use Rattle.swarm_objects.specs.declared.tasks.Task.{Task}
-
--- The numbers of tasks.
-
-abbrev pub numbered_behind : List ℕ → List Task → List ℕ
-numbered_behind ks tasks = fold (λ ks (x : Task). with_number (place_number x.place) ks) ks tasks
-
-pub behind_rises : (ks : List ℕ) (tasks : List Task) → IsRising itself ks → IsRising itself (numbered_behind ks tasks)
-behind_rises ks [] r = r
-behind_rises ks (x ∷ tasks) r =
-    behind_rises (with_number (place_number x.place) ks) tasks (IsRising-with_row itself (place_number x.place) ks r)
 
 -- Places.
 

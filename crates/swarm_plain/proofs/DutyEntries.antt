@@ -1,19 +1,17 @@
 -- What a duty leaves of the events that wait and of the order of rows, for its entry.
-use Rattle.std.proofs.Common.{◌≡◌, ℕ, ◌+◌, List, [], refl, true, Option, Some, None}
+use Rattle.std.proofs.Common.{◌≡◌, ℕ, ◌+◌, [], refl, true, Option, Some, None}
 use Rattle.swarm_model.proofs.Base.FromLists.{IsDuty-due}
-use Rattle.swarm_model.proofs.Laws.Orderly.{orderly-replay}
 use Rattle.swarm_model.proofs.Laws.Sound.{rows-below, rows-rise}
 use Rattle.swarm_model.proofs.Moves.EachDuty.{effect-moves}
 use Rattle.swarm_model.proofs.Moves.Worlds.{IsOrderly, orderly-moves}
 use Rattle.swarm_model.proofs.Watching.Watchers.{duty-watchers, same-sees}
-use Rattle.swarm_model.specs.History.{IsLegal, effect, replay}
+use Rattle.swarm_model.specs.History.{effect}
 use Rattle.swarm_objects.proofs.RowChanges.{rising_from}
 use Rattle.swarm_objects.specs.Agents.Messages.{message_for}
 use Rattle.swarm_objects.specs.Duties.{effect_by, is_due}
 use Rattle.swarm_objects.specs.Loops.Agents.{after_pull}
 use Rattle.swarm_objects.specs.Rows.{network_id, node_id, service_id, task_id}
 use Rattle.swarm_objects.specs.World.{World}
-use Rattle.swarm_objects.specs.declared.calls.Entry.{Entry}
 use Rattle.swarm_objects.specs.declared.duties.Duty.{Duty}
 use Rattle.swarm_objects.specs.declared.duties.Duty.TheVariants as duty
 use Rattle.swarm_objects.specs.declared.messages.Message.{Message}
@@ -32,10 +30,6 @@ order-of w is =
       networks = rising_from network_id 0 w.tables.networks rows.networks;
       below = rows-below w is;
     }
-
--- every world of a legal history has it
-pub order-replay : (h : List Entry) → IsLegal h → HasOrder (replay h).tables
-order-replay h legal = order-of (replay h) (orderly-replay h legal)
 
 pub order-duty : (w : World) (d : Duty) → IsOrderly w → is_due w d ≡ true → HasOrder (effect_by (w.entries + 1) w d).tables
 order-duty w d is due = order-of (effect w d) (orderly-moves w (effect w d) is (effect-moves w d is (IsDuty-due w d due)))

@@ -11,7 +11,7 @@ use Rattle.swarm_model.specs.Calls.Watches.{is_waited_for, kept_events, told_at,
 use Rattle.swarm_model.specs.Calls.Views.{View, shows}
 use Rattle.swarm_model.specs.Changed.{changes_between, events_of}
 use Rattle.swarm_model.specs.Content.{same_network, same_node, same_service, same_task}
-use Rattle.swarm_model.specs.Outcome.{Answered, Gives, Meets, Outcome}
+use Rattle.swarm_model.specs.Outcome.{Answered, Gives, Outcome}
 use Rattle.swarm_objects.proofs.Filters.{filter_none}
 use Rattle.swarm_objects.specs.Limits.{most_events}
 use Rattle.swarm_objects.specs.Rows.{Has, network_id, node_id, row_at, service_id, task_id, watcher_id}
@@ -20,19 +20,15 @@ use Rattle.swarm_objects.specs.declared.calls.Call.{Call}
 use Rattle.swarm_objects.specs.declared.calls.Call.TheVariants as call
 use Rattle.swarm_objects.specs.declared.ids.Kind.{Kind}
 use Rattle.swarm_objects.specs.declared.ids.Kind.TheVariants as kind
-use Rattle.swarm_objects.specs.declared.replies.Refusal.{Refusal}
 use Rattle.swarm_objects.specs.declared.replies.Refusal.TheVariants as refusal
 use Rattle.swarm_objects.specs.declared.replies.Reply.{Reply}
 use Rattle.swarm_objects.specs.declared.replies.Reply.TheVariants as reply
 use Rattle.swarm_objects.specs.declared.watches.Event.{Event}
 use Rattle.swarm_objects.specs.declared.watches.Watcher.{Watcher}
 use Rattle.swarm_plain.proofs.AnswerEvents.{answer-events}
-use Rattle.swarm_plain.specs.Entries.{Refuses, entered_unseen, keeps_rows}
+use Rattle.swarm_plain.specs.Entries.{entered_unseen, keeps_rows}
 
 -- What is kept.
-
-given-done : (P : Reply × World → Type 0) (w v : World) (given : Answered) (r : Reply) → OnGiven P given → given ≡ Ok (r, v) → P (r, v)
-given-done P w v given r holds e = given-is P given (r, v) holds e
 
 pub events-answer : (version : ℕ) (w v : World) (c : Call) (r : Reply) → answer version w c ≡ Ok (r, v) → v.events ≡ w.events
 events-answer version w v c r done =
@@ -235,13 +231,6 @@ pub gives-entered : (w v after : World) (c : Call) (r : Reply) → answer (w.ent
 gives-entered w v after c r done is =
     let outcome = ap (answered w) done in
     (ap (λ (o : Outcome). o.reply) (sym outcome), is ∙ ap (λ (o : Outcome). o.after) (sym outcome))
-
-pub meets-refused : (w after : World) (c : Call) (why : Refusal) (r : Reply) →
-    ((why ≡ refusal.NoMemory) ⊎ (answer (w.entries + 1) w c ≡ Err why)) → Refuses w why r after → Meets (call_outcome w c) w r after
-meets-refused w after c why r (inl e) (inl k) = inr (k.1, k.2)
-meets-refused w after c why r (inl e) (inr k) = absurd (k.0 e)
-meets-refused w after c why r (inr e) (inl k) = inr (k.1, k.2)
-meets-refused w after c why r (inr e) (inr k) = inl (subst (λ given. Gives (answered w given) r after) (sym e) k.1)
 
 -- the settle test changes nothing of which events tell
 pub settle-unseen : (w : World) → entered w w ≡ entered_unseen (w.entries + 1) w

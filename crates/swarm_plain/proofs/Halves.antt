@@ -1,17 +1,11 @@
 -- Looking up a row by halving.
-use Rattle.std.proofs.Common.{◌≡◌, ◌≤◌, ◌+◌, ℕ, zero, suc, Bool, true, false, cond, eqb, ltb, List, [], ◌∷◌, length, Option, Some, None, refl, sym, ap, ◌∙◌, arith}
+use Rattle.std.proofs.Common.{◌≡◌, ◌≤◌, ℕ, zero, suc, Bool, true, false, cond, eqb, ltb, List, [], ◌∷◌, length, Option, Some, None, refl, sym, ap, ◌∙◌, arith}
 use Rattle.std.proofs.lemmas.Bool.Decides.{nat_tests}
-use Rattle.std.proofs.lemmas.List.Sorted.{IsNonDecreasingBy-from_all_adjacent}
 use Rattle.std.specs.List.{AllWithin}
-use Rattle.std.specs.List.Sorted.{IsNonDecreasingBy, IsPartitionPoint}
+use Rattle.std.specs.List.Sorted.{IsPartitionPoint}
 use Rattle.std.specs.Prelude.{slice_get}
 use Rattle.swarm_objects.proofs.RowLemmas.{row_at-None_below}
-use Rattle.swarm_objects.proofs.Halves.{next_rises}
 use Rattle.swarm_objects.specs.Rows.{IsRising, RisesFrom, row_at}
-
-rises_by : {X : Type 0} (key : X → ℕ) (n : ℕ) (rows : List X) → RisesFrom key n rows → IsNonDecreasingBy key rows
-rises_by key n rows r =
-    IsNonDecreasingBy-from_all_adjacent key rows (λ i d lt. next_rises key n rows r i (i + 1) d refl lt)
 
 -- the row, where its key is this one
 abbrev pub if_is : {X : Type 0} → (X → ℕ) → ℕ → Option X → Option X

@@ -6,7 +6,6 @@ pub mod EntryLemmas
 pub mod First
 pub mod Halves
 pub mod HeldPlaces
-pub mod LeastNumber
 pub mod Looks
 pub mod Merging
 pub mod Numbers
@@ -17,3 +16,4 @@ pub mod Remotes
 pub mod Rooms
 pub mod RowOrder
 pub mod Sending
+pub mod Suspects

@@ -7,7 +7,6 @@ pub mod events;
 mod faults;
 pub mod halving;
 pub mod held;
-pub mod least;
 mod messages;
 mod names;
 mod networks;

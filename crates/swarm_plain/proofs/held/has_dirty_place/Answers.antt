@@ -1,5 +1,5 @@
 use Rattle.std.proofs.Common.{◌∙◌}
-use Rattle.swarm_plain.proofs.LeastNumber.{suspects}
+use Rattle.swarm_plain.proofs.Suspects.{suspects}
 use Rattle.swarm_plain.specs.Plain.{tables_of}
 use Rattle.swarm_plain.proofs.held.has_dirty_place.Goals as goal
 
