@@ -199,7 +199,7 @@ impl Marks {
         let _ = first_of_tasks::<Unallocated, R>(rows, &mut self.tasks.to_allocate);
     }
 
-    /// With what these changes touch of the rows: asked before they are made. Any agent may have a duty afterwards.
+    /// With what these changes touch of the rows: asked before they are made. What agents owe is touched apart.
     pub fn touch(&mut self, records: &Records, changes: &[Change])
         requires usable { IsUsable (tables_of records.now) }
         requires marks { AreMarked self.old (tables_of records.now) }
