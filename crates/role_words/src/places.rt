@@ -7,13 +7,13 @@ ghost use Rattle.swarm_objects.specs.Tasks.Places.{closes, has_live, is_held_pla
 ghost use Rattle.swarm_objects.specs.Usable.{IsUsable};
 
 use std::marker::Model;
-use swarm_objects::walks::{ServiceTasks, tasks_of};
+use swarm_objects::walks::{TasksAt, tasks_at};
 use swarm_objects::{Place, Rows, Service, Task};
 
 /// The tasks of a place of a service that are left, by rising id. Contracts see the list of them.
 #[derive(Drop)]
 pub struct PlaceTasks<'a, R: Rows> {
-    rest: ServiceTasks<'a, R>,
+    rest: TasksAt<'a, R>,
     service: &'a Service,
     place: Place,
 }
@@ -46,7 +46,7 @@ impl<'a, R: Rows> Iterator for PlaceTasks<'a, R> {
 }
 
 /// The tasks of this place of the service, by rising id.
-#[tactic(auto, using(swarm_objects::proofs::PlaceLemmas::in_place_of_service))]
+#[tactic(auto, using(swarm_objects::proofs::PlaceLemmas::in_place_at))]
 pub fn tasks_of_place<'a, R: Rows>(
     rows: &'a R,
     service: &'a Service,
@@ -56,7 +56,7 @@ pub fn tasks_of_place<'a, R: Rows>(
     ensures { result ≡ tasks_of_place service.now place (R.tables rows.now).tasks }
 {
     PlaceTasks {
-        rest: tasks_of(rows, service.id),
+        rest: tasks_at(rows, service.id, place),
         service,
         place,
     }

@@ -5,7 +5,7 @@ use Rattle.std.specs.List.{list_any}
 use Rattle.std.specs.Prelude.{◌&&◌, ◌||◌, count_by, filter, length}
 use Rattle.swarm_objects.proofs.Filters.{filter_again}
 use Rattle.swarm_objects.specs.Tasks.Places.{counts_for, is_in_place, tasks_of_place}
-use Rattle.swarm_objects.specs.Tasks.Words.{is_of}
+use Rattle.swarm_objects.specs.Tasks.Words.{is_at, is_of}
 use Rattle.swarm_objects.specs.declared.services.Service.{Service}
 use Rattle.swarm_objects.specs.declared.tasks.Place.{Place}
 use Rattle.swarm_objects.specs.declared.tasks.Task.{Task}
@@ -17,6 +17,15 @@ and_left false b e = e
 pub in_place_of_service : (s : Service) (p : Place) (tasks : List Task)
     → filter (is_in_place s p) (filter (is_of s.id) tasks) ≡ tasks_of_place s p tasks
 in_place_of_service s p tasks = filter_again (is_in_place s p) (is_of s.id) tasks (λ x e. and_left _ _ (and_left _ _ e))
+
+stands_at : (a b c : Bool) → (a && b) && c ≡ true → a && c ≡ true
+stands_at true true c e = e
+stands_at true false c e = cc
+stands_at false b c e = e
+
+pub in_place_at : (s : Service) (p : Place) (tasks : List Task)
+    → filter (is_in_place s p) (filter (is_at s.id p) tasks) ≡ tasks_of_place s p tasks
+in_place_at s p tasks = filter_again (is_in_place s p) (is_at s.id p) tasks (λ x e. stands_at _ _ _ e)
 
 pub counted_of_service : (s : Service) (tasks : List Task) → filter (counts_for s) (filter (is_of s.id) tasks)
     ≡ filter (counts_for s) tasks

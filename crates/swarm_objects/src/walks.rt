@@ -1,10 +1,10 @@
 // Rows one after the other, as iterators that are seen as the list of the rows that are left.
 ghost use Rattle.std.specs.Prelude.{◌≡◌, filter};
 ghost use Rattle.std.specs.Iterator.{YieldsFirstRef, item_count};
-ghost use Rattle.swarm_objects.specs.Tasks.Words.{is_of, is_on};
+ghost use Rattle.swarm_objects.specs.Tasks.Words.{is_at, is_of, is_on};
 ghost use Rattle.swarm_objects.specs.Usable.{IsUsable};
 
-use crate::{Id, Network, Node, Rows, Service, Task};
+use crate::{Id, Network, Node, Place, Rows, Service, Task};
 use std::marker::Model;
 
 /// The nodes that are left, by rising id. Contracts see the list of them.
@@ -219,6 +219,58 @@ pub fn tasks_of<R: Rows>(rows: &R, service: Id) -> ServiceTasks<'_, R>
     ServiceTasks {
         rows,
         service,
+        after: 0,
+    }
+}
+
+/// The tasks at a place of a service that are left, by rising id. Contracts see the list of them.
+#[derive(Drop)]
+pub struct TasksAt<'a, R: Rows> {
+    rows: &'a R,
+    service: Id,
+    place: Place,
+    after: Id,
+}
+
+impl<'a, R: Rows> Model for TasksAt<'a, R> {
+    ghost use Rattle.std.specs.Prelude.{List, filter};
+    ghost use Rattle.swarm_objects.specs.declared.tasks.Task.{Task as Row};
+    ghost use Rattle.swarm_objects.specs.Rows.{task_id};
+    ghost use Rattle.swarm_objects.specs.Tasks.Words.{is_at};
+    ghost use Rattle.swarm_objects.specs.Walks.{walk};
+
+    ghost Value = { List Row };
+
+    ghost view = { λ it. walk task_id it.after (filter (is_at it.service it.place) (R.tables it.rows.now).tasks) };
+}
+
+impl<'a, R: Rows> Iterator for TasksAt<'a, R> {
+    type Item = &'a Task;
+
+    ghost next_gives = { YieldsFirstRef (λ it. it) };
+
+    ghost remaining = { item_count (λ it. it) };
+
+    #[tactic(auto, using(crate::proofs::WalkLemmas::walk_end))]
+    fn next(&mut self) -> Option<&'a Task> {
+        let row = self
+            .rows
+            .next_task_at(self.service, self.place, self.after)?;
+        self.after = row.id;
+        Some(row)
+    }
+}
+
+/// The tasks whose place is this one of the service, by rising id.
+#[tactic(auto, using(crate::proofs::WalkLemmas::walk_begins_among))]
+pub fn tasks_at<R: Rows>(rows: &R, service: Id, place: Place) -> TasksAt<'_, R>
+    requires { IsUsable (R.tables rows.now) }
+    ensures { result ≡ filter (is_at service place) (R.tables rows.now).tasks }
+{
+    TasksAt {
+        rows,
+        service,
+        place,
         after: 0,
     }
 }

@@ -2,7 +2,7 @@
 ghost use Rattle.std.specs.Prelude.{◌≡◌, filter};
 ghost use Rattle.std.specs.Option.{option_copied};
 ghost use Rattle.swarm_objects.specs.Rows.{row_above, row_at, session_node, task_id};
-ghost use Rattle.swarm_objects.specs.Tasks.Words.{is_of, is_on};
+ghost use Rattle.swarm_objects.specs.Tasks.Words.{is_at, is_of, is_on};
 ghost use Rattle.swarm_plain.specs.Plain.{tables_of};
 
 use crate::Plain;
@@ -61,6 +61,10 @@ impl Rows for Plain {
         next_of(self.tasks.as_slice(), service, after)
     }
 
+    fn next_task_at(&self, service: Id, place: Place, after: Id) -> Option<&Task> {
+        next_at(self.tasks.as_slice(), service, place, after)
+    }
+
     fn next_task_on(&self, node: Id, after: Id) -> Option<&Task> {
         next_on(self.tasks.as_slice(), node, after)
     }
@@ -107,6 +111,18 @@ fn next_of(tasks: &[Task], service: Id, after: Id) -> Option<&Task>
 {
     for task in tasks {
         if task.is_of(service) && task.id > after {
+            return Some(task);
+        }
+    }
+    None
+}
+
+// The first of the tasks at the service's place whose id is above this one.
+fn next_at(tasks: &[Task], service: Id, place: Place, after: Id) -> Option<&Task>
+    ensures { option_copied result ≡ row_above task_id after (filter (is_at service place) tasks.now) }
+{
+    for task in tasks {
+        if task.is_at(service, place) && task.id > after {
             return Some(task);
         }
     }

@@ -1,17 +1,19 @@
 -- Rows by their keys.
 use Rattle.std.proofs.Common.{◌<◌, arith, ltb, ◌≡◌, ℕ, Bool, true, false, cond, List, [], ◌∷◌, Option, Some, None, refl, ap, ◌∙◌}
-use Rattle.std.specs.Prelude.{filter, find}
+use Rattle.std.specs.Prelude.{◌==◌, ◌&&◌, filter, find}
 use Rattle.std.proofs.lemmas.Bool.Decides.{nat_tests}
 use Rattle.std.specs.Option.{option_eq, option_map}
-use Rattle.swarm_index.specs.Keys.{Num, Text, has_key, same_key}
+use Rattle.swarm_index.specs.Keys.{Num, Pair, Text, has_key, same_key}
 use Rattle.swarm_model.specs.Calls.Refusals.{network_name, node_name, row_named, service_name}
-use Rattle.swarm_index.specs.Rows.{network_key, node_key, service_key, task_key}
+use Rattle.swarm_index.specs.Rows.{host_key, network_key, node_key, service_key, slot_key, task_key}
 use Rattle.swarm_objects.specs.Rows.{RisesFrom, is_some_and, network_id, node_id, row_above, service_id}
 use Rattle.swarm_objects.specs.declared.networks.Network.{Network}
 use Rattle.swarm_objects.specs.declared.nodes.Node.{Node}
 use Rattle.swarm_objects.specs.declared.services.Service.{Service}
-use Rattle.swarm_objects.specs.Same.{same_number}
-use Rattle.swarm_objects.specs.Tasks.Words.{is_of, is_on}
+use Rattle.swarm_objects.specs.Same.{same_number, same_place}
+use Rattle.swarm_objects.specs.Tasks.Words.{is_at, is_of, is_on}
+use Rattle.swarm_objects.specs.declared.tasks.Place.{Place}
+use Rattle.swarm_objects.specs.declared.tasks.Place.TheVariants.{Slot, On}
 use Rattle.swarm_objects.specs.declared.tasks.Task.{Task}
 
 pub filter-same : {X : Type 0} (p q : X → Bool) (xs : List X) → ((x : X) → p x ≡ q x) → filter p xs ≡ filter q xs
@@ -21,6 +23,34 @@ filter-same p q (x ∷ xs) same =
 
 pub of_service : (service : ℕ) (tasks : List Task) → filter (has_key task_key 0 (Num service)) tasks ≡ filter (is_of service) tasks
 of_service service tasks = filter-same _ _ tasks (λ (t : Task). refl)
+
+nowhere : (b : Bool) → false ≡ (b && false)
+nowhere true = refl
+nowhere false = refl
+
+same-slot : (service slot : ℕ) (t : Task) → has_key task_key 2 (Pair service slot) t ≡ is_at service (Slot slot) t
+same-slot service slot t = go t.place
+  where
+    go : (place : Place) → is_some_and (λ k. same_key k (Pair service slot)) (slot_key t.service place) ≡
+        (t.service == service && same_place place (Slot slot))
+    go (Slot n) = refl
+    go (On n) = nowhere (t.service == service)
+
+same-host : (service node : ℕ) (t : Task) → has_key task_key 3 (Pair service node) t ≡ is_at service (On node) t
+same-host service node t = go t.place
+  where
+    go : (place : Place) → is_some_and (λ k. same_key k (Pair service node)) (host_key t.service place) ≡
+        (t.service == service && same_place place (On node))
+    go (Slot n) = nowhere (t.service == service)
+    go (On n) = refl
+
+pub at_slot : (service slot : ℕ) (tasks : List Task) →
+    filter (has_key task_key 2 (Pair service slot)) tasks ≡ filter (is_at service (Slot slot)) tasks
+at_slot service slot tasks = filter-same _ _ tasks (same-slot service slot)
+
+pub at_host : (service node : ℕ) (tasks : List Task) →
+    filter (has_key task_key 3 (Pair service node)) tasks ≡ filter (is_at service (On node)) tasks
+at_host service node tasks = filter-same _ _ tasks (same-host service node)
 
 same-node : (node : ℕ) (given : Option ℕ) → is_some_and (λ k. same_key k (Num node)) (option_map Num given) ≡
     option_eq same_number given (Some node)

@@ -65,6 +65,10 @@ impl Rows for TasksAlone<'_> {
         self.state.next_task_of(service, after)
     }
 
+    fn next_task_at(&self, service: Id, place: Place, after: Id) -> Option<&Task> {
+        self.state.next_task_at(service, place, after)
+    }
+
     fn next_task_on(&self, node: Id, after: Id) -> Option<&Task> {
         self.state.next_task_on(node, after)
     }

@@ -1,8 +1,12 @@
 // What a store holds, now and when the changes under way began.
-ghost use Rattle.std.specs.Prelude.{◌≡◌, ◌<◌, ◌≤◌, ◌+◌, IfOk, IfSome, OnOk, [], length};
+ghost use Rattle.std.specs.Prelude.{◌≡◌, ◌<◌, ◌≤◌, ◌+◌, IfOk, IfSome, OnOk, [], filter, length};
+ghost use Rattle.std.specs.Option.{option_copied};
 ghost use Rattle.std.specs.Vec.{vec_capacity};
 ghost use Rattle.swarm_model.specs.Changed.{changes_between};
+ghost use Rattle.swarm_objects.specs.Rows.{row_above, task_id};
+ghost use Rattle.swarm_objects.specs.Tasks.Words.{is_at};
 ghost use Rattle.swarm_objects.specs.World.{empty_tables};
+ghost use Rattle.swarm_objects.specs.declared.tasks.Place.TheVariants.{Slot, On};
 ghost use Rattle.swarm_store.specs.Inside.State.{IsUntouched, Stands, changed_rows, tables_now, tables_start};
 ghost use Rattle.swarm_store.specs.Stored.{row_count};
 
@@ -11,7 +15,7 @@ use crate::service_rows::Services;
 use crate::tracked::Tracked;
 use std::alloc::Global;
 use swarm_index::IndexKey;
-use swarm_index::keys::{NODE, SERVICE};
+use swarm_index::keys::{HOST, NODE, SERVICE, SLOT};
 use swarm_objects::{
     Event, Id, Kind, Ms, Network, NoMemory, Node, Place, Rows, Service, Settings, Task, Version,
 };
@@ -215,6 +219,13 @@ impl Rows for State {
             .next_by_key(SERVICE, &IndexKey::Num(service), after)
     }
 
+    fn next_task_at(&self, service: Id, place: Place, after: Id) -> Option<&Task> {
+        match place {
+            Place::Slot(slot) => next_in_slot(&self.tasks, service, slot, after),
+            Place::On(node) => next_on_host(&self.tasks, service, node, after),
+        }
+    }
+
     #[tactic(auto, using(crate::proofs::Lookups::on_node))]
     fn next_task_on(&self, node: Id, after: Id) -> Option<&Task> {
         self.tasks.next_by_key(NODE, &IndexKey::Num(node), after)
@@ -228,4 +239,20 @@ impl Rows for State {
         self.attempts
             .count(self.clock, service, place, version, window)
     }
+}
+
+// The task with the least id above this one in the service's slot.
+#[tactic(auto, using(crate::proofs::Lookups::at_slot))]
+fn next_in_slot(tasks: &Tracked<Task>, service: Id, slot: u64, after: Id) -> Option<&Task>
+    ensures { option_copied result ≡ row_above task_id after (filter (is_at service (Slot slot)) tasks.now.rows) }
+{
+    tasks.next_by_key(SLOT, &IndexKey::Pair(service, slot), after)
+}
+
+// The task with the least id above this one of those that have this node for their place.
+#[tactic(auto, using(crate::proofs::Lookups::at_host))]
+fn next_on_host(tasks: &Tracked<Task>, service: Id, node: Id, after: Id) -> Option<&Task>
+    ensures { option_copied result ≡ row_above task_id after (filter (is_at service (On node)) tasks.now.rows) }
+{
+    tasks.next_by_key(HOST, &IndexKey::Pair(service, node), after)
 }

@@ -7,7 +7,7 @@ ghost use Rattle.swarm_objects.specs.Changes.{id_taken};
 ghost use Rattle.swarm_objects.specs.Limits.{is_tick};
 ghost use Rattle.swarm_objects.specs.Rows.{network_id, node_id, row_above, row_at, service_id, task_id};
 ghost use Rattle.swarm_objects.specs.Tasks.Attempts.{is_kept_attempt};
-ghost use Rattle.swarm_objects.specs.Tasks.Words.{is_of, is_on};
+ghost use Rattle.swarm_objects.specs.Tasks.Words.{is_at, is_of, is_on};
 ghost use Rattle.swarm_objects.specs.World.{World, empty_tables};
 ghost use Rattle.swarm_objects.specs.ChangeLists.{CanApplyAll};
 ghost use Rattle.swarm_store.specs.Stored.{AppliesChanges, HasNearTasks, Shows, StandsFor, Transacts, row_count};
@@ -211,6 +211,14 @@ impl Store {
         ensures { option_copied result ≡ row_above task_id after (filter (is_of service) self.now.tables.tasks) }
     {
         self.state.next_task_of(service, after)
+    }
+
+    /// The task with the least id above this one whose place is this one of the service.
+    pub fn next_task_at(&self, service: Id, place: Place, after: Id) -> Option<&Task>
+        ensures { option_copied result
+            ≡ row_above task_id after (filter (is_at service place) self.now.tables.tasks) }
+    {
+        self.state.next_task_at(service, place, after)
     }
 
     /// The node's task with the least id above this one.

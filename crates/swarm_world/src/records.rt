@@ -64,6 +64,10 @@ impl Rows for Records {
         self.store.next_task_of(service, after)
     }
 
+    fn next_task_at(&self, service: Id, place: Place, after: Id) -> Option<&Task> {
+        self.store.next_task_at(service, place, after)
+    }
+
     fn next_task_on(&self, node: Id, after: Id) -> Option<&Task> {
         self.store.next_task_on(node, after)
     }

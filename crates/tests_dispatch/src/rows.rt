@@ -85,6 +85,14 @@ impl Rows for Small {
         }
     }
 
+    fn next_task_at(&self, service: Id, place: Place, after: Id) -> Option<&Task> {
+        if self.task.is_at(service, place) && after < self.task.id {
+            Some(&self.task)
+        } else {
+            None
+        }
+    }
+
     fn next_task_on(&self, node: Id, after: Id) -> Option<&Task> {
         if self.task.is_on(node) && after < self.task.id {
             Some(&self.task)

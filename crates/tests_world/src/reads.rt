@@ -38,6 +38,10 @@ fn is_task_same(plain: &Plain, world: &World, task: &Task) -> bool {
             plain.next_task_of(service, id),
             world.next_task_of(service, id),
         )
+        && is_same(
+            plain.next_task_at(service, place, 0),
+            world.next_task_at(service, place, 0),
+        )
         && plain.attempts(service, place, version, 0) == world.attempts(service, place, version, 0)
 }
 

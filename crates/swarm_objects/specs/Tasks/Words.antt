@@ -4,6 +4,7 @@ use Rattle.std.specs.Option.{option_eq}
 use Rattle.swarm_objects.specs.Same.{same_number, same_place}
 use Rattle.swarm_objects.specs.Values.Ranks.{desired_rank, rank}
 use Rattle.swarm_objects.specs.declared.tasks.Desired.TheVariants as desired
+use Rattle.swarm_objects.specs.declared.tasks.Place.{Place}
 use Rattle.swarm_objects.specs.declared.tasks.Task.{Task}
 use Rattle.swarm_objects.specs.declared.tasks.TaskState.{TaskState}
 use Rattle.swarm_objects.specs.declared.tasks.TaskState.TheVariants as state
@@ -30,6 +31,10 @@ is_pending _ = false
 
 abbrev pub is_of : ℕ → Task → Bool
 is_of service t = t.service == service
+
+-- its place is this one of the service with this number
+abbrev pub is_at : ℕ → Place → Task → Bool
+is_at service place t = t.service == service && same_place t.place place
 
 abbrev pub is_on : ℕ → Task → Bool
 is_on node t = option_eq same_number t.node (Some node)
