@@ -20,8 +20,8 @@
 //!   return, and `\` any other character itself.
 //! - Without an option the script is run by `swarm run --workers 0`. Seen is the output, `- status N`, and of these
 //!   what the row has, in this order: `- lines N` (of the journal), `- journal` and the journal, `- walked N` (entries
-//!   up to the first world that isn't as it must be), `- unread` and what the source still has, `- stops`, `- cuts`. A
-//!   first line `...` stands for whatever goes before.
+//!   up to the first world that isn't as it must be), `- judged legal` (a replay's word on the journal), `- unread`
+//!   and what the source still has, `- stops`, `- cuts`. A first line `...` stands for whatever goes before.
 //! - Behind `- stops` stand the runs in which the journal fails at each of its lines, after no byte and after one, as
 //!   `2+1 4 17`: at the second line after 1 byte, status 4, and the first 17 bytes of the journal are kept. Behind
 //!   `- cuts` stand the runs of the script cut after each of its bytes, as `17 6 bad line 2 Cut`: cut after 17 bytes
@@ -58,7 +58,7 @@ use std::{fs, io};
 use swarm_objects::{NoMemory, Sink, StdSink};
 
 /// The files of rows.
-const FILES: [&str; 34] = [
+const FILES: [&str; 35] = [
     "faults",
     "words",
     "limits",
@@ -93,6 +93,7 @@ const FILES: [&str; 34] = [
     "next_duties",
     "other_duties",
     "makes",
+    "workers",
 ];
 
 /// The statuses where the output can't be written, and where memory is wanting.

@@ -64,25 +64,6 @@ fn push_unread(seen: &mut Vec<u8>, source: &mut MemorySource) -> Result<(), NoMe
     push_rest(seen, source)
 }
 
-// What is to be seen of the journal: the parts that stand behind the status in the row.
-fn push_kept(
-    alloc: Global,
-    seen: &mut Vec<u8>,
-    journal: &[u8],
-    wanted: &str,
-) -> Result<(), NoMemory> {
-    if wanted.contains("\n- lines ") {
-        push_number(alloc, seen, b"- lines ", lines_of(journal))?;
-    }
-    if wanted.contains("\n- journal") {
-        push_journal(seen, journal)?;
-    }
-    if wanted.contains("\n- walked ") {
-        push_number(alloc, seen, b"- walked ", walked(alloc, journal)?)?;
-    }
-    Ok(())
-}
-
 // A run that has ended: its status, and its source and its sinks as they are left.
 #[derive(Drop)]
 pub(crate) struct Ended {
@@ -120,6 +101,58 @@ pub(crate) fn run<R: Threads + Wait + Sync + AllocGlobal>(
     })
 }
 
+// That a replay calls the journal legal, or what it says.
+fn push_verdict(seen: &mut Vec<u8>, said: &[u8]) -> Result<(), NoMemory> {
+    seen.extend_from_slice(b"- judged ")?;
+    if said.starts_with(b"legal ") {
+        return Ok(seen.extend_from_slice(b"legal\n")?);
+    }
+    Ok(seen.extend_from_slice(said)?)
+}
+
+// What a replay says of the journal.
+fn push_judged<R: Threads + Wait + Sync + AllocGlobal>(
+    rt: &R,
+    seen: &mut Vec<u8>,
+    head: &Head<'_>,
+    journal: &[u8],
+) -> Result<(), NoMemory> {
+    let judging = Head {
+        kind: head.kind,
+        words: "replay",
+        piece: head.piece,
+        take: None,
+        out: None,
+        put: None,
+    };
+    let ended = run(rt, &judging, journal)?;
+    push_verdict(seen, ended.out.bytes())
+}
+
+// What is to be seen of the journal: the parts that stand behind the status in the row.
+fn push_kept<R: Threads + Wait + Sync + AllocGlobal>(
+    rt: &R,
+    seen: &mut Vec<u8>,
+    head: &Head<'_>,
+    journal: &[u8],
+    wanted: &str,
+) -> Result<(), NoMemory> {
+    let alloc = rt.alloc();
+    if wanted.contains("\n- lines ") {
+        push_number(alloc, seen, b"- lines ", lines_of(journal))?;
+    }
+    if wanted.contains("\n- journal") {
+        push_journal(seen, journal)?;
+    }
+    if wanted.contains("\n- walked ") {
+        push_number(alloc, seen, b"- walked ", walked(alloc, journal)?)?;
+    }
+    if wanted.contains("\n- judged ") {
+        push_judged(rt, seen, head, journal)?;
+    }
+    Ok(())
+}
+
 // Runs the script, and says what is seen of it.
 pub(crate) fn push_run<R: Threads + Wait + Sync + AllocGlobal>(
     rt: &R,
@@ -132,7 +165,7 @@ pub(crate) fn push_run<R: Threads + Wait + Sync + AllocGlobal>(
     let mut ended = run(rt, head, script)?;
     seen.extend_from_slice(ended.out.bytes())?;
     push_number(alloc, seen, b"- status ", u64::from(ended.status))?;
-    push_kept(alloc, seen, ended.journal.bytes(), wanted)?;
+    push_kept(rt, seen, head, ended.journal.bytes(), wanted)?;
     if wanted.contains("\n- unread") {
         push_unread(seen, &mut ended.source)?;
     }
