@@ -2,8 +2,10 @@
 use Rattle.std.proofs.Common.{◌≡◌, Bool, true, false, cond, List, [], ◌∷◌, refl, sym, ap, ◌∙◌}
 use Rattle.std.proofs.lemmas.List.Sums.{length-filter}
 use Rattle.std.specs.List.{list_any}
-use Rattle.std.specs.Prelude.{◌&&◌, ◌||◌, count_by, filter, length}
+use Rattle.std.specs.Prelude.{◌==◌, ◌&&◌, ◌||◌, count_by, filter, length, not}
 use Rattle.swarm_objects.proofs.Filters.{filter_again}
+use Rattle.swarm_objects.specs.Same.{same_place}
+use Rattle.swarm_objects.specs.Services.Words.{is_job}
 use Rattle.swarm_objects.specs.Tasks.Places.{counts_for, is_in_place, tasks_of_place}
 use Rattle.swarm_objects.specs.Tasks.Words.{is_at, is_of}
 use Rattle.swarm_objects.specs.declared.services.Service.{Service}
@@ -25,7 +27,8 @@ stands_at false b c e = e
 
 pub in_place_at : (s : Service) (p : Place) (tasks : List Task)
     → filter (is_in_place s p) (filter (is_at s.id p) tasks) ≡ tasks_of_place s p tasks
-in_place_at s p tasks = filter_again (is_in_place s p) (is_at s.id p) tasks (λ x e. stands_at _ _ _ e)
+in_place_at s p tasks = filter_again (is_in_place s p) (is_at s.id p) tasks (λ (x : Task) e. stands_at (x.service == s.id)
+    (not (is_job s.spec.mode) || x.iteration == s.iteration) (same_place x.place p) e)
 
 pub counted_of_service : (s : Service) (tasks : List Task) → filter (counts_for s) (filter (is_of s.id) tasks)
     ≡ filter (counts_for s) tasks

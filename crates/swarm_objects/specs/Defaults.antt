@@ -1,5 +1,5 @@
 -- What stands where nothing is named.
-use Rattle.std.specs.Prelude.{ℕ, ◌^◌, ◌*◌, List, [], codes, false}
+use Rattle.std.specs.Prelude.{[], false}
 use Rattle.swarm_objects.specs.Limits.{longest_time}
 use Rattle.swarm_objects.specs.declared.nodes.NodeDraft.{NodeDraft}
 use Rattle.swarm_objects.specs.declared.nodes.TheConstants.NodeDraft.{USUAL_ROLE, USUAL_AVAILABILITY, USUAL_CPU, USUAL_MEM, USUAL_OS, USUAL_ARCH}
