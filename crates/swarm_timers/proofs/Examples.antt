@@ -2,7 +2,7 @@
 use Rattle.std.proofs.Common.{List, None, Some, [], refl, ◌≡◌}
 use Rattle.swarm_timers.specs.Timers.{Timer, due_owner, next_time, with_time, without_time}
 
-both : List Timer
+abbrev both : List Timer
 both = with_time 3 10 (with_time 5 10 [])
 
 nothing-yet : due_owner 9 both ≡ None

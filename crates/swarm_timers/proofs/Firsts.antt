@@ -1,5 +1,5 @@
 -- The first timer, by what is said of each.
-use Rattle.std.proofs.Common.{Bool, List, None, Option, Some, [], absurd, ap, arith, cond, false, inl, inr, refl, subst, sym, true, ℕ, ◌<◌, ◌≤◌, ◌∙◌, ◌∷◌, ◌≡◌, ◌⊎◌}
+use Rattle.std.proofs.Common.{Bool, List, None, Option, Some, [], ap, arith, cond, false, inl, inr, refl, subst, sym, true, ℕ, ◌<◌, ◌≤◌, ◌∙◌, ◌∷◌, ◌≡◌, ◌⊎◌}
 use Rattle.std.proofs.lemmas.Bool.Decides.{nat_tests}
 use Rattle.std.specs.Option.{option_map}
 use Rattle.std.specs.Ordering.{is_lt}
@@ -19,11 +19,13 @@ itself : (a : Timer) → NotAfter a a
 itself a = (omega arith, λ _. omega arith)
 
 then-after : (a b c : Timer) → NotAfter a b → NotAfter b c → NotAfter a c
-then-after a b c p q =
-    (omega (arith, p.0, q.0), λ e.
-    let first : b.at ≡ a.at = omega (arith, p.0, q.0, e) in
-    let second : c.at ≡ b.at = omega (arith, first, e) in
-    omega (arith, p.1 first, q.1 second))
+then-after a b c p q = (
+  omega (arith, p.0, q.0),
+  λ e.
+      let first : b.at ≡ a.at = omega (arith, p.0, q.0, e) in
+      let second : c.at ≡ b.at = omega (arith, first, e) in
+      omega (arith, p.1 first, q.1 second),
+)
 
 before : (a b : Timer) → is_lt (timer_cmp a b) ≡ true → NotAfter a b
 before a b t = (grind (arith, nat_tests, t), λ e. grind (arith, nat_tests, t, e))
@@ -104,7 +106,7 @@ first-is (t ∷ ts) x h =
 
 -- what is due
 
-abbrev pub due_of : ℕ → Option Timer → Option ℕ
+abbrev due_of : ℕ → Option Timer → Option ℕ
 due_of now None = None
 due_of now (Some t) = cond (nat_le t.at now) (Some t.owner) None
 
@@ -121,11 +123,24 @@ due-first now ts x h = go (nat_le x.at now) refl
         (λ t k. let le : x.at ≤ t.at = h.time t k in grind (arith, nat_tests, e, le)))
 
 -- the first one decides
-pub due-is : (now : ℕ) (ts : List Timer) → due_owner now ts ≡ due_of now (first_timer ts)
+due-is : (now : ℕ) (ts : List Timer) → due_owner now ts ≡ due_of now (first_timer ts)
 due-is now [] = refl
 due-is now (t ∷ ts) =
     let found = least-from t ts in
     due-first now (t ∷ ts) found.0 found.2 ∙ ap (due_of now) (sym found.1)
+
+pub due-none : (now : ℕ) (ts : List Timer) → None ≡ first_timer ts → None ≡ due_owner now ts
+due-none now ts e = ap (due_of now) e ∙ sym (due-is now ts)
+
+pub due-now : (now : ℕ) (ts : List Timer) (t : Timer) → Some t ≡ first_timer ts → t.at ≤ now → Some t.owner ≡ due_owner now ts
+due-now now ts t e le =
+    let come : nat_le t.at now ≡ true = grind (arith, nat_tests, le) in
+    sym (ap (λ (b : Bool). cond b (Some t.owner) None) come) ∙ ap (due_of now) e ∙ sym (due-is now ts)
+
+pub due-later : (now : ℕ) (ts : List Timer) (t : Timer) → Some t ≡ first_timer ts → now < t.at → None ≡ due_owner now ts
+due-later now ts t e lt =
+    let early : nat_le t.at now ≡ false = grind (arith, nat_tests, lt) in
+    sym (ap (λ (b : Bool). cond b (Some t.owner) None) early) ∙ ap (due_of now) e ∙ sym (due-is now ts)
 
 -- the laws
 

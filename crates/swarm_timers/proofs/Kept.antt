@@ -1,8 +1,8 @@
 -- What is kept by owner and what is kept by time say the same, whatever is set or cleared.
-use Rattle.std.proofs.Common.{Bool, List, None, Option, Some, [], absurd, ap, arith, cond, eqb, false, inl, inr, refl, subst, sym, true, ℕ, ◌≤◌, ◌∙◌, ◌∷◌, ◌≡◌, ◌&&◌, ◌||◌}
+use Rattle.std.proofs.Common.{Bool, List, None, Option, Some, [], ap, arith, cond, eqb, false, inl, inr, refl, subst, sym, true, ℕ, ◌≤◌, ◌∙◌, ◌∷◌, ◌≡◌, ◌&&◌, ◌||◌}
 use Rattle.std.proofs.lemmas.Bool.Decides.{nat_tests}
 use Rattle.std.specs.BTreeMap.{insert_entry, is_at}
-use Rattle.std.specs.BTreeSet.{BTreeSet}
+use Rattle.std.specs.BTreeSet.{BTreeSet, contains}
 use Rattle.std.specs.Map.{lookup, remove_entry}
 use Rattle.std.specs.Option.{option_map}
 use Rattle.std.specs.Ordering.{is_gt, nat_cmp}
@@ -44,6 +44,31 @@ found : (owner : ℕ) (es : Entries) (former : Option ℕ) → former ≡ lookup
 found owner es former e =
     sym (lookup-entry timer_owner timer_of (λ x. refl) owner es)
     ∙ ap (option_map (λ (a : ℕ). timer_of (owner, a))) (sym e)
+
+-- the set's changes
+
+time-at : (at owner t o : ℕ) → is_at (time_cmp (at, owner)) (t, o) ≡ same_time at owner t o
+time-at at owner t o = grind (arith, nat_tests)
+
+pub adds-one : (at owner : ℕ) (old new : Times) →
+    ((q : ℕ × ℕ) → contains time_cmp new q ≡ cond (is_at (time_cmp (at, owner)) q) true (contains time_cmp old q)) →
+    AddsTime at owner old new
+adds-one at owner old new h t o =
+    h (t, o) ∙ ap (λ (b : Bool). cond b true (has_time old t o)) (time-at at owner t o) ∙ go (same_time at owner t o)
+  where
+    go : (b : Bool) → cond b true (has_time old t o) ≡ (b || has_time old t o)
+    go true = refl
+    go false = refl
+
+pub drops-one : (at owner : ℕ) (old new : Times) →
+    ((q : ℕ × ℕ) → contains time_cmp new q ≡ cond (is_at (time_cmp (at, owner)) q) false (contains time_cmp old q)) →
+    DropsTime at owner old new
+drops-one at owner old new h t o =
+    h (t, o) ∙ ap (λ (b : Bool). cond b false (has_time old t o)) (time-at at owner t o) ∙ go (same_time at owner t o)
+  where
+    go : (b : Bool) → cond b false (has_time old t o) ≡ (not b && has_time old t o)
+    go true = refl
+    go false = refl
 
 -- nothing is there
 
@@ -190,10 +215,10 @@ member-has : (es : Entries) (times : Times) (t o : ℕ) → AreSame es times →
 member-has es times t o s h = go (row_of es o) refl (sym (s.same t o) ∙ h)
   where
     go : (r : Option Timer) → row_of es o ≡ r → time_is t r ≡ true → Has (timers_of es) (timer_at (t, o))
-    go None at yes = let no : false ≡ true = yes in absurd cc
-    go (Some x) at yes =
+    go None at is = let no : false ≡ true = is in absurd cc
+    go (Some x) at is =
         let there = Has-from_row_at timer_owner o (timers_of es) x at in
-        let time : x.at ≡ t = grind (arith, nat_tests, yes) in
+        let time : x.at ≡ t = grind (arith, nat_tests, is) in
         subst (λ (y : Timer). Has (timers_of es) y) (same-timer x (timer_at (t, o)) there.1 time) there.0
 
 not-greater : (p : ℕ × ℕ) (t : Timer) → is_gt (time_cmp p (t.at, t.owner)) ≡ false → NotAfter (timer_at p) t
@@ -203,8 +228,8 @@ pub first-same : (es : Entries) (times : Times) (first : Option (ℕ × ℕ)) �
     option_map timer_at first ≡ first_timer (timers_of es)
 first-same [] times None s none = refl
 first-same (e ∷ es) times None s none =
-    let no : has_time times e.1 e.0 ≡ false = none e.1 e.0 in
-    let yes : has_time times e.1 e.0 ≡ true = has-member (e ∷ es) times (timer_of e) s (inl refl) in
+    let not-there : has_time times e.1 e.0 ≡ false = none e.1 e.0 in
+    let there : has_time times e.1 e.0 ≡ true = has-member (e ∷ es) times (timer_of e) s (inl refl) in
     absurd cc
 first-same es times (Some p) s h =
     sym (first-is (timers_of es) (timer_at p) (first-of (timers_of es) (timer_at p) (member-has es times p.0 p.1 s h.0)

@@ -91,10 +91,10 @@ impl Timers {
     pub fn due(&self, now: Ms) -> Option<Id>
         ensures { result ≡ due_owner now self.now }
     {
-        match self.first() {
-            Some((at, owner)) if at <= now => Some(owner),
-            _ => None,
-        }
+        let Some((at, owner)) = self.first() else {
+            return None;
+        };
+        if at <= now { Some(owner) } else { None }
     }
 
     /// The least time.
