@@ -7,8 +7,8 @@ use Rattle.std.specs.Prelude.{filter, nat_le}
 use Rattle.swarm_objects.proofs.Filters.{filter_none}
 use Rattle.swarm_objects.proofs.RowLemmas.{Has-filter, Has-filter_cases}
 use Rattle.swarm_objects.specs.Rows.{Has, keep_least, least_by}
-use Rattle.swarm_timers.specs.Laws.{IsDue, IsFirst, IsNext}
-use Rattle.swarm_timers.specs.Timers.{Timer, due_owner, first_timer, is_due, next_time, timer_cmp, timer_owner, timer_time}
+use Rattle.swarm_timers.specs.Laws.{IsDueOwner, IsFirstTimer, IsNextTime}
+use Rattle.swarm_timers.specs.Timers.{Timer, due_owner, first_timer, has_come, next_time, timer_cmp, timer_owner, timer_time}
 
 -- one isn't after another
 
@@ -33,18 +33,18 @@ before a b t = (grind (arith, nat_tests, t), λ e. grind (arith, nat_tests, t, e
 not-before : (a b : Timer) → is_lt (timer_cmp a b) ≡ false → NotAfter b a
 not-before a b t = (grind (arith, nat_tests, t), λ e. grind (arith, nat_tests, t, e))
 
-pub first-of : (ts : List Timer) (x : Timer) → Has ts x → ((t : Timer) → Has ts t → NotAfter x t) → IsFirst ts x
+pub first-of : (ts : List Timer) (x : Timer) → Has ts x → ((t : Timer) → Has ts t → NotAfter x t) → IsFirstTimer ts x
 first-of ts x there least =
     record { there = there; time = λ t k. (least t k).0; owner = λ t k e. (least t k).1 e }
 
-not-after : (ts : List Timer) (x t : Timer) → IsFirst ts x → Has ts t → NotAfter x t
+not-after : (ts : List Timer) (x t : Timer) → IsFirstTimer ts x → Has ts t → NotAfter x t
 not-after ts x t h k = (h.time t k, h.owner t k)
 
 pub same-timer : (x y : Timer) → x.owner ≡ y.owner → x.at ≡ y.at → x ≡ y
 same-timer x y p q =
     ap (λ (o : ℕ). record { owner = o; at = x.at }) p ∙ ap (λ (a : ℕ). record { owner = y.owner; at = a }) q
 
-one-first : (ts : List Timer) (x y : Timer) → IsFirst ts x → IsFirst ts y → x ≡ y
+one-first : (ts : List Timer) (x y : Timer) → IsFirstTimer ts x → IsFirstTimer ts y → x ≡ y
 one-first ts x y h k =
     let a : x.at ≤ y.at = h.time y k.there in
     let b : y.at ≤ x.at = k.time x h.there in
@@ -55,7 +55,7 @@ one-first ts x y h k =
 
 -- going over all
 
-alone : (b : Timer) → IsFirst (b ∷ []) b
+alone : (b : Timer) → IsFirstTimer (b ∷ []) b
 alone b = first-of (b ∷ []) b (inl refl) least
   where
     least : (t : Timer) → Has (b ∷ []) t → NotAfter b t
@@ -63,7 +63,7 @@ alone b = first-of (b ∷ []) b (inl refl) least
     least t (inr k) = absurd k
 
 -- a former best one is passed
-passed : (b t x : Timer) (ts : List Timer) → IsFirst (t ∷ ts) x → NotAfter t b → IsFirst (b ∷ t ∷ ts) x
+passed : (b t x : Timer) (ts : List Timer) → IsFirstTimer (t ∷ ts) x → NotAfter t b → IsFirstTimer (b ∷ t ∷ ts) x
 passed b t x ts h over = first-of (b ∷ t ∷ ts) x (inr h.there) least
   where
     least : (u : Timer) → Has (b ∷ t ∷ ts) u → NotAfter x u
@@ -73,7 +73,7 @@ passed b t x ts h over = first-of (b ∷ t ∷ ts) x (inr h.there) least
     least u (inr k) = not-after (t ∷ ts) x u h k
 
 -- it stays
-stays : (b t x : Timer) (ts : List Timer) → IsFirst (b ∷ ts) x → NotAfter b t → IsFirst (b ∷ t ∷ ts) x
+stays : (b t x : Timer) (ts : List Timer) → IsFirstTimer (b ∷ ts) x → NotAfter b t → IsFirstTimer (b ∷ t ∷ ts) x
 stays b t x ts h over = first-of (b ∷ t ∷ ts) x (there h.there) least
   where
     there : Has (b ∷ ts) x → Has (b ∷ t ∷ ts) x
@@ -88,18 +88,18 @@ stays b t x ts h over = first-of (b ∷ t ∷ ts) x (there h.there) least
     least u (inr (inr k)) = not-after (b ∷ ts) x u h (inr k)
 
 least-from : (b : Timer) (ts : List Timer) →
-    (x : Timer) × (least_by timer_cmp (Some b) ts ≡ Some x) × IsFirst (b ∷ ts) x
+    (x : Timer) × (least_by timer_cmp (Some b) ts ≡ Some x) × IsFirstTimer (b ∷ ts) x
 least-from b [] = (b, refl, alone b)
 least-from b (t ∷ ts) = go (is_lt (timer_cmp t b)) refl (least-from t ts) (least-from b ts)
   where
     go : (c : Bool) → is_lt (timer_cmp t b) ≡ c →
-        (x : Timer) × (least_by timer_cmp (Some t) ts ≡ Some x) × IsFirst (t ∷ ts) x →
-        (x : Timer) × (least_by timer_cmp (Some b) ts ≡ Some x) × IsFirst (b ∷ ts) x →
-        (x : Timer) × (least_by timer_cmp (cond c (Some t) (Some b)) ts ≡ Some x) × IsFirst (b ∷ t ∷ ts) x
+        (x : Timer) × (least_by timer_cmp (Some t) ts ≡ Some x) × IsFirstTimer (t ∷ ts) x →
+        (x : Timer) × (least_by timer_cmp (Some b) ts ≡ Some x) × IsFirstTimer (b ∷ ts) x →
+        (x : Timer) × (least_by timer_cmp (cond c (Some t) (Some b)) ts ≡ Some x) × IsFirstTimer (b ∷ t ∷ ts) x
     go true e one two = (one.0, one.1, passed b t one.0 ts one.2 (before t b e))
     go false e one two = (two.0, two.1, stays b t two.0 ts two.2 (not-before t b e))
 
-pub first-is : (ts : List Timer) (x : Timer) → IsFirst ts x → first_timer ts ≡ Some x
+pub first-is : (ts : List Timer) (x : Timer) → IsFirstTimer ts x → first_timer ts ≡ Some x
 first-is [] x h = absurd h.there
 first-is (t ∷ ts) x h =
     let found = least-from t ts in found.1 ∙ ap Some (one-first (t ∷ ts) found.0 x found.2 h)
@@ -110,16 +110,16 @@ abbrev due_of : ℕ → Option Timer → Option ℕ
 due_of now None = None
 due_of now (Some t) = cond (nat_le t.at now) (Some t.owner) None
 
-due-first : (now : ℕ) (ts : List Timer) (x : Timer) → IsFirst ts x → due_owner now ts ≡ due_of now (Some x)
+due-first : (now : ℕ) (ts : List Timer) (x : Timer) → IsFirstTimer ts x → due_owner now ts ≡ due_of now (Some x)
 due-first now ts x h = go (nat_le x.at now) refl
   where
     go : (b : Bool) → nat_le x.at now ≡ b → due_owner now ts ≡ cond b (Some x.owner) None
     go true e =
-        ap (option_map timer_owner) (first-is (filter (is_due now) ts) x
-        (first-of (filter (is_due now) ts) x (Has-filter (is_due now) ts x h.there e)
-        (λ t k. not-after ts x t h (Has-filter_cases (is_due now) ts t k).0)))
+        ap (option_map timer_owner) (first-is (filter (has_come now) ts) x
+        (first-of (filter (has_come now) ts) x (Has-filter (has_come now) ts x h.there e)
+        (λ t k. not-after ts x t h (Has-filter_cases (has_come now) ts t k).0)))
     go false e =
-        ap (λ (us : List Timer). option_map timer_owner (first_timer us)) (filter_none (is_due now) ts
+        ap (λ (us : List Timer). option_map timer_owner (first_timer us)) (filter_none (has_come now) ts
         (λ t k. let le : x.at ≤ t.at = h.time t k in grind (arith, nat_tests, e, le)))
 
 -- the first one decides
@@ -144,20 +144,20 @@ due-later now ts t e lt =
 
 -- the laws
 
-pub next-law : (ts : List Timer) → IsNext ts (next_time ts)
+pub next-law : (ts : List Timer) → IsNextTime ts (next_time ts)
 next-law [] = refl
 next-law (t ∷ ts) =
     let found = least-from t ts in
-    subst (λ (o : Option ℕ). IsNext (t ∷ ts) o) (sym (ap (option_map timer_time) found.1)) (found.0.owner, found.2)
+    subst (λ (o : Option ℕ). IsNextTime (t ∷ ts) o) (sym (ap (option_map timer_time) found.1)) (found.0.owner, found.2)
 
-pub due-law : (now : ℕ) (ts : List Timer) → IsDue now ts (due_owner now ts)
+pub due-law : (now : ℕ) (ts : List Timer) → IsDueOwner now ts (due_owner now ts)
 due-law now [] = λ t k. absurd k
 due-law now (t ∷ ts) =
     let found = least-from t ts in
-    subst (λ (o : Option ℕ). IsDue now (t ∷ ts) o) (sym (due-first now (t ∷ ts) found.0 found.2))
+    subst (λ (o : Option ℕ). IsDueOwner now (t ∷ ts) o) (sym (due-first now (t ∷ ts) found.0 found.2))
     (go found.0 found.2 (nat_le found.0.at now) refl)
   where
-    go : (x : Timer) → IsFirst (t ∷ ts) x → (b : Bool) → nat_le x.at now ≡ b →
-        IsDue now (t ∷ ts) (cond b (Some x.owner) None)
+    go : (x : Timer) → IsFirstTimer (t ∷ ts) x → (b : Bool) → nat_le x.at now ≡ b →
+        IsDueOwner now (t ∷ ts) (cond b (Some x.owner) None)
     go x h true e = (x.at, grind (arith, nat_tests, e), h)
     go x h false e = λ u k. let le : x.at ≤ u.at = h.time u k in grind (arith, nat_tests, e, le)

@@ -16,11 +16,11 @@ timer_owner t = t.owner
 abbrev pub timer_time : Timer → ℕ
 timer_time t = t.at
 
--- the owner has this time, and others have theirs
+-- the time of the owner is this one, and others keep theirs
 abbrev pub with_time : ℕ → ℕ → List Timer → List Timer
 with_time owner at timers = with_row timer_owner (record { owner = owner; at = at }) timers
 
--- the owner has no time, and others have theirs
+-- the owner has no time, and others keep theirs
 abbrev pub without_time : ℕ → List Timer → List Timer
 without_time owner timers = drop_row timer_owner owner timers
 
@@ -36,9 +36,10 @@ first_timer timers = least_by timer_cmp None timers
 abbrev pub next_time : List Timer → Option ℕ
 next_time timers = option_map timer_time (first_timer timers)
 
-abbrev pub is_due : ℕ → Timer → Bool
-is_due now t = nat_le t.at now
+-- its time is at most now
+abbrev pub has_come : ℕ → Timer → Bool
+has_come now t = nat_le t.at now
 
--- of those whose time is at most now, the owner of the first
+-- of those whose time has come, the owner of the first
 abbrev pub due_owner : ℕ → List Timer → Option ℕ
-due_owner now timers = option_map timer_owner (first_timer (filter (is_due now) timers))
+due_owner now timers = option_map timer_owner (first_timer (filter (has_come now) timers))
