@@ -1,12 +1,12 @@
 -- The first timer, by what is said of each.
-use Rattle.std.proofs.Common.{Bool, List, None, Option, Some, [], ap, arith, cond, false, inl, inr, refl, subst, sym, true, ℕ, ◌<◌, ◌≤◌, ◌∙◌, ◌∷◌, ◌≡◌, ◌⊎◌}
+use Rattle.std.proofs.Common.{Bool, List, None, Option, Some, [], ap, arith, cond, false, inl, inr, refl, subst, sym, true, ℕ, ◌<◌, ◌≤◌, ◌∙◌, ◌∷◌, ◌≡◌}
 use Rattle.std.proofs.lemmas.Bool.Decides.{nat_tests}
 use Rattle.std.specs.Option.{option_map}
 use Rattle.std.specs.Ordering.{is_lt}
 use Rattle.std.specs.Prelude.{filter, nat_le}
 use Rattle.swarm_objects.proofs.Filters.{filter_none}
 use Rattle.swarm_objects.proofs.RowLemmas.{Has-filter, Has-filter_cases}
-use Rattle.swarm_objects.specs.Rows.{Has, keep_least, least_by}
+use Rattle.swarm_objects.specs.Rows.{Has, least_by}
 use Rattle.swarm_timers.specs.Laws.{IsDueOwner, IsFirstTimer, IsNextTime}
 use Rattle.swarm_timers.specs.Timers.{Timer, due_owner, first_timer, has_come, next_time, timer_cmp, timer_owner, timer_time}
 

@@ -1,17 +1,17 @@
 -- What is kept by owner and what is kept by time say the same, whatever is set or cleared.
-use Rattle.std.proofs.Common.{Bool, List, None, Option, Some, [], ap, arith, cond, eqb, false, inl, inr, refl, subst, sym, true, ℕ, ◌≤◌, ◌∙◌, ◌∷◌, ◌≡◌, ◌&&◌, ◌||◌}
+use Rattle.std.proofs.Common.{Bool, List, None, Option, Some, [], ap, arith, cond, eqb, false, inl, inr, refl, subst, sym, true, ℕ, ◌∙◌, ◌∷◌, ◌≡◌, ◌&&◌, ◌||◌}
 use Rattle.std.proofs.lemmas.Bool.Decides.{nat_tests}
 use Rattle.std.specs.BTreeMap.{insert_entry, is_at}
 use Rattle.std.specs.BTreeSet.{BTreeSet, contains}
 use Rattle.std.specs.Map.{lookup, remove_entry}
 use Rattle.std.specs.Option.{option_map}
 use Rattle.std.specs.Ordering.{is_gt, nat_cmp}
-use Rattle.std.specs.Prelude.{map, not}
+use Rattle.std.specs.Prelude.{not}
 use Rattle.swarm_objects.proofs.MapEntries.{entries-rise, lookup-entry, put-entry, put-rising, remove-entry, remove-rising}
 use Rattle.swarm_objects.proofs.RowChanges.{row_at-with_row}
 use Rattle.swarm_objects.proofs.RowLemmas.{Has-from_row_at, number_above, row_at-Some}
 use Rattle.swarm_objects.specs.MapEntries.{entry_key}
-use Rattle.swarm_objects.specs.Rows.{Has, IsRising, drop_row, is_some_and, row_at, with_row}
+use Rattle.swarm_objects.specs.Rows.{Has, IsRising, drop_row, is_some_and, row_at}
 use Rattle.swarm_timers.proofs.Firsts.{NotAfter, first-is, first-of, same-timer}
 use Rattle.swarm_timers.specs.Inside.{AddsTime, AreSame, DropsTime, IsFirstTime, KeepsTimes, LeavesFormer, has_time, is_at_time, is_former, same_time, time_cmp, timer_at, timer_of, timers_of}
 use Rattle.swarm_timers.specs.Timers.{Timer, first_timer, timer_owner, with_time, without_time}
