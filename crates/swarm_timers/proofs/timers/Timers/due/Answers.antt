@@ -1,4 +1,4 @@
-use Rattle.std.proofs.Common.{ap, sym, ◌∙◌}
+use Rattle.std.proofs.Common.{ap, arith, sym, ◌∙◌}
 use Rattle.std.specs.Option.{option_map}
 use Rattle.swarm_timers.proofs.Firsts.{due-later, due-none, due-now}
 use Rattle.swarm_timers.specs.Inside.{timer_at}
@@ -11,9 +11,9 @@ returns-in_default c =
 pub returns-then-at-now : goal.returns-then-at-now
 returns-then-at-now c =
     due-now c.args.now c.args.self.now (timer_at (c.in-Some.at, c.in-Some.owner))
-    (ap (option_map timer_at) (sym c.in-Some.is) ∙ c.first.ensures) c.if-at-now.true
+    (ap (option_map timer_at) (sym c.in-Some.is) ∙ c.first.ensures) (omega (arith, c.if-at-now.true))
 
 pub returns-else-at-now : goal.returns-else-at-now
 returns-else-at-now c =
     due-later c.args.now c.args.self.now (timer_at (c.in-Some.at, c.in-Some.owner))
-    (ap (option_map timer_at) (sym c.in-Some.is) ∙ c.first.ensures) c.if-at-now.false
+    (ap (option_map timer_at) (sym c.in-Some.is) ∙ c.first.ensures) (omega (arith, c.if-at-now.false))
