@@ -77,7 +77,7 @@ unanswered n old before new call reply cause f (inr h) none says =
 halted : (before : List Entry) (reply : Reply) → IsUnanswered Halt before reply → IsHalted before
 halted before reply (inl k) = k.1
 halted before reply (inr (inl k)) = absurd (let s = k.2 in cc)
-halted before reply (inr (inr k)) = absurd (let s = k.1 in cc)
+halted before reply (inr (inr k)) = absurd (let s = k.2 in cc)
 
 pub halts : (n : ℕ) (old before new : List Entry) (reply : Reply) → Finds n old before →
     Calls n Halt before new reply → Halts old new
@@ -121,7 +121,7 @@ halted_turn n old before new role turn f h is =
 pub unmade_turn : (n : ℕ) (old before new : List Entry) (role : Role) (turn : Turn) → Finds n old before →
     Turns n role before new turn → turn ≡ TurnNoMemory → Stays old new
 unmade_turn n old before new role turn f h is =
-    unmoved n old before new f (subst (Turns n role before new) is h)
+    unmoved n old before new f (subst (Turns n role before new) is h).0
 
 -- a look
 pub looked : (n m : ℕ) (old new : List Entry) → n ≡ 0 → StartsWith new old →

@@ -88,7 +88,7 @@ is_turn by rs r before after (Did d) there h x e =
 is_turn by rs r before after Idle there h x e = absurd (one_more before x (sym e ∙ h.0))
 is_turn by rs r before after Halted there h x e = absurd (one_more before x (sym e ∙ h.0))
 is_turn by rs r before after (Full n) there h x e = absurd (one_more before x (sym e ∙ h.0))
-is_turn by rs r before after NoMemory there h x e = absurd (one_more before x (sym e ∙ h))
+is_turn by rs r before after NoMemory there h x e = absurd (one_more before x (sym e ∙ h.0))
 
 only : (rs : List Role) (history : List Entry) (n m : ℕ × Entry) → IsTurn rs history n → Has (n ∷ []) m → IsTurn rs history m
 only rs history n m t (inl e) = subst (IsTurn rs history) e t
