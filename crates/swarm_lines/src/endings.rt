@@ -24,7 +24,7 @@ pub enum Ending {
     NoMemoryAt(u64, Fault),
     /// The line with this number is the first that is outside the grammar.
     BadLine(u64, Fault),
-    /// The history had no room for a line's call.
+    /// The history had no room for a line's next entry.
     Full,
 }
 
