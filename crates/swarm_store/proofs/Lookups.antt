@@ -1,12 +1,13 @@
 -- Rows by their keys.
-use Rattle.std.proofs.Common.{◌<◌, arith, ltb, ◌≡◌, ℕ, Bool, true, false, cond, List, [], ◌∷◌, Option, Some, None, refl, ap, ◌∙◌}
+use Rattle.std.proofs.Common.{◌<◌, ◌≤◌, ◌+◌, arith, eqb, ltb, ◌≡◌, ℕ, Bool, true, false, cond, List, [], ◌∷◌, Option, Some, None, refl, subst, ap, ◌∙◌}
 use Rattle.std.specs.Prelude.{◌==◌, ◌&&◌, filter, find}
 use Rattle.std.proofs.lemmas.Bool.Decides.{nat_tests}
 use Rattle.std.specs.Option.{option_eq, option_map}
 use Rattle.swarm_index.specs.Keys.{Num, Pair, Text, has_key, same_key}
 use Rattle.swarm_model.specs.Calls.Refusals.{network_name, node_name, row_named, service_name}
 use Rattle.swarm_index.specs.Rows.{host_key, network_key, node_key, service_key, slot_key, task_key}
-use Rattle.swarm_objects.specs.Rows.{RisesFrom, is_some_and, network_id, node_id, row_above, service_id}
+use Rattle.swarm_objects.proofs.RowLemmas.{row_at-None_below}
+use Rattle.swarm_objects.specs.Rows.{RisesFrom, is_some_and, network_id, node_id, row_above, row_at, service_id}
 use Rattle.swarm_objects.specs.declared.networks.Network.{Network}
 use Rattle.swarm_objects.specs.declared.nodes.Node.{Node}
 use Rattle.swarm_objects.specs.declared.services.Service.{Service}
@@ -59,6 +60,41 @@ same-node node (Some n) = refl
 
 pub on_node : (node : ℕ) (tasks : List Task) → filter (has_key task_key 1 (Num node)) tasks ≡ filter (is_on node) tasks
 on_node node tasks = filter-same _ _ tasks (λ (t : Task). same-node node t.node)
+
+-- The row with the next number.
+
+behind-missed : {X : Type 0} (key : X → ℕ) (after : ℕ) (y x : X) (rows : List X) (found : Option X) → RisesFrom key (key y) rows →
+    eqb (key y) (after + 1) ≡ false → row_at key (after + 1) rows ≡ Some x → found ≡ Some x → (b : Bool) →
+    ltb after (key y) ≡ b → cond b (Some y) found ≡ Some x
+behind-missed key after y x rows found r other at is false lt = is
+behind-missed key after y x rows found r other at is true lt =
+    let le : after + 1 ≤ key y = grind (arith, nat_tests, lt) in
+    let none = row_at-None_below key (key y) (after + 1) rows r le in cc
+
+-- the row with the next number is the one with the least id behind, of all with a property that it has
+pub behind_is_least : {X : Type 0} (key : X → ℕ) (n after : ℕ) (rows : List X) (x : X) → RisesFrom key n rows →
+    row_at key (after + 1) rows ≡ Some x → (p : X → Bool) → p x ≡ true → row_above key after (filter p rows) ≡ Some x
+behind_is_least key n after [] x r at p t = cc
+behind_is_least key n after (y ∷ rows) x r at p t =
+    go (eqb (key y) (after + 1)) refl (p y) refl (λ later. behind_is_least key (key y) after rows x r.1 later p t) at
+  where
+    go : (same : Bool) → eqb (key y) (after + 1) ≡ same → (yes : Bool) → p y ≡ yes →
+        (row_at key (after + 1) rows ≡ Some x → row_above key after (filter p rows) ≡ Some x) →
+        cond same (Some y) (row_at key (after + 1) rows) ≡ Some x →
+        row_above key after (cond yes (y ∷ filter p rows) (filter p rows)) ≡ Some x
+    go true is true py below e = let lt : ltb after (key y) ≡ true = grind (arith, nat_tests, is) in rw lt e
+    go true is false py below e = let same : y ≡ x = cc in cc
+    go false is false py below e = below e
+    go false is true py below e = behind-missed key after y x rows _ r.1 is e (below e) (ltb after (key y)) refl
+
+keeps-all : {X : Type 0} (rows : List X) → filter (λ _. true) rows ≡ rows
+keeps-all [] = refl
+keeps-all (x ∷ rows) = ap (λ l. x ∷ l) (keeps-all rows)
+
+pub behind_is_next : {X : Type 0} (key : X → ℕ) (n after : ℕ) (rows : List X) (x : X) → RisesFrom key n rows →
+    row_at key (after + 1) rows ≡ Some x → row_above key after rows ≡ Some x
+behind_is_next key n after rows x r at =
+    subst (λ l. row_above key after l ≡ Some x) (keeps-all rows) (behind_is_least key n after rows x r at (λ _. true) refl)
 
 -- Rows by name.
 

@@ -1,12 +1,13 @@
 // What a store holds, now and when the changes under way began.
-ghost use Rattle.std.specs.Prelude.{◌≡◌, ◌<◌, ◌≤◌, ◌+◌, IfOk, IfSome, OnOk, [], filter, length};
+ghost use Rattle.std.specs.Prelude.{◌≡◌, ◌<◌, ◌≤◌, ◌+◌, Bool, IfOk, IfSome, OnOk, Some, [], filter, length, true};
 ghost use Rattle.std.specs.Option.{option_copied};
 ghost use Rattle.std.specs.Vec.{vec_capacity};
 ghost use Rattle.swarm_model.specs.Changed.{changes_between};
 ghost use Rattle.swarm_objects.specs.Rows.{row_above, task_id};
-ghost use Rattle.swarm_objects.specs.Tasks.Words.{is_at};
+ghost use Rattle.swarm_objects.specs.Tasks.Words.{is_at, is_of};
 ghost use Rattle.swarm_objects.specs.World.{empty_tables};
 ghost use Rattle.swarm_objects.specs.declared.tasks.Place.TheVariants.{Slot, On};
+ghost use Rattle.swarm_objects.specs.declared.tasks.Task.{Task as Row};
 ghost use Rattle.swarm_store.specs.Inside.State.{IsUntouched, Stands, changed_rows, tables_now, tables_start};
 ghost use Rattle.swarm_store.specs.Stored.{row_count};
 
@@ -206,17 +207,21 @@ impl Rows for State {
     }
 
     fn next_task(&self, after: Id) -> Option<&Task> {
-        self.tasks.next(after)
+        match task_behind(&self.tasks, after) {
+            Some(task) => Some(task),
+            None => self.tasks.next(after),
+        }
     }
 
     fn next_network(&self, after: Id) -> Option<&Network> {
         self.networks.next(after)
     }
 
-    #[tactic(auto, using(crate::proofs::Lookups::of_service))]
     fn next_task_of(&self, service: Id, after: Id) -> Option<&Task> {
-        self.tasks
-            .next_by_key(SERVICE, &IndexKey::Num(service), after)
+        match task_behind(&self.tasks, after) {
+            Some(task) if task.service == service => Some(task),
+            _ => next_of_service(&self.tasks, service, after),
+        }
     }
 
     fn next_task_at(&self, service: Id, place: Place, after: Id) -> Option<&Task> {
@@ -239,6 +244,27 @@ impl Rows for State {
         self.attempts
             .count(self.clock, service, place, version, window)
     }
+}
+
+// The task whose id is the next number. Tasks of one service are mostly made in a row, so the next task, also of a
+// service, is mostly this one, and found by one look-up.
+#[tactic(auto, using(crate::proofs::Lookups::behind_is_least, crate::proofs::Lookups::behind_is_next))]
+fn task_behind(tasks: &Tracked<Task>, after: Id) -> Option<&Task>
+    ensures all { IfSome result (λ task. row_above task_id after tasks.now.rows ≡ Some task.now) }
+    ensures some { IfSome result (λ task. (p : Row → Bool) → p task.now ≡ true →
+        row_above task_id after (filter p tasks.now.rows) ≡ Some task.now) }
+{
+    tasks.rise();
+    let id = after.checked_add(1)?;
+    tasks.get(id)
+}
+
+// The service's task with the least id above this one.
+#[tactic(auto, using(crate::proofs::Lookups::of_service))]
+fn next_of_service(tasks: &Tracked<Task>, service: Id, after: Id) -> Option<&Task>
+    ensures { option_copied result ≡ row_above task_id after (filter (is_of service) tasks.now.rows) }
+{
+    tasks.next_by_key(SERVICE, &IndexKey::Num(service), after)
 }
 
 // The task with the least id above this one in the service's slot.
