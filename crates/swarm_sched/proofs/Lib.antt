@@ -1,1 +1,2 @@
 mod Scheduling
+mod Totalling

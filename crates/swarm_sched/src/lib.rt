@@ -6,6 +6,7 @@ mod changing;
 mod filters;
 mod keys;
 mod placing;
+mod totals;
 
 ghost use Rattle.std.specs.Prelude.{◌≡◌, None};
 ghost use Rattle.swarm_objects.specs.Loops.Scheduler.{is_to_drop, is_to_place, placing, schedule, scheduler};

@@ -11,6 +11,9 @@ pub loop-node-init : goal.loop-node-init
 loop-node-init g c =
     let t = g.R.Rows.tables c.args.rows.now in
     let x = c.args.task.now in
-    ap (λ (nodes : List Node). least_by (node_cmp t x) None (filter (is_open t x) nodes))
-    (c.into_iter-node-iterator.ensures.into_iter_gives ∙ c.nodes-node-items.ensures)
-    ∙ best_is t x
+    record {
+      best = ap (λ (nodes : List Node). least_by (node_cmp t x) None (filter (is_open t x) nodes))
+          (c.into_iter-node-iterator.ensures.into_iter_gives ∙ c.nodes-node-items.ensures)
+          ∙ best_is t x;
+      held = tt;
+    }
