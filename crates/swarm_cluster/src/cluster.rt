@@ -10,10 +10,12 @@ ghost use Rattle.turn_cell.specs.Entries.{Each, mine_of};
 ghost use Rattle.turn_cell.specs.Passes.{number_of, seen, known, mine, cell_seats, IsPassOf, IsNew, HaveAllNumbers, Extends, Adds, AgreesWith};
 ghost use Rattle.swarm_cluster.specs.Looks.{Shows};
 
+use crate::pauses::Pause;
 use crate::works::{Answer, Calling, Look, Looking, Turning};
 use crossbeam_utils::sync::EventCount;
 use std::alloc::Global;
 use std::sync::Wait;
+use std::sync::atomic::{AtomicU64, Ordering};
 use swarm_objects::{Call, List, NoMemory, Reply, Role, Settle};
 use swarm_world::{Turn, World};
 use turn_cell::TurnCell;
@@ -25,7 +27,9 @@ pub type Pass = turn_cell::Pass<World>;
 #[derive(Drop)]
 pub struct Cluster {
     cell: TurnCell<World>,
-    idle: EventCount,
+    pub(crate) idle: EventCount,
+    // how many pauses there are
+    pub(crate) pauses: AtomicU64,
 }
 
 impl Cluster {
@@ -40,8 +44,21 @@ impl Cluster {
         let cluster = Cluster {
             cell,
             idle: EventCount::new(),
+            pauses: AtomicU64::new(0),
         };
         Ok((cluster, passes))
+    }
+
+    // There is a pause.
+    fn is_paused(&self) -> bool {
+        self.pauses.load(Ordering::SeqCst) != 0
+    }
+
+    // Wakes all who rest. In a pause its end does that.
+    fn wake(&self) {
+        if !self.is_paused() {
+            self.idle.notify_all();
+        }
     }
 
     /// Makes the caller's call. It is the next entry, or the reply says why it is none.
@@ -62,7 +79,7 @@ impl Cluster {
             call,
         };
         let answer = self.cell.with_turn(rt, pass, work);
-        self.idle.notify_all();
+        self.wake();
         answer
     }
 
@@ -85,7 +102,7 @@ impl Cluster {
         };
         let answer = self.cell.with_turn(rt, pass, work);
         if let Turn::Did(_) = answer.reply {
-            self.idle.notify_all();
+            self.wake();
         }
         answer
     }
@@ -146,6 +163,27 @@ impl Cluster {
             // announced before the test, so that no entry comes unnoticed between the test and the sleep
             let key = self.idle.prepare_wait();
             if self.news(pass) > length {
+                break;
+            }
+            key.wait(rt);
+        }
+    }
+
+    /// A pause, for a caller that does the duties of all control loops itself: as long as it is kept, nobody is woken, and
+    /// who waits it out makes no turn in between.
+    pub fn pause(&self) -> Pause<'_> {
+        Pause::begin(self)
+    }
+
+    /// Waits while there is a pause.
+    pub fn wait_out_pauses<R: Wait>(&self, rt: &R) {
+        if !self.is_paused() {
+            return;
+        }
+        for _ in rt.forever() {
+            // announced before the test, so that no end comes unnoticed between the test and the sleep
+            let key = self.idle.prepare_wait();
+            if !self.is_paused() {
                 break;
             }
             key.wait(rt);

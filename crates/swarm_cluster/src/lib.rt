@@ -2,7 +2,9 @@
 #![tactic(auto)]
 
 mod cluster;
+mod pauses;
 mod works;
 
 pub use cluster::{Cluster, Pass};
+pub use pauses::Pause;
 pub use works::{Answer, Look};

@@ -109,7 +109,7 @@ fn answer<R: Wait, O: Sink>(
     put
 }
 
-// Does a settle line: the duties, and then the call that asks.
+// Does a settle line: the duties, in a pause of the workers, and then the call that asks.
 fn settle<R: Wait, O: Sink>(
     rt: &R,
     alloc: Global,
@@ -127,19 +127,21 @@ fn settle<R: Wait, O: Sink>(
     ensures kept { OnOk result (O.faults out.new ≡ O.faults out.old) }
     ensures risen { O.faults out.old < O.faults out.new → result ≡ Err Ending.OutFault }
 {
+    let _pause = cluster.pause();
     match take_duties(rt, cluster, pass, budget) {
         Ok(_) => answer(rt, alloc, cluster, pass, out, Call::Settle(budget)),
         Err(cause) => Err(ending_by(cause)),
     }
 }
 
-// Does a wait line, which puts nothing out.
+// Does a wait line, in a pause of the workers. It puts nothing out.
 fn wait_out<R: Wait>(rt: &R, cluster: &Cluster, pass: &mut Pass, ms: Ms) -> Result<bool, Ending>
     requires pass { IsPassOf cluster.now.cell pass.old × (number_of pass.old ≡ 0) }
     ensures pass { IsPassOf cluster.now.cell pass.new × (number_of pass.new ≡ 0) }
     ensures line { (out : Option (List ℕ)) → DoesLine result (Line.Wait ms) (seen pass.old) (seen pass.new) out out }
     ensures other { result ≢ Err Ending.OutFault }
 {
+    let _pause = cluster.pause();
     match wait(rt, cluster, pass, ms) {
         Ok(()) => Ok(false),
         Err(cause) => Err(ending_by(cause)),

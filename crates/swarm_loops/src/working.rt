@@ -87,8 +87,8 @@ fn after(place: usize, loops: usize) -> usize
 }
 
 /// Makes turns of the control loops, one loop after the other, until the history has ended, is full or memory is
-/// wanting, and says which. Where no loop has a duty it waits for news. The gate is called before each turn. The pass is
-/// lent, so that no want of memory loses it.
+/// wanting, and says which. Where no loop has a duty it waits for news, and in a pause for its end. The gate is called
+/// before each turn. The pass is lent, so that no want of memory loses it.
 #[tactic(auto, using(crate::proofs::Adding::adds_then, crate::proofs::Adding::adds_none))]
 pub fn work_on<G: Gate, R: Wait>(
     rt: &R,
@@ -111,6 +111,7 @@ pub fn work_on<G: Gate, R: Wait>(
     for _ in rt.forever() {
         turn = turn.saturating_add(1);
         gate.before(rt, pass.number(), turn);
+        cluster.wait_out_pauses(rt);
         let found = match make_turn(rt, cluster, pass, roles, place) {
             Ok(found) => found,
             Err(end) => return end,

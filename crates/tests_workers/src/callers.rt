@@ -1,11 +1,13 @@
-//! Which loops a worker has, and that a caller hears of another one's entry without waiting.
+//! Which loops a worker has, that a caller hears of another one's entry without waiting, and that a pause is waited out.
 ghost use Rattle.std.specs.Prelude.{IfOk};
 ghost use Rattle.turn_cell.specs.Passes.{IsPassOf};
 
 use std::alloc::Global;
 use std::sync::Wait;
+use std::sync::atomic::{AtomicBool, Ordering};
 use std::test::Fail;
-use swarm_cluster::{Cluster, Pass};
+use std::thread;
+use swarm_cluster::{Cluster, Pass, Pause};
 use swarm_loops::share;
 use swarm_objects::{Call, NoMemory, Role};
 
@@ -36,6 +38,40 @@ fn heard_of_another<R: Wait>(rt: &R, alloc: Global) -> Result<u64, NoMemory> {
 fn news_of_an_entry_of_another_pass(rt: HostRuntime) -> Result<(), Fail> {
     let heard = heard_of_another(&rt, rt.alloc())?;
     assert_eq!(rt; heard, 1);
+    Ok(())
+}
+
+// Waits out the pauses, and tells that they are over.
+fn wait_and_tell<R: Wait>(rt: &R, cluster: &Cluster, told: &AtomicBool) {
+    cluster.wait_out_pauses(rt);
+    told.store(true, Ordering::SeqCst);
+}
+
+// Ends the pause after so many looks. Says whether somebody told of its end before.
+fn end_late(pause: Pause<'_>, told: &AtomicBool) -> bool {
+    for _ in 0..1_000u64 {
+        if told.load(Ordering::SeqCst) {
+            return true;
+        }
+        thread::yield_now();
+    }
+    drop(pause);
+    false
+}
+
+#[test]
+fn a_pause_is_waited_out(rt: HostRuntime) -> Result<(), Fail> {
+    let (cluster, _first, _second) = open_two(rt.alloc())?;
+    let over = AtomicBool::new(false);
+    let pause = cluster.pause();
+    let (handle, shared, told) = (&rt, &cluster, &over);
+    let (_, was_early) = thread::join(
+        handle,
+        || { wait_and_tell(handle, shared, told) },
+        || -> bool { end_late(pause, told) },
+    );
+    assert!(rt; !was_early);
+    assert!(rt; over.load(Ordering::SeqCst));
     Ok(())
 }
 
