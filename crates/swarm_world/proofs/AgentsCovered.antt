@@ -1,20 +1,21 @@
--- A span that covers the nodes whose agents have a duty covers them after any duty of the agents' loop.
-use Rattle.std.proofs.Common.{◌≡◌, ◌∙◌, ℕ, Bool, true, false, cond, List, [], Option, Some, None, arith, inl, inr, refl, subst, sym}
+-- Spans that cover the nodes of the agents' loop cover them after any duty of the loop.
+use Rattle.std.proofs.Common.{◌≡◌, ◌∙◌, ℕ, Bool, true, false, cond, List, [], Option, Some, None, arith, inl, inr, refl, subst, sym, ◌+◌, ◌<◌}
 use Rattle.std.proofs.lemmas.Bool.Decides.{nat_tests}
 use Rattle.std.specs.Prelude.{◌==◌}
 use Rattle.swarm_model.proofs.Base.DutyLists.{Has-due, from_either, from_when, from_where}
 use Rattle.swarm_model.proofs.Base.FromLists.{IsDuty-due}
-use Rattle.swarm_model.proofs.Base.IsDuty.{IsDuty}
+use Rattle.swarm_model.proofs.Base.IsDuty.{IsDuty, OfAgent}
 use Rattle.swarm_model.proofs.Laws.GivesOut.{GivesOut}
 use Rattle.swarm_model.proofs.Laws.GivesOutReplay.{whole-replay}
+use Rattle.swarm_model.proofs.Laws.Sound.{rises-between}
 use Rattle.swarm_model.specs.History.{IsLegal, effect, replay, step}
-use Rattle.swarm_objects.proofs.RowLemmas.{Has-flat_map_cases}
+use Rattle.swarm_objects.proofs.RowLemmas.{Has-flat_map_cases, number_above}
 use Rattle.swarm_objects.specs.Agents.Messages.{change_executor, message_for}
 use Rattle.swarm_objects.specs.Duties.{duties, is_due}
 use Rattle.swarm_objects.specs.Kinds.{duty_numbers, role_of}
-use Rattle.swarm_objects.specs.Loops.Agents.{agent_duties, duties_on, has_step, inbox_duties, is_forgotten, is_mode_on, report_duties, session_duties, stepped, take_in, wants_report}
+use Rattle.swarm_objects.specs.Loops.Agents.{agent_duties, duties_on, executor_at, has_step, inbox_duties, is_forgotten, is_mode_on, report_duties, session_duties, stepped, take_in, wants_report}
 use Rattle.swarm_objects.specs.Nodes.Sessions.{is_session_live}
-use Rattle.swarm_objects.specs.Rows.{Has, agent_node, drop_row, executor_task, first_of}
+use Rattle.swarm_objects.specs.Rows.{Has, RisesFrom, agent_node, drop_row, executor_task, first_of}
 use Rattle.swarm_objects.specs.World.{World}
 use Rattle.swarm_objects.specs.declared.agents.NodeAgent.{NodeAgent}
 use Rattle.swarm_objects.specs.declared.calls.Entry.{Entry}
@@ -23,11 +24,15 @@ use Rattle.swarm_objects.specs.declared.duties.Duty.TheVariants as duty
 use Rattle.swarm_objects.specs.declared.duties.Duty.{Duty}
 use Rattle.swarm_objects.specs.declared.loops.Role.TheVariants as role
 use Rattle.swarm_objects.specs.declared.messages.Message.{Message}
-use Rattle.swarm_spans.specs.Spans.{Covers, IsWider, has_duty, is_in}
+use Rattle.swarm_spans.proofs.Grown.{own-with, wider_itself, wider_with}
+use Rattle.swarm_spans.specs.Spans.{Covers, IsWider, is_in, with_id}
 use Rattle.swarm_spans.specs.declared.span.Span.{Span}
 use Rattle.swarm_world.proofs.AgentsAlone.{TurnsAlone, beat-alone, one-agent, pull-alone, register-alone, taken-node}
-use Rattle.swarm_world.proofs.AgentsShown.{had-duty, same-tables, some-duty}
-use Rattle.swarm_world.proofs.ReportsAlone.{IsPlaced, report-alone}
+use Rattle.swarm_world.proofs.AgentsShown.{IsShown, had-duty, had-message, is_busy, same-tables, some-duty, wants-both, wants-parts}
+use Rattle.swarm_world.proofs.ReportsAlone.{IsPlaced, executor-of, report-alone, reported-shows}
+use Rattle.swarm_world.specs.Inside.Looks.{AreSpanned, is_told, wants_message}
+use Rattle.swarm_world.specs.Inside.Spanned.{after_turn, told_by}
+use Rattle.swarm_world.specs.declared.agent_spans.AgentSpans.{AgentSpans}
 
 -- The node of a duty.
 
@@ -104,50 +109,105 @@ turns-alone w (duty.Forget k x) n gives is own at =
     (λ a away. same-tables v w a refl refl))
 turns-alone w _ n gives is own at = absurd cc
 
--- each agent of another node with a duty had one before
-pub other-had : (w v : World) (n : ℕ) (a : NodeAgent) → TurnsAlone w v n → Has v.agents a → (a.node ≡ n → ⊥) →
-    has_duty (agent_duties v) a ≡ true → Has w.agents a × (has_duty (agent_duties w) a ≡ true)
-other-had w v n a alone there away has =
-    let other = alone.other a there away in (other.0, had-duty v w a other.1 has)
+-- Messages.
 
--- The span.
+-- the span gets no smaller
+pub told-wider : (d : Duty) (span : Span) → IsWider (told_by d span) span
+told-wider (duty.Register n) span = wider_with span (with_id span n) n refl
+told-wider _ span = wider_itself span
 
--- the node of a duty that is due is in it
+-- the agent of the node wanted a message before, where it wants one after
+told-before : (w v : World) (k n : ℕ) (span : Span) (a : NodeAgent) (Fact : NodeAgent → Type 0) (is : OfAgent w k Fact) →
+    k ≡ n → a.node ≡ n → Covers agent_node (wants_message w) span w.agents →
+    (wants_message v is.row ≡ true → wants_message w is.row ≡ true) → wants_message v a ≡ true → is_in span n ≡ true
+told-before w v k n span a Fact is same node covers before wants =
+    let parts = wants-parts v a wants in
+    let at : a.node ≡ is.row.node = node ∙ sym same ∙ sym is.id_is in
+    let now =
+    wants-both v is.row is.fact.0 (subst (λ j. is_session_live v.tables j ≡ true) at parts.1)
+    (subst (λ j. is_told v j ≡ true) at parts.2) in
+    subst (λ j. is_in span j ≡ true) (is.id_is ∙ same) (covers.has is.row is.there (before now))
+
+-- a message is due for the node of a duty after it where one was due, or the node registered
+own-told : (w : World) (d : Duty) (n : ℕ) (span : Span) (a : NodeAgent) → GivesOut w → RisesFrom agent_node 0 w.agents →
+    IsDuty w d → role_of d ≡ role.Agents → first_of (duty_numbers d) ≡ Some n →
+    Covers agent_node (wants_message w) span w.agents → a.node ≡ n → wants_message (effect w d) a ≡ true →
+    is_in (told_by d span) n ≡ true
+own-told w (duty.Register k) n span a gives rises is own at covers node wants =
+    let same : k ≡ n = cc in
+    subst (λ j. is_in (with_id span k) j ≡ true) same
+    (own-with span k (subst (λ j. 0 < j) is.id_is (number_above agent_node 0 w.agents is.row rises is.there)))
+own-told w (duty.Beat k) n span a gives rises is own at covers node wants =
+    told-before w (effect w (duty.Beat k)) k n span a _ is (let same : k ≡ n = cc in same) node covers
+    (λ now. wants-both w is.row is.fact.0 is.fact.1.0 (wants-parts (effect w (duty.Beat k)) is.row now).2) wants
+own-told w (duty.Apply k) n span a gives rises is own at covers node wants =
+    told-before w (effect w (duty.Apply k)) k n span a _ is (let same : k ≡ n = cc in same) node covers (λ now. now) wants
+own-told w (duty.Pull k) n span a gives rises is own at covers node wants =
+    told-before w (effect w (duty.Pull k)) k n span a _ is (let same : k ≡ n = cc in same) node covers
+    (λ now. wants-both w is.row is.fact.0 is.fact.1.0 is.fact.1.1.1) wants
+own-told w (duty.Exec k x) n span a gives rises is own at covers node wants =
+    told-before w (effect w (duty.Exec k x)) k n span a _ is (let same : k ≡ n = cc in same) node covers (λ now. now) wants
+own-told w (duty.Report k x) n span a gives rises is own at covers node wants =
+    let v = effect w (duty.Report k x) in
+    told-before w v k n span a _ is (let same : k ≡ n = cc in same) node covers
+    (had-message v w is.row
+    (reported-shows w v (w.entries + 1) x (executor_at w k x) is.row (executor-of w k x) (reported-placed w k x gives is)
+    refl refl)) wants
+own-told w (duty.Forget k x) n span a gives rises is own at covers node wants =
+    told-before w (effect w (duty.Forget k x)) k n span a _ is (let same : k ≡ n = cc in same) node covers (λ now. now) wants
+own-told w _ n span a gives rises is own at covers node wants = absurd cc
+
+-- The spans.
+
+-- the node of a duty that is due is in that of the duties
 own-node : (w : World) (d : Duty) (span : Span) → role_of d ≡ role.Agents → is_due w d ≡ true →
-    Covers agent_node (has_duty (agent_duties w)) span w.agents →
+    Covers agent_node (is_busy w) span w.agents →
     (n : ℕ) × (first_of (duty_numbers d) ≡ Some n) × (is_in span n ≡ true)
 own-node w d span own due covers =
     let listed = subst (λ r. Has (duties r w) d) own (Has-due w d due) in
     let from = Has-flat_map_cases (agent_duties w) w.agents d listed in
     (from.0.node, of-agent w from.0 d from.2, covers.has from.0 from.1 (some-duty (agent_duties w from.0) d from.2))
 
--- a span goes on covering where it has the one node whose agent may have a new duty
-pub covers-alone : (w v : World) (n : ℕ) (span wide : Span) → TurnsAlone w v n → IsWider wide span → is_in wide n ≡ true →
-    Covers agent_node (has_duty (agent_duties w)) span w.agents →
-    Covers agent_node (has_duty (agent_duties v)) wide v.agents
-covers-alone w v n span wide alone wider within covers = record {
-  has = λ a there has. go a there has (a.node == n) refl;
+-- a span goes on covering where it has the one node whose agent may newly pass the test
+covers-alone : (test : World → NodeAgent → Bool) (w v : World) (n : ℕ) (span wide : Span) → IsShown test → TurnsAlone w v n →
+    IsWider wide span → ((a : NodeAgent) → a.node ≡ n → test v a ≡ true → is_in wide n ≡ true) →
+    Covers agent_node (test w) span w.agents → Covers agent_node (test v) wide v.agents
+covers-alone test w v n span wide shown alone wider own covers = record {
+  has = λ a there passes. go a there passes (a.node == n) refl;
 }
   where
-    go : (a : NodeAgent) → Has v.agents a → has_duty (agent_duties v) a ≡ true → (b : Bool) → (a.node == n) ≡ b →
-        is_in wide a.node ≡ true
-    go a there has true is =
-        subst (λ k. is_in wide k ≡ true) (sym (let same : a.node ≡ n = grind (arith, nat_tests, is) in same)) within
-    go a there has false is =
-        let had = other-had w v n a alone there (λ same. grind (arith, nat_tests, is)) has in
-        wider.has a.node (covers.has a had.0 had.1)
+    go : (a : NodeAgent) → Has v.agents a → test v a ≡ true → (b : Bool) → (a.node == n) ≡ b → is_in wide a.node ≡ true
+    go a there passes true is =
+        let same : a.node ≡ n = grind (arith, nat_tests, is) in
+        subst (λ k. is_in wide k ≡ true) (sym same) (own a same passes)
+    go a there passes false is =
+        let other = alone.other a there (λ same. grind (arith, nat_tests, is)) in
+        wider.has a.node (covers.has a other.0 (shown v w a other.1 passes))
 
-pub covers-after : (w : World) (d : Duty) (span : Span) → GivesOut w → role_of d ≡ role.Agents → is_due w d ≡ true →
-    Covers agent_node (has_duty (agent_duties w)) span w.agents →
-    Covers agent_node (has_duty (agent_duties (effect w d))) span (effect w d).agents
-covers-after w d span gives own due covers =
-    let node = own-node w d span own due covers in
-    covers-alone w (effect w d) node.0 span span (turns-alone w d node.0 gives (IsDuty-due w d due) own node.1)
-    (record { has = λ id within. within }) node.2 covers
+covers-after : (w : World) (d : Duty) (spans : AgentSpans) → GivesOut w → RisesFrom agent_node 0 w.agents →
+    role_of d ≡ role.Agents → is_due w d ≡ true → AreSpanned w spans w.agents →
+    AreSpanned (effect w d) (after_turn d spans) (effect w d).agents
+covers-after w d spans gives rises own due covers =
+    let v = effect w d in
+    let is = IsDuty-due w d due in
+    let node = own-node w d spans.duties own due covers.duties in
+    let alone = turns-alone w d node.0 gives is own node.1 in
+    record {
+      duties =
+          covers-alone is_busy w v node.0 spans.duties spans.duties had-duty alone (wider_itself spans.duties)
+          (λ a at busy. node.2) covers.duties;
+      tells =
+          covers-alone wants_message w v node.0 spans.tells (told_by d spans.tells) had-message alone
+          (told-wider d spans.tells)
+          (λ a at wants. own-told w d node.0 spans.tells a gives rises is own node.1 covers.tells at wants) covers.tells;
+    }
 
 -- of a legal history
 pub covers-on : (h : List Entry) → IsLegal h → (d : Duty) → role_of d ≡ role.Agents → is_due (replay h) d ≡ true →
-    (span : Span) → Covers agent_node (has_duty (agent_duties (replay h))) span (replay h).agents →
-    Covers agent_node (has_duty (agent_duties (step (replay h) (what.Duty d)).after)) span
-    (step (replay h) (what.Duty d)).after.agents
-covers-on h legal d own due span covers = covers-after (replay h) d span (whole-replay h legal).1 own due covers
+    (spans : AgentSpans) → AreSpanned (replay h) spans (replay h).agents →
+    AreSpanned (step (replay h) (what.Duty d)).after (after_turn d spans) (step (replay h) (what.Duty d)).after.agents
+covers-on h legal d own due spans covers =
+    let w = replay h in
+    let whole = whole-replay h legal in
+    covers-after w d spans whole.1 (rises-between agent_node 0 1 w.tables.next_id w.agents (omega arith) whole.0.agents) own
+    due covers

@@ -1,18 +1,18 @@
--- The span of the agents' loop over the agents as they are seen: it covers them where it covers the world's.
-use Rattle.std.proofs.Common.{◌≡◌, ◌∙◌, List, true, ap, map, subst, sym}
+-- The spans of the agents' loop over the agents as they are seen: they cover them where they cover the world's.
+use Rattle.std.proofs.Common.{◌≡◌, ◌∙◌, Bool, List, true, ap, map, subst, sym}
 use Rattle.std.specs.Prelude.{is_some}
 use Rattle.swarm_agent.specs.Times.{TimesLaw, seen_agent}
 use Rattle.swarm_objects.proofs.RowLemmas.{Has-map, Has-map_cases}
-use Rattle.swarm_objects.specs.Loops.Agents.{agent_duties}
 use Rattle.swarm_objects.specs.Rows.{Has, agent_node, first_of, row_at, sent_node}
 use Rattle.swarm_objects.specs.World.{Tables, World}
 use Rattle.swarm_objects.specs.declared.agents.NodeAgent.{NodeAgent}
 use Rattle.swarm_objects.specs.declared.duties.Duty.{Duty}
 use Rattle.swarm_objects.specs.declared.messages.NodeSent.{NodeSent}
-use Rattle.swarm_spans.specs.Spans.{Covers, has_duty, is_in}
+use Rattle.swarm_spans.specs.Spans.{Covers, is_in}
 use Rattle.swarm_spans.specs.declared.span.Span.{Span}
-use Rattle.swarm_world.proofs.AgentsShown.{had-duty, same-tables}
-use Rattle.swarm_world.specs.Inside.Looks.{looked_at}
+use Rattle.swarm_world.proofs.AgentsShown.{ShowsNoMore, had-duty, had-message, is_busy, same-tables}
+use Rattle.swarm_world.specs.Inside.Looks.{AreSpanned, looked_at, wants_message}
+use Rattle.swarm_world.specs.declared.agent_spans.AgentSpans.{AgentSpans}
 
 -- these tables, what was sent and agents are the world's, but for times that no step looks at
 pub record ShowsWorld (t : Tables) (s : List NodeSent) (all : List NodeAgent) (w : World) : Type 0 where
@@ -20,49 +20,70 @@ pub record ShowsWorld (t : Tables) (s : List NodeSent) (all : List NodeAgent) (w
   pub sent : s ≡ w.sent
   pub agents : all ≡ map seen_agent w.agents
 
-abbrev pub CoversSeen : Tables → List NodeSent → List NodeAgent → Span → Type 0
-CoversSeen t sent agents span = Covers agent_node (has_duty (agent_duties (looked_at t sent))) span agents
-
 -- An agent has a duty where it has one as it is seen.
 
+seen-tables : (t : Tables) (sent : List NodeSent) (agents : List NodeAgent) (w : World) (a : NodeAgent) →
+    ShowsWorld t sent agents w → ShowsNoMore (looked_at t sent) w a × ShowsNoMore w (looked_at t sent) a
+seen-tables t sent agents w a shows =
+    let same = ap (λ (rows : List NodeSent). row_at sent_node a.node rows) shows.sent in
+    (same-tables (looked_at t sent) w a shows.tables same, same-tables w (looked_at t sent) a (sym shows.tables) (sym same))
+
 from-seen : (times : TimesLaw) (t : Tables) (sent : List NodeSent) (agents : List NodeAgent) (w : World) (a : NodeAgent) →
-    ShowsWorld t sent agents w → has_duty (agent_duties (looked_at t sent)) (seen_agent a) ≡ true →
-    has_duty (agent_duties w) a ≡ true
+    ShowsWorld t sent agents w → is_busy (looked_at t sent) (seen_agent a) ≡ true → is_busy w a ≡ true
 from-seen times t sent agents w a shows passes =
     ap (λ (ds : List Duty). is_some (first_of ds)) (sym (times.duties w a))
-    ∙ had-duty (looked_at t sent) w (seen_agent a)
-    (same-tables (looked_at t sent) w (seen_agent a) shows.tables
-    (ap (λ (rows : List NodeSent). row_at sent_node a.node rows) shows.sent)) passes
+    ∙ had-duty (looked_at t sent) w (seen_agent a) (seen-tables t sent agents w (seen_agent a) shows).0 passes
 
 to-seen : (times : TimesLaw) (t : Tables) (sent : List NodeSent) (agents : List NodeAgent) (w : World) (a : NodeAgent) →
-    ShowsWorld t sent agents w → has_duty (agent_duties w) a ≡ true →
-    has_duty (agent_duties (looked_at t sent)) (seen_agent a) ≡ true
+    ShowsWorld t sent agents w → is_busy w a ≡ true → is_busy (looked_at t sent) (seen_agent a) ≡ true
 to-seen times t sent agents w a shows passes =
-    had-duty w (looked_at t sent) (seen_agent a)
-    (same-tables w (looked_at t sent) (seen_agent a) (sym shows.tables)
-    (ap (λ (rows : List NodeSent). row_at sent_node a.node rows) (sym shows.sent)))
+    had-duty w (looked_at t sent) (seen_agent a) (seen-tables t sent agents w (seen_agent a) shows).1
     (ap (λ (ds : List Duty). is_some (first_of ds)) (times.duties w a) ∙ passes)
 
--- So the span covers the ones where it covers the others.
+-- So spans cover the ones where they cover the others.
 
-pub world-covered : (times : TimesLaw) (t : Tables) (sent : List NodeSent) (agents : List NodeAgent) (w : World) (span : Span) →
-    ShowsWorld t sent agents w → CoversSeen t sent agents span →
-    Covers agent_node (has_duty (agent_duties w)) span w.agents
-world-covered times t sent agents w span shows covers = record {
-  has = λ a there passes.
-      covers.has (seen_agent a)
-      (subst (λ rows. Has rows (seen_agent a)) (sym shows.agents) (Has-map seen_agent w.agents a there))
-      (to-seen times t sent agents w a shows passes);
-}
+module _ (p q : NodeAgent → Bool) (span : Span) (seen rows : List NodeAgent) (same : seen ≡ map seen_agent rows) where
+  to-rows : ((a : NodeAgent) → q a ≡ true → p (seen_agent a) ≡ true) → Covers agent_node p span seen →
+      Covers agent_node q span rows
+  to-rows to covers = record {
+    has = λ a there passes.
+        covers.has (seen_agent a)
+        (subst (λ all. Has all (seen_agent a)) (sym same) (Has-map seen_agent rows a there)) (to a passes);
+  }
 
-pub seen-covered : (times : TimesLaw) (t : Tables) (sent : List NodeSent) (agents : List NodeAgent) (w : World) (span : Span) →
-    ShowsWorld t sent agents w → Covers agent_node (has_duty (agent_duties w)) span w.agents →
-    CoversSeen t sent agents span
-seen-covered times t sent agents w span shows covers = record {
-  has = λ a there passes.
-      let from = Has-map_cases seen_agent w.agents a (subst (λ rows. Has rows a) shows.agents there) in
-      subst (λ (b : NodeAgent). is_in span b.node ≡ true) from.2
-      (covers.has from.0 from.1
-      (from-seen times t sent agents w from.0 shows
-      (subst (λ b. has_duty (agent_duties (looked_at t sent)) b ≡ true) (sym from.2) passes)));
-}
+  from-rows : ((a : NodeAgent) → p (seen_agent a) ≡ true → q a ≡ true) → Covers agent_node q span rows →
+      Covers agent_node p span seen
+  from-rows from covers = record {
+    has = λ a there passes.
+        let of = Has-map_cases seen_agent rows a (subst (λ all. Has all a) same there) in
+        subst (λ (b : NodeAgent). is_in span b.node ≡ true) of.2
+        (covers.has of.0 of.1 (from of.0 (subst (λ b. p b ≡ true) (sym of.2) passes)));
+  }
+
+pub world-covered : (times : TimesLaw) (t : Tables) (sent : List NodeSent) (agents : List NodeAgent) (w : World)
+    (spans : AgentSpans) → ShowsWorld t sent agents w → AreSpanned (looked_at t sent) spans agents →
+    AreSpanned w spans w.agents
+world-covered times t sent agents w spans shows covers =
+    let l = looked_at t sent in
+    record {
+      duties =
+          to-rows (is_busy l) (is_busy w) spans.duties agents w.agents shows.agents
+          (λ a passes. to-seen times t sent agents w a shows passes) covers.duties;
+      tells =
+          to-rows (wants_message l) (wants_message w) spans.tells agents w.agents shows.agents
+          (λ a wants. had-message w l (seen_agent a) (seen-tables t sent agents w (seen_agent a) shows).1 wants) covers.tells;
+    }
+
+pub seen-covered : (times : TimesLaw) (t : Tables) (sent : List NodeSent) (agents : List NodeAgent) (w : World)
+    (spans : AgentSpans) → ShowsWorld t sent agents w → AreSpanned w spans w.agents →
+    AreSpanned (looked_at t sent) spans agents
+seen-covered times t sent agents w spans shows covers =
+    let l = looked_at t sent in
+    record {
+      duties =
+          from-rows (is_busy l) (is_busy w) spans.duties agents w.agents shows.agents
+          (λ a passes. from-seen times t sent agents w a shows passes) covers.duties;
+      tells =
+          from-rows (wants_message l) (wants_message w) spans.tells agents w.agents shows.agents
+          (λ a wants. had-message l w (seen_agent a) (seen-tables t sent agents w (seen_agent a) shows).0 wants) covers.tells;
+    }

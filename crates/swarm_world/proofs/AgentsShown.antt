@@ -1,5 +1,5 @@
 -- What an agent's duties look at: where one world shows no more of it than another, no duty is new.
-use Rattle.std.proofs.Common.{◌≡◌, ◌∙◌, ◌++◌, ◌∷◌, ℕ, Bool, true, false, cond, List, [], Option, Some, None, ap, inl, not, refl, subst}
+use Rattle.std.proofs.Common.{◌≡◌, ◌∙◌, ◌++◌, ◌∷◌, ℕ, Bool, true, false, cond, List, [], Option, Some, None, ap, inl, not, refl, subst, sym}
 use Rattle.std.specs.Prelude.{◌&&◌, is_some}
 use Rattle.swarm_model.proofs.Base.DutyLists.{from_either, from_when, from_where, to_when, to_where}
 use Rattle.swarm_objects.proofs.RowLemmas.{Has-append_left, Has-append_right}
@@ -18,6 +18,7 @@ use Rattle.swarm_objects.specs.declared.messages.Message.{Message}
 use Rattle.swarm_objects.specs.declared.messages.NodeSent.{NodeSent}
 use Rattle.swarm_objects.specs.declared.sessions.NodeSession.{NodeSession}
 use Rattle.swarm_spans.specs.Spans.{has_duty}
+use Rattle.swarm_world.specs.Inside.Looks.{is_told, wants_message}
 
 -- the first world shows this agent the same times and session as the second, and no more of messages and tasks
 pub record ShowsNoMore (v w : World) (a : NodeAgent) : Type 0 where
@@ -144,3 +145,54 @@ pub had-duty : (v w : World) (a : NodeAgent) → ShowsNoMore v w a → has_duty 
     has_duty (agent_duties w) a ≡ true
 had-duty v w a shows has =
     let d = first-has (agent_duties v a) has in some-duty (agent_duties w a) d.0 (no-new-duty v w a d.0 shows d.1)
+
+-- Whether an agent wants a message.
+
+pub wants-parts : (w : World) (a : NodeAgent) → wants_message w a ≡ true →
+    (is_mode_on a.mode ≡ true) × (is_session_live w.tables a.node ≡ true) × (is_told w a.node ≡ true)
+wants-parts w a wants =
+    let outer = both_are (is_mode_on a.mode && is_session_live w.tables a.node) (is_told w a.node) wants in
+    let inner = both_are (is_mode_on a.mode) (is_session_live w.tables a.node) outer.0 in (inner.0, inner.1, outer.1)
+
+pub wants-both : (w : World) (a : NodeAgent) → is_mode_on a.mode ≡ true → is_session_live w.tables a.node ≡ true →
+    is_told w a.node ≡ true → wants_message w a ≡ true
+wants-both w a on live told =
+    both (is_mode_on a.mode && is_session_live w.tables a.node) (is_told w a.node)
+    (both (is_mode_on a.mode) (is_session_live w.tables a.node) on live) told
+
+-- one that wants a message wanted one
+pub had-message : (v w : World) (a : NodeAgent) → ShowsNoMore v w a → wants_message v a ≡ true → wants_message w a ≡ true
+had-message v w a shows wants =
+    let is = wants-parts v a wants in
+    wants-both w a is.0 (sym (live-same v w a shows) ∙ is.1) (shows.message is.2)
+
+-- and has a duty: to pull it, or to apply another one
+pub wants-duty : (w : World) (a : NodeAgent) → wants_message w a ≡ true → has_duty (agent_duties w) a ≡ true
+wants-duty w a wants =
+    let is = wants-parts w a wants in
+    let live = is_session_live w.tables a.node in
+    let d = some-inbox live a.inbox is.1 is.2 in
+    let told = inbox_duties w a live a.inbox in
+    let steps = duty_where (has_step w.tables.clock) (λ (e : Executor). duty.Exec a.node e.task) a.executors in
+    let forgets = duty_where is_forgotten (λ (e : Executor). duty.Forget a.node e.task) a.executors in
+    let first = session_duties w a live ++ told in
+    ap (λ b. is_some (first_of (cond b (duties_on w a live) []))) is.0
+    ∙ some-duty (duties_on w a live) d.0
+    (Has-append_left (first ++ steps ++ report_duties w a live) forgets d.0
+    (Has-append_left (first ++ steps) (report_duties w a live) d.0
+    (Has-append_left first steps d.0 (Has-append_right (session_duties w a live) told d.0 d.1))))
+  where
+    some-inbox : (live : Bool) (o : Option Message) → live ≡ true → is_told w a.node ≡ true →
+        (d : Duty) × Has (inbox_duties w a live o) d
+    some-inbox live (Some m) on told = (duty.Apply a.node, inl refl)
+    some-inbox live None on told =
+        (duty.Pull a.node, to_when (live && is_told w a.node) (duty.Pull a.node) (both live (is_told w a.node) on told))
+
+-- What is seen of an agent alone.
+
+-- a test that sees no more than an agent is shown
+abbrev pub IsShown : (World → NodeAgent → Bool) → Type 0
+IsShown test = (v w : World) (a : NodeAgent) → ShowsNoMore v w a → test v a ≡ true → test w a ≡ true
+
+abbrev pub is_busy : World → NodeAgent → Bool
+is_busy w a = has_duty (agent_duties w) a

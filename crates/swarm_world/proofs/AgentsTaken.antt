@@ -1,4 +1,4 @@
--- The span of the agents' loop over a turn, whatever became of it.
+-- The spans of the agents' loop over a turn, whatever became of it.
 use Rattle.std.proofs.Common.{◌≡◌, ℕ, true, false, List, Result, Ok, Err, refl, subst}
 use Rattle.swarm_model.specs.History.{replay}
 use Rattle.swarm_objects.specs.ChangeLists.{Makes}
@@ -11,12 +11,13 @@ use Rattle.swarm_objects.specs.declared.duties.Duty.{Duty}
 use Rattle.swarm_objects.specs.declared.loops.Role.{Role}
 use Rattle.swarm_objects.specs.declared.loops.Role.TheVariants as role
 use Rattle.swarm_objects.specs.declared.rows.Change.{Change}
-use Rattle.swarm_spans.specs.Spans.{IsWider}
-use Rattle.swarm_spans.specs.declared.span.Span.{Span}
+use Rattle.swarm_spans.proofs.Grown.{wider_itself}
+use Rattle.swarm_world.proofs.AgentsCovered.{told-wider}
 use Rattle.swarm_world.specs.Inside.Parts.{Enters, IsAt}
 use Rattle.swarm_world.specs.Inside.Records.{tables_of}
-use Rattle.swarm_world.specs.Inside.Spanned.{AgentsSpanLaw, CoversAgents}
-use Rattle.swarm_world.specs.Inside.Touches.{TouchesAllTold}
+use Rattle.swarm_world.specs.Inside.Spanned.{AgentsSpanLaw, CoversAgents, after_turn}
+use Rattle.swarm_world.specs.Inside.Touches.{AreTouched}
+use Rattle.swarm_world.specs.declared.agent_spans.AgentSpans.{AgentSpans}
 use Rattle.swarm_world.specs.declared.parts.Parts.{Parts}
 
 pub agents_role : (r : Role) → is_agents r ≡ true → r ≡ role.Agents
@@ -34,20 +35,23 @@ agents_role role.Agents is = refl
 
 -- a duty of the agents' loop
 pub agents_taken : {X E : Type 0} (law : AgentsSpanLaw) (version : ℕ) (h : List Entry) (d : Duty) (result : Result X E)
-    (p q : Parts) (span : Span) → IsAt version p h → role_of d ≡ role.Agents → is_due (replay h) d ≡ true
-    → Enters h (what.Duty d) result q → CoversAgents p span → CoversAgents q span
-agents_taken law version h d (Ok done) p q span is own due after =
-    law.turn h d p q span is.legal own due is.stands after
-agents_taken law version h d (Err wanting) p q span is own due after = law.same h p q span is.stands after
+    (p q : Parts) (spans : AgentSpans) → IsAt version p h → role_of d ≡ role.Agents → is_due (replay h) d ≡ true
+    → Enters h (what.Duty d) result q → CoversAgents p spans → CoversAgents q (after_turn d spans)
+agents_taken law version h d (Ok done) p q spans is own due after =
+    law.turn h d p q spans is.legal own due is.stands after
+agents_taken law version h d (Err wanting) p q spans is own due after =
+    law.same h p q spans (after_turn d spans) is.stands after
+    (record { duties = wider_itself spans.duties; tells = told-wider d spans.tells })
 
 -- a duty over the rows
 pub rows_taken : {X E : Type 0} (law : AgentsSpanLaw) (version : ℕ) (h : List Entry) (d : Duty) (touched cs : List Change)
-    (result : Result X E) (p q : Parts) (span wide : Span) → IsAt version p h → is_agents (role_of d) ≡ false
+    (result : Result X E) (p q : Parts) (spans wide : AgentSpans) → IsAt version p h → is_agents (role_of d) ≡ false
     → is_due (replay h) d ≡ true → Makes (tables_of p.records) cs (after_duty version (tables_of p.records) d)
-    → touched ≡ cs → IsWider wide span → TouchesAllTold (tables_of p.records) wide touched
-    → Enters h (what.Duty d) result q → CoversAgents p span → CoversAgents q wide
-rows_taken law version h d all cs (Ok done) p q span wide is other due makes same wider touches after covers =
-    law.rows h d version cs p q span wide is other due makes wider
-    (subst (TouchesAllTold (tables_of p.records) wide) same touches) after.has covers
-rows_taken law version h d all cs (Err wanting) p q span wide is other due makes same wider touches after covers =
-    law.same h p q wide is.stands after (record { has = λ a there due. wider.has a.node (covers.has a there due) })
+    → touched ≡ cs → AreTouched (tables_of p.records) spans wide touched → Enters h (what.Duty d) result q
+    → CoversAgents p spans → CoversAgents q wide
+rows_taken law version h d all cs (Ok done) p q spans wide is other due makes same are after covers =
+    law.rows h d version cs p q spans wide is other due makes
+    (subst (AreTouched (tables_of p.records) spans wide) same are) after covers
+rows_taken law version h d all cs (Err wanting) p q spans wide is other due makes same are after covers =
+    law.same h p q spans wide is.stands after
+    (record { duties = are.duties.wider; tells = are.tells.wider }) covers

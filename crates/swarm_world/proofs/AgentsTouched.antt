@@ -1,4 +1,4 @@
--- Changes of rows give an agent a duty only where its node is told something else.
+-- Changes of rows give an agent a duty or a message only where its node is told something else.
 use Rattle.std.proofs.Common.{◌≡◌, ◌∙◌, ◌∷◌, ◌<◌, ◌≤◌, ◌⊎◌, ℕ, Bool, true, false, cond, List, [], Option, Some, None, ap, arith, filter, inl, inr, refl, subst, sym}
 use Rattle.std.specs.Option.{option_map}
 use Rattle.std.specs.Prelude.{is_some}
@@ -6,7 +6,6 @@ use Rattle.swarm_model.proofs.Laws.GivesOut.{GivesOut}
 use Rattle.swarm_objects.proofs.RowLemmas.{RisesFrom-filter, number_above}
 use Rattle.swarm_objects.specs.Agents.Messages.{assigned, due_set, is_assigned_on, next_message, sent_of}
 use Rattle.swarm_objects.specs.ChangeLists.{CanApply, CanApplyAll, Makes, apply_change, apply_changes}
-use Rattle.swarm_objects.specs.Loops.Agents.{agent_duties}
 use Rattle.swarm_objects.specs.Rows.{Has, RisesFrom, agent_node, has_row, put_row, row_at, sent_node, session_node, task_id}
 use Rattle.swarm_objects.specs.Tasks.New.{with_task}
 use Rattle.swarm_objects.specs.World.{Tables, World}
@@ -18,10 +17,12 @@ use Rattle.swarm_objects.specs.declared.rows.Change.{Change}
 use Rattle.swarm_objects.specs.declared.tasks.Task.{Task}
 use Rattle.swarm_spans.proofs.Services.Alike.{keep, row_at-filter, shown-rows}
 use Rattle.swarm_spans.proofs.Services.Outcomes.{TaskTurns, task-turns}
-use Rattle.swarm_spans.specs.Spans.{Covers, IsWider, has_duty, is_in}
+use Rattle.swarm_spans.specs.Spans.{Covers, is_in}
 use Rattle.swarm_spans.specs.declared.span.Span.{Span}
-use Rattle.swarm_world.proofs.AgentsShown.{ShowsNoMore, had-duty}
-use Rattle.swarm_world.specs.Inside.Touches.{TellsSame, TouchesAllTold, told_on}
+use Rattle.swarm_world.proofs.AgentsShown.{IsShown, ShowsNoMore, had-duty, had-message, is_busy}
+use Rattle.swarm_world.specs.Inside.Looks.{AreSpanned, wants_message}
+use Rattle.swarm_world.specs.Inside.Touches.{AreTouched, TellsSame, TouchesAllTold, WidensTold, told_on}
+use Rattle.swarm_world.specs.declared.agent_spans.AgentSpans.{AgentSpans}
 
 -- What a node is told of each task.
 
@@ -172,19 +173,31 @@ untouched w v cs wide a gives before after makes sent touches there above out =
     }
 
 -- the wider span covers after the changes
-pub covers-touched : (w v : World) (cs : List Change) (span wide : Span) → GivesOut w → RisesFrom agent_node 0 w.agents →
-    RisesFrom task_id 0 w.tables.tasks → RisesFrom task_id 0 v.tables.tasks → Makes w.tables cs v.tables →
-    v.sent ≡ w.sent → v.agents ≡ w.agents → IsWider wide span → TouchesAllTold w.tables wide cs →
-    Covers agent_node (has_duty (agent_duties w)) span w.agents →
-    Covers agent_node (has_duty (agent_duties v)) wide v.agents
-covers-touched w v cs span wide gives order before after makes sent agents wider touches covers = record {
+covers-touched : (test : World → NodeAgent → Bool) (w v : World) (cs : List Change) (span wide : Span) → IsShown test →
+    GivesOut w → RisesFrom agent_node 0 w.agents → RisesFrom task_id 0 w.tables.tasks →
+    RisesFrom task_id 0 v.tables.tasks → Makes w.tables cs v.tables → v.sent ≡ w.sent → v.agents ≡ w.agents →
+    WidensTold w.tables span wide cs → Covers agent_node (test w) span w.agents → Covers agent_node (test v) wide v.agents
+covers-touched test w v cs span wide shown gives order before after makes sent agents widens covers = record {
   has = λ a there has. go a (subst (λ rows. Has rows a) agents there) has (is_in wide a.node) refl;
 }
   where
-    go : (a : NodeAgent) → Has w.agents a → has_duty (agent_duties v) a ≡ true → (b : Bool) → is_in wide a.node ≡ b →
+    go : (a : NodeAgent) → Has w.agents a → test v a ≡ true → (b : Bool) → is_in wide a.node ≡ b →
         is_in wide a.node ≡ true
     go a there has true is = is
     go a there has false out =
-        wider.has a.node (covers.has a there (had-duty v w a
-        (untouched w v cs wide a gives before after makes sent touches there
+        widens.wider.has a.node (covers.has a there (shown v w a
+        (untouched w v cs wide a gives before after makes sent widens.touches there
         (number_above agent_node 0 w.agents a order there) out) has))
+
+pub spans-touched : (w v : World) (cs : List Change) (spans wide : AgentSpans) → GivesOut w → RisesFrom agent_node 0 w.agents →
+    RisesFrom task_id 0 w.tables.tasks → RisesFrom task_id 0 v.tables.tasks → Makes w.tables cs v.tables →
+    v.sent ≡ w.sent → v.agents ≡ w.agents → AreTouched w.tables spans wide cs → AreSpanned w spans w.agents →
+    AreSpanned v wide v.agents
+spans-touched w v cs spans wide gives order before after makes sent agents are covers = record {
+  duties =
+      covers-touched is_busy w v cs spans.duties wide.duties had-duty gives order before after makes sent agents are.duties
+      covers.duties;
+  tells =
+      covers-touched wants_message w v cs spans.tells wide.tells had-message gives order before after makes sent agents
+      are.tells covers.tells;
+}

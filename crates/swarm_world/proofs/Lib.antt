@@ -1,7 +1,6 @@
 pub mod AgentsAlone
 pub mod AgentsCovered
 pub mod AgentsKept
-pub mod AgentsNarrowed
 pub mod AgentsSeen
 pub mod AgentsShown
 pub mod AgentsTaken
@@ -9,6 +8,7 @@ pub mod AgentsTouched
 pub mod Answering
 pub mod Arriving
 pub mod Asking
+pub mod Asked
 pub mod AsksIn
 pub mod Beginning
 pub mod BesideOps

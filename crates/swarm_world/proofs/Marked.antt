@@ -18,10 +18,12 @@ use Rattle.swarm_spans.specs.Spans.{Covers, full, has_duty, is_in}
 use Rattle.swarm_spans.specs.TasksCovered.{AreTasksCovered}
 use Rattle.swarm_world.proofs.Entering.{are_usable}
 use Rattle.swarm_world.proofs.Recorded.{usable_rows}
-use Rattle.swarm_world.specs.Inside.Looks.{looked_at}
+use Rattle.swarm_world.specs.Inside.Looks.{looked_at, wants_message}
 use Rattle.swarm_world.specs.Inside.Marks.{AreMarked, IsMarked}
 use Rattle.swarm_world.specs.Inside.Parts.{HasHistory}
 use Rattle.swarm_world.specs.Inside.Records.{tables_of}
+use Rattle.swarm_world.specs.Inside.Spanned.{CoversAgents}
+use Rattle.swarm_world.specs.declared.agent_spans.AgentSpans.{AgentSpans}
 use Rattle.swarm_world.specs.declared.marks.Marks.{Marks}
 use Rattle.swarm_world.specs.declared.parts.Parts.{Parts}
 
@@ -50,34 +52,34 @@ pub agents_rise : (p : Parts) → HasHistory p → RisesFrom agent_node 0 p.agen
 agents_rise p is =
     rises-between agent_node 0 1 (replay is.history).tables.next_id p.agents (omega arith) (agents-between p is)
 
--- each agent is in a span of every number
-pub agents_full : (p : Parts) → HasHistory p
-    → Covers agent_node (has_duty (agent_duties (looked_at (tables_of p.records) p.sent))) full p.agents
-agents_full p is =
-    full_covers agent_node (has_duty (agent_duties (looked_at (tables_of p.records) p.sent)))
-    (replay is.history).tables.next_id p.agents (agents-between p is) (IsSmall-replay is.history is.legal).next_id
+-- each agent is in spans of every number
+pub agents_full : (p : Parts) (spans : AgentSpans) → spans.duties ≡ full → spans.tells ≡ full → HasHistory p
+    → CoversAgents p spans
+agents_full p spans duties tells is =
+    let w = looked_at (tables_of p.records) p.sent in
+    let high = (replay is.history).tables.next_id in
+    let small = (IsSmall-replay is.history is.legal).next_id in
+    record {
+      duties =
+          subst (λ span. Covers agent_node (has_duty (agent_duties w)) span p.agents) (sym duties)
+          (full_covers agent_node (has_duty (agent_duties w)) high p.agents (agents-between p is) small);
+      tells =
+          subst (λ span. Covers agent_node (wants_message w) span p.agents) (sym tells)
+          (full_covers agent_node (wants_message w) high p.agents (agents-between p is) small);
+    }
 
 pub all_are_marked : (m : Marks) → ((t : Tables) → IsUsable t → AreTasksCovered t m.tasks)
-    → ((t : Tables) → IsUsable t → AreCovered t m.services) → m.agents ≡ full → (p : Parts) → HasHistory p
-    → IsMarked m p
-all_are_marked m tasks services every p is =
+    → ((t : Tables) → IsUsable t → AreCovered t m.services) → m.agents.duties ≡ full → m.agents.tells ≡ full
+    → (p : Parts) → HasHistory p → IsMarked m p
+all_are_marked m tasks services duties tells p is =
     let usable = usable_rows p.records (are_usable p is) in
     record {
       rows =
           record { tasks = tasks (tables_of p.records) usable; services = services (tables_of p.records) usable };
-      agents =
-          subst
-          (λ span. Covers agent_node (has_duty (agent_duties (looked_at (tables_of p.records) p.sent))) span p.agents)
-          (sym every) (agents_full p is);
+      agents = agents_full p m.agents duties tells is;
     }
 
 -- where the rows alone were looked at
 pub still_marked : (m n : Marks) (p : Parts) → IsMarked m p → AreMarked n (tables_of p.records) → n.agents ≡ m.agents
     → IsMarked n p
-still_marked m n p are rows same = record {
-  rows = rows;
-  agents =
-      subst
-      (λ span. Covers agent_node (has_duty (agent_duties (looked_at (tables_of p.records) p.sent))) span p.agents)
-      (sym same) are.agents;
-}
+still_marked m n p are rows same = record { rows = rows; agents = subst (CoversAgents p) (sym same) are.agents }

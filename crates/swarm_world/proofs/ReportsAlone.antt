@@ -103,14 +103,14 @@ ids-same k version clock id s rows =
 -- The report.
 
 -- the executor is of the task
-executor-of : (w : World) (n x : ℕ) (e : Executor) → executor_at w n x ≡ Some e → e.task ≡ x
+pub executor-of : (w : World) (n x : ℕ) (e : Executor) → executor_at w n x ≡ Some e → e.task ≡ x
 executor-of w n x e found = go (row_at agent_node n w.agents) found
   where
     go : (o : Option NodeAgent) → on_row None (λ (a : NodeAgent). row_at executor_task x a.executors) o ≡ Some e → e.task ≡ x
     go None f = absurd cc
     go (Some a) f = (Has-from_row_at executor_task x a.executors e f).1
 
-reported-shows : (w v : World) (version x : ℕ) (o : Option Executor) (a : NodeAgent) →
+pub reported-shows : (w v : World) (version x : ℕ) (o : Option Executor) (a : NodeAgent) →
     ((e : Executor) → o ≡ Some e → e.task ≡ x) → IsPlaced w.tables x → v.tables ≡ reported_by version w o →
     v.sent ≡ w.sent → ShowsNoMore v w a
 reported-shows w v version x None a of placed tables sent =

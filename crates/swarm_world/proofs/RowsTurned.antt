@@ -1,4 +1,4 @@
--- A duty of a loop over the rows: the span of the agents' loop covers on where its changes touch it, and which nodes
+-- A duty of a loop over the rows: the spans of the agents' loop cover on where its changes touch them, and which nodes
 -- these are.
 use Rattle.std.proofs.Common.{◌≡◌, ◌+◌, ◌∙◌, ◌<◌, ◌⊎◌, ℕ, Bool, true, false, cond, List, Option, Some, None, ap, arith, inl, inr, refl, subst, sym}
 use Rattle.swarm_model.proofs.Base.FromLists.{IsDuty-due}
@@ -13,7 +13,6 @@ use Rattle.swarm_objects.specs.ChangeLists.{Makes}
 use Rattle.swarm_objects.specs.Duties.{is_due}
 use Rattle.swarm_objects.specs.Effects.{after_duty, is_agents}
 use Rattle.swarm_objects.specs.Kinds.{role_of}
-use Rattle.swarm_objects.specs.Loops.Agents.{agent_duties}
 use Rattle.swarm_objects.specs.Rows.{agent_node, row_at, task_id}
 use Rattle.swarm_objects.specs.World.{Tables, World}
 use Rattle.swarm_objects.specs.declared.calls.Entry.{Entry}
@@ -22,20 +21,21 @@ use Rattle.swarm_objects.specs.declared.duties.Duty.{Duty}
 use Rattle.swarm_objects.specs.declared.messages.Assigned.{Assigned}
 use Rattle.swarm_objects.specs.declared.rows.Change.{Change}
 use Rattle.swarm_objects.specs.declared.tasks.Task.{Task}
-use Rattle.swarm_spans.specs.Spans.{Covers, IsWider, has_duty, is_in}
+use Rattle.swarm_spans.specs.Spans.{is_in}
 use Rattle.swarm_spans.specs.declared.span.Span.{Span}
-use Rattle.swarm_world.proofs.AgentsTouched.{covers-touched}
-use Rattle.swarm_world.specs.Inside.Touches.{HasNodeOf, TellsSame, TouchesAllTold, told_on}
+use Rattle.swarm_world.proofs.AgentsTouched.{spans-touched}
+use Rattle.swarm_world.specs.Inside.Looks.{AreSpanned}
+use Rattle.swarm_world.specs.Inside.Touches.{AreTouched, HasNodeOf, TellsSame, told_on}
+use Rattle.swarm_world.specs.declared.agent_spans.AgentSpans.{AgentSpans}
 
 -- The turn.
 
-pub covers-rows : (h : List Entry) (d : Duty) (version : ℕ) (cs : List Change) (span wide : Span) → IsLegal h →
+pub covers-rows : (h : List Entry) (d : Duty) (version : ℕ) (cs : List Change) (spans wide : AgentSpans) → IsLegal h →
     is_agents (role_of d) ≡ false → is_due (replay h) d ≡ true → version ≡ (replay h).entries + 1 →
-    Makes (replay h).tables cs (after_duty version (replay h).tables d) → IsWider wide span →
-    TouchesAllTold (replay h).tables wide cs → Covers agent_node (has_duty (agent_duties (replay h))) span (replay h).agents →
-    Covers agent_node (has_duty (agent_duties (step (replay h) (what.Duty d)).after)) wide
-    (step (replay h) (what.Duty d)).after.agents
-covers-rows h d version cs span wide legal other due number makes wider touches covers =
+    Makes (replay h).tables cs (after_duty version (replay h).tables d) → AreTouched (replay h).tables spans wide cs →
+    AreSpanned (replay h) spans (replay h).agents →
+    AreSpanned (step (replay h) (what.Duty d)).after wide (step (replay h) (what.Duty d)).after.agents
+covers-rows h d version cs spans wide legal other due number makes are covers =
     let w = replay h in
     let v = effect w d in
     let whole = whole-replay h legal in
@@ -43,12 +43,12 @@ covers-rows h d version cs span wide legal other due number makes wider touches 
     let law = tables_law (w.entries + 1) w d other in
     let tables : after_duty version w.tables d ≡ v.tables =
     ap (λ n. after_duty n w.tables d) number ∙ sym (ap (λ (x : World). x.tables) law) in
-    covers-touched w v cs span wide whole.1
+    spans-touched w v cs spans wide whole.1
     (rises-between agent_node 0 1 w.tables.next_id w.agents (omega arith) whole.0.agents)
     (rises-between task_id 0 1 w.tables.next_id w.tables.tasks (omega arith) whole.0.tasks)
     (rises-between task_id 0 1 v.tables.next_id v.tables.tasks (omega arith) after.tasks)
     (subst (λ (u : Tables). Makes w.tables cs u) tables makes) (ap (λ (x : World). x.sent) law)
-    (ap (λ (x : World). x.agents) law) wider touches covers
+    (ap (λ (x : World). x.agents) law) are covers
 
 -- What is enough.
 

@@ -21,7 +21,8 @@ use Rattle.swarm_spans.specs.Spans.{IsWider, is_in, with_id}
 use Rattle.swarm_spans.specs.Touched.{Touching}
 use Rattle.swarm_spans.specs.declared.span.Span.{Span}
 use Rattle.swarm_world.proofs.RowsTurned.{both-touched}
-use Rattle.swarm_world.specs.Inside.Touches.{HasNodeOf, TellsSame, TouchesAllTold, TouchesTold}
+use Rattle.swarm_world.specs.Inside.Touches.{AreTouched, HasNodeOf, TellsSame, TouchesAllTold, TouchesTold}
+use Rattle.swarm_world.specs.declared.agent_spans.AgentSpans.{AgentSpans}
 
 -- The node of a task.
 
@@ -148,8 +149,19 @@ pub told_all : (t : Tables) (all left : List Change) (first span : Span) →
     Touching (λ c s. TouchesTold t s c) all left first span → length left ≡ 0 → TouchesAllTold t span all
 told_all t all left first span a none = record { each = all-touched (λ c s. TouchesTold t s c) all left first span a none }
 
-pub told_wider : (t : Tables) (all left : List Change) (first span : Span) →
-    Touching (λ c s. TouchesTold t s c) all left first span → IsWider span first
-told_wider t all left first span a = a.wider
+pub ruleset all_steps = (told_none, told_one, told_all)
 
-pub ruleset all_steps = (told_none, told_one, told_all, told_wider)
+-- Both spans.
+
+pub told_joined : (t : Tables) (cs : List Change) (nodes : Span) (spans wide : AgentSpans) → TouchesAllTold t nodes cs →
+    IsWider wide.duties spans.duties → IsWider wide.duties nodes → IsWider wide.tells spans.tells →
+    IsWider wide.tells nodes → AreTouched t spans wide cs
+told_joined t cs nodes spans wide touches duties all-duties tells all-tells = record {
+  duties = record { wider = duties; touches = both wide.duties all-duties };
+  tells = record { wider = tells; touches = both wide.tells all-tells };
+}
+  where
+    both : (span : Span) → IsWider span nodes → TouchesAllTold t span cs
+    both span wider = record { each = λ c h. told-wider t c nodes span wider (touches.each c h) }
+
+pub ruleset join_steps = (told_joined)

@@ -13,6 +13,7 @@ ghost use Rattle.swarm_objects.specs.declared.duties.Duty.TheVariants as duty;
 ghost use Rattle.swarm_world.specs.Inside.Marks.{AreMarked};
 ghost use Rattle.swarm_world.specs.Inside.Parts.{Enters, HasDuty, HasHistory, IsAt, StandsFor};
 ghost use Rattle.swarm_world.specs.Inside.Records.{tables_of};
+ghost use Rattle.swarm_world.specs.Inside.Spanned.{after_turn};
 
 use crate::commits::commit;
 use crate::marks::Marks;
@@ -49,10 +50,11 @@ impl Parts {
         ensures enters { (h : Seq Entry) → IsAt version self.old h →
             Enters h (what.Duty (duty.Register node)) result self.new }
         ensures marks { IsUsable (tables_of self.new.records) → AreMarked marks.new (tables_of self.new.records) }
-        ensures agents { marks.new.agents ≡ marks.old.agents }
+        ensures agents { marks.new.agents ≡ after_turn (duty.Register node) marks.old.agents }
     {
         entries_are_noted();
         marks.touch_rows();
+        marks.agents.tells.add(node);
         let Ok(changes) = set_ready(self.alloc, &self.records, version, node) else {
             return Err(NoMemory);
         };
@@ -184,7 +186,7 @@ impl Parts {
         requires marks { AreMarked marks.old (tables_of self.old.records) }
         ensures enters { (h : Seq Entry) → IsAt version self.old h → Enters h (what.Duty duty) result self.new }
         ensures marks { IsUsable (tables_of self.new.records) → AreMarked marks.new (tables_of self.new.records) }
-        ensures agents { marks.new.agents ≡ marks.old.agents }
+        ensures agents { marks.new.agents ≡ after_turn duty marks.old.agents }
     {
         match duty {
             Duty::Register(node) => self.register(marks, version, node),

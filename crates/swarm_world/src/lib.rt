@@ -2,6 +2,7 @@
 #![tactic(auto)]
 
 mod agent_duties;
+mod agent_spans;
 mod arrivals;
 mod beginnings;
 mod changes;

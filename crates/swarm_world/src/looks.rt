@@ -6,11 +6,12 @@ ghost use Rattle.swarm_objects.specs.Loops.Words.{duty_where};
 ghost use Rattle.swarm_objects.specs.Nodes.Sessions.{session_of};
 ghost use Rattle.swarm_objects.specs.Rows.{RisesFrom, agent_node, executor_task, first_of, has_row, is_some_and, task_id};
 ghost use Rattle.swarm_objects.specs.Usable.{IsUsable};
-ghost use Rattle.swarm_spans.specs.Spans.{Covers, has_duty, is_in};
-ghost use Rattle.swarm_world.specs.Inside.Looks.{EachRises, looked_at};
+ghost use Rattle.swarm_spans.specs.Spans.{is_in};
+ghost use Rattle.swarm_world.specs.Inside.Looks.{AreSpanned, EachRises, IsAsked, MayBeTold, is_told, looked_at, wants_message};
 ghost use Rattle.swarm_world.specs.Inside.Records.{tables_of};
 ghost use Rattle.swarm_world.specs.Inside.Spanned.{AgentsSpanLaw};
 
+use crate::agent_spans::AgentSpans;
 use crate::records::Records;
 use swarm_agent::theorems::{times_that_no_step_looks_at, what_is_found_is_the_first_duty};
 use swarm_agent::{Agent, Agents, has_passed};
@@ -57,16 +58,52 @@ fn session_duty(
     None
 }
 
+// The number is in the span.
+fn is_in(span: Span, id: Id) -> bool
+    ensures { result ≡ is_in span id }
+{
+    span.after < id && id <= span.high
+}
+
+// A message is due for the node, of whose tasks that is asked only where one may be. Where none is, the node leaves the
+// span, with those before it.
+#[tactic(auto, using(crate::proofs::Asked::told_steps))]
+fn is_told(records: &Records, sent: &Sents, node: Id, tells: &mut Span) -> bool
+    requires usable { IsUsable (tables_of records.now) }
+    requires may { MayBeTold (looked_at (tables_of records.now) sent.now) node true tells.old }
+    ensures told { result ≡ is_told (looked_at (tables_of records.now) sent.now) node }
+    ensures asked { IsAsked (looked_at (tables_of records.now) sent.now) node tells.old tells.new }
+{
+    if !is_in(*tells, node) {
+        return false;
+    }
+    if sent.is_due(records, node) {
+        return true;
+    }
+    tells.pass(node);
+    false
+}
+
 // The message in the inbox is applied; where there is none and one is there, it is pulled.
-fn inbox_duty(records: &Records, sent: &Sents, node: Id, agent: &Agent, live: bool) -> Option<Duty>
-    requires { IsUsable (tables_of records.now) }
-    ensures { let w = looked_at (tables_of records.now) sent.now in
+#[tactic(auto, using(crate::proofs::Asked::stays_asked))]
+fn inbox_duty(
+    records: &Records,
+    sent: &Sents,
+    node: Id,
+    agent: &Agent,
+    live: bool,
+    tells: &mut Span,
+) -> Option<Duty>
+    requires usable { IsUsable (tables_of records.now) }
+    requires may { MayBeTold (looked_at (tables_of records.now) sent.now) node live tells.old }
+    ensures first { let w = looked_at (tables_of records.now) sent.now in
         option_to_list result ≡ inbox_duties w (at_node node agent.now) live agent.now.inbox }
+    ensures asked { IsAsked (looked_at (tables_of records.now) sent.now) node tells.old tells.new }
 {
     if agent.has_message() {
         return Some(Duty::Apply(node));
     }
-    if live && sent.is_due(records, node) {
+    if live && is_told(records, sent, node, tells) {
         return Some(Duty::Pull(node));
     }
     None
@@ -160,87 +197,108 @@ fn first_within(
     node: Id,
     agent: &Agent,
     live: bool,
+    tells: &mut Span,
 ) -> Option<Duty>
     requires usable { IsUsable (tables_of records.now) }
     requires rises { RisesFrom executor_task 0 agent.now.executors }
-    ensures { let t = tables_of records.now in
+    requires may { MayBeTold (looked_at (tables_of records.now) sent.now) node live tells.old }
+    ensures first { let t = tables_of records.now in
         let w = looked_at t sent.now in let a = at_node node agent.now in
         result ≡ first_of (inbox_duties w a live a.inbox
         ++ duty_where (has_step t.clock) (λ e. Duty.Exec node e.task) a.executors
         ++ report_duties w a live
         ++ duty_where is_forgotten (λ e. Duty.Forget node e.task) a.executors) }
+    ensures asked { IsAsked (looked_at (tables_of records.now) sent.now) node tells.old tells.new }
 {
-    match inbox_duty(records, sent, node, agent, live) {
+    match inbox_duty(records, sent, node, agent, live, tells) {
         Some(duty) => Some(duty),
         None => first_executed(records, sent, node, agent, live),
     }
 }
 
 // The first of an agent that is on, whose session is live or isn't.
-fn first_on(records: &Records, sent: &Sents, node: Id, agent: &Agent, live: bool) -> Option<Duty>
+#[tactic(auto, using(crate::proofs::Asked::stays_asked))]
+fn first_on(
+    records: &Records,
+    sent: &Sents,
+    node: Id,
+    agent: &Agent,
+    live: bool,
+    tells: &mut Span,
+) -> Option<Duty>
     requires usable { IsUsable (tables_of records.now) }
     requires rises { RisesFrom executor_task 0 agent.now.executors }
-    ensures { let w = looked_at (tables_of records.now) sent.now in
+    requires may { MayBeTold (looked_at (tables_of records.now) sent.now) node live tells.old }
+    ensures first { let w = looked_at (tables_of records.now) sent.now in
         result ≡ first_of (duties_on w (at_node node agent.now) live) }
+    ensures asked { IsAsked (looked_at (tables_of records.now) sent.now) node tells.old tells.new }
 {
     match session_duty(records, sent, node, agent, live) {
         Some(duty) => Some(duty),
-        None => first_within(records, sent, node, agent, live),
+        None => first_within(records, sent, node, agent, live, tells),
     }
 }
 
 // The first of the node's agent.
-fn agent_first(records: &Records, sent: &Sents, node: Id, agent: &Agent) -> Option<Duty>
+#[tactic(auto, using(crate::proofs::Asked::agent_steps))]
+fn agent_first(
+    records: &Records,
+    sent: &Sents,
+    node: Id,
+    agent: &Agent,
+    tells: &mut Span,
+) -> Option<Duty>
     requires usable { IsUsable (tables_of records.now) }
     requires rises { RisesFrom executor_task 0 agent.now.executors }
-    ensures { let w = looked_at (tables_of records.now) sent.now in
+    requires may { let w = looked_at (tables_of records.now) sent.now in
+        wants_message w (at_node node agent.now) ≡ true → is_in tells.old node ≡ true }
+    ensures first { let w = looked_at (tables_of records.now) sent.now in
         result ≡ first_of (agent_duties w (at_node node agent.now)) }
+    ensures asked { IsAsked (looked_at (tables_of records.now) sent.now) node tells.old tells.new }
 {
     if is_on(agent) {
-        first_on(records, sent, node, agent, records.session_live(node))
+        first_on(
+            records,
+            sent,
+            node,
+            agent,
+            records.session_live(node),
+            tells,
+        )
     } else {
         None
     }
 }
 
-// The number is in the span.
-fn is_in(span: Span, id: Id) -> bool
-    ensures { result ≡ is_in span id }
-{
-    span.after < id && id <= span.high
-}
-
-/// The first duty of the agents' loop, where the span has each node whose agent has one. Nodes before it leave the span.
+/// The first duty of the agents' loop, where the spans have each node whose agent has one. Nodes before it leave them.
 pub fn agents_first_in(
     records: &Records,
     sent: &Sents,
     agents: &Agents,
-    span: &mut Span,
+    spans: &mut AgentSpans,
 ) -> Option<Duty>
     requires usable { IsUsable (tables_of records.now) }
     requires rises { EachRises agents.now }
     requires ordered { RisesFrom agent_node 0 agents.now }
-    requires covers { let w = looked_at (tables_of records.now) sent.now in
-        Covers agent_node (has_duty (agent_duties w)) span.old agents.now }
+    requires covers { AreSpanned (looked_at (tables_of records.now) sent.now) spans.old agents.now }
     ensures first { let w = looked_at (tables_of records.now) sent.now in
         result ≡ first_of (flat_map (agent_duties w) agents.now) }
-    ensures covers { let w = looked_at (tables_of records.now) sent.now in
-        Covers agent_node (has_duty (agent_duties w)) span.new agents.now }
+    ensures covers { AreSpanned (looked_at (tables_of records.now) sent.now) spans.new agents.now }
 {
     times_that_no_step_looks_at();
     for (node, agent) in agents.iter() {
-        if is_in(*span, *node) {
-            match agent_first(records, sent, *node, agent) {
+        if is_in(spans.duties, *node) {
+            match agent_first(records, sent, *node, agent, &mut spans.tells) {
                 Some(duty) => return Some(duty),
-                None => span.pass(*node),
+                None => spans.duties.pass(*node),
             }
         }
     }
-    *span = Span::empty();
+    *spans = AgentSpans::empty();
     None
 }
 
-/// How the span of the agents' loop goes on covering the nodes whose agents have a duty.
+/// How the spans of the agents' loop go on covering its nodes.
 #[tactic(auto, using(crate::proofs::AgentsKept::agents_stay))]
 pub fn agents_stay_covered()
     ensures { AgentsSpanLaw }

@@ -19,6 +19,7 @@ ghost use Rattle.swarm_world.specs.Inside.Parts.{HasHistory, StandsFor};
 ghost use Rattle.swarm_world.specs.Inside.Records.{tables_of};
 ghost use Rattle.swarm_world.specs.declared.parts.Parts.{Parts as Whole};
 
+use crate::agent_spans::AgentSpans;
 use crate::firsts::is_agents;
 use crate::lines::{
     Addresses, Comes, Creates, Deletes, Downs, Expires, Goes, JobCreates, Leaves, Notes, Olds,
@@ -34,13 +35,12 @@ use swarm_spans::{
     ServiceSpans, Span, TaskSpans, first_of_nodes, first_of_services, first_of_tasks,
 };
 
-/// For each line of duties a span that has each row with a duty of the line.
+/// For each line of duties a span that has each row with a duty of the line, and the spans of the agents' loop.
 #[derive(Clone, Copy, Drop)]
 pub struct Marks {
     pub tasks: TaskSpans,
     pub services: ServiceSpans,
-    /// By the number of the agent's node.
-    pub agents: Span,
+    pub agents: AgentSpans,
 }
 
 #[tactic(auto, using(crate::proofs::Marking::first_steps))]
@@ -183,7 +183,7 @@ impl Marks {
         Marks {
             tasks: TaskSpans::full(),
             services: ServiceSpans::full(),
-            agents: Span::full(),
+            agents: AgentSpans::full(),
         }
     }
 

@@ -4,8 +4,9 @@ ghost use Rattle.std.specs.Prelude.{◌≡◌, Some};
 ghost use Rattle.swarm_objects.specs.Rows.{row_at, task_id};
 ghost use Rattle.swarm_spans.specs.Spans.{IsWider};
 ghost use Rattle.swarm_world.specs.Inside.Records.{tables_of};
-ghost use Rattle.swarm_world.specs.Inside.Touches.{HasNodeOf, TouchesAllTold, TouchesTold};
+ghost use Rattle.swarm_world.specs.Inside.Touches.{AreTouched, HasNodeOf, TouchesAllTold, TouchesTold};
 
+use crate::agent_spans::AgentSpans;
 use crate::records::Records;
 use swarm_objects::{Change, Id, Rows, Task};
 use swarm_spans::Span;
@@ -51,15 +52,26 @@ fn touch_by(records: &Records, change: &Change, span: &mut Span)
     }
 }
 
-/// What the changes touch of the agents' loop.
+// What all changes touch.
 #[tactic(auto, using(crate::proofs::ToldNodes::all_steps))]
-pub fn touch_agents(records: &Records, changes: &[Change], span: &mut Span)
-    ensures wider { IsWider span.new span.old }
-    ensures touches { TouchesAllTold (tables_of records.now) span.new changes.now }
+fn touched_nodes(records: &Records, changes: &[Change]) -> Span
+    ensures { TouchesAllTold (tables_of records.now) result changes.now }
 {
+    let mut span = Span::empty();
     let mut left = changes;
     while let Some((change, others)) = left.split_first() {
-        touch_by(records, change, span);
+        touch_by(records, change, &mut span);
         left = others;
     }
+    span
+}
+
+/// What the changes touch of the agents' loop.
+#[tactic(auto, using(crate::proofs::ToldNodes::join_steps))]
+pub fn touch_agents(records: &Records, changes: &[Change], spans: &mut AgentSpans)
+    ensures { AreTouched (tables_of records.now) spans.old spans.new changes.now }
+{
+    let nodes = touched_nodes(records, changes);
+    spans.duties.join(nodes);
+    spans.tells.join(nodes);
 }

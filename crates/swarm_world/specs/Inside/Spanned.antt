@@ -1,56 +1,53 @@
--- The span that the world keeps of the agents' loop.
-use Rattle.std.specs.Prelude.{List, None, Some, false, true, ℕ, ◌-◌, ◌≡◌}
+-- The spans that the world keeps of the agents' loop.
+use Rattle.std.specs.Prelude.{List, false, true, ℕ, ◌≡◌}
 use Rattle.swarm_model.specs.History.{IsLegal, replay, step}
 use Rattle.swarm_objects.specs.ChangeLists.{Makes}
-use Rattle.swarm_objects.specs.Duties.{duties, is_due}
+use Rattle.swarm_objects.specs.Duties.{is_due}
 use Rattle.swarm_objects.specs.Effects.{after_duty, is_agents}
-use Rattle.swarm_objects.specs.Kinds.{duty_numbers, role_of}
-use Rattle.swarm_objects.specs.Loops.Agents.{agent_duties}
-use Rattle.swarm_objects.specs.Rows.{agent_node, change_row, first_of}
-use Rattle.swarm_objects.specs.World.{World}
-use Rattle.swarm_objects.specs.declared.agents.NodeAgent.{NodeAgent}
+use Rattle.swarm_objects.specs.Kinds.{role_of}
 use Rattle.swarm_objects.specs.declared.calls.Entry.{Entry}
 use Rattle.swarm_objects.specs.declared.calls.What.TheVariants as what
+use Rattle.swarm_objects.specs.declared.duties.Duty.TheVariants as duty
 use Rattle.swarm_objects.specs.declared.duties.Duty.{Duty}
 use Rattle.swarm_objects.specs.declared.loops.Role.TheVariants as role
 use Rattle.swarm_objects.specs.declared.rows.Change.{Change}
-use Rattle.swarm_spans.specs.Spans.{Covers, IsWider, beyond, full, has_duty, is_in}
+use Rattle.swarm_spans.specs.Spans.{IsWider, with_id}
 use Rattle.swarm_spans.specs.declared.span.Span.{Span}
-use Rattle.swarm_world.specs.Inside.Looks.{looked_at}
-use Rattle.swarm_world.specs.Inside.Parts.{IsAt, HasParts, StandsFor}
+use Rattle.swarm_world.specs.Inside.Looks.{AreSpanned, looked_at}
+use Rattle.swarm_world.specs.Inside.Parts.{IsAt, StandsFor}
 use Rattle.swarm_world.specs.Inside.Records.{tables_of}
-use Rattle.swarm_world.specs.Inside.Touches.{TouchesAllTold}
+use Rattle.swarm_world.specs.Inside.Touches.{AreTouched}
+use Rattle.swarm_world.specs.declared.agent_spans.AgentSpans.{AgentSpans}
 use Rattle.swarm_world.specs.declared.parts.Parts.{Parts}
 
--- each node whose agent has a duty is in it
-abbrev pub CoversAgents : Parts → Span → Type 0
-CoversAgents p span = Covers agent_node (has_duty (agent_duties (looked_at (tables_of p.records) p.sent))) span p.agents
+abbrev pub CoversAgents : Parts → AgentSpans → Type 0
+CoversAgents p spans = AreSpanned (looked_at (tables_of p.records) p.sent) spans p.agents
 
--- how it goes on covering
+-- the one has what the other has
+pub record AreWider (wide spans : AgentSpans) : Type 0 where
+  pub duties : IsWider wide.duties spans.duties
+  pub tells : IsWider wide.tells spans.tells
+
+-- a node that registers is sent all that is due; no other duty of the agents' loop makes a message due
+abbrev pub told_by : Duty → Span → Span
+told_by (duty.Register node) span = with_id span node
+told_by _ span = span
+
+abbrev pub after_turn : Duty → AgentSpans → AgentSpans
+after_turn d spans = record { duties = spans.duties; tells = told_by d spans.tells }
+
+-- how they go on covering
 pub record AgentsSpanLaw : Type 0 where
   -- where the world is the same
-  pub same : (h : List Entry) (p q : Parts) (span : Span) → StandsFor p (replay h) → StandsFor q (replay h)
-      → CoversAgents p span → CoversAgents q span
+  pub same : (h : List Entry) (p q : Parts) (spans wide : AgentSpans) → StandsFor p (replay h) → StandsFor q (replay h)
+      → AreWider wide spans → CoversAgents p spans → CoversAgents q wide
   -- after a duty of the agents' loop
-  pub turn : (h : List Entry) (d : Duty) (p q : Parts) (span : Span) → IsLegal h → role_of d ≡ role.Agents
+  pub turn : (h : List Entry) (d : Duty) (p q : Parts) (spans : AgentSpans) → IsLegal h → role_of d ≡ role.Agents
       → is_due (replay h) d ≡ true → StandsFor p (replay h) → StandsFor q (step (replay h) (what.Duty d)).after
-      → CoversAgents p span → CoversAgents q span
-  -- after a duty of another loop, whose changes touch the wider span
-  pub rows : (h : List Entry) (d : Duty) (version : ℕ) (cs : List Change) (p q : Parts) (span wide : Span) → IsAt version p h
-      → is_agents (role_of d) ≡ false → is_due (replay h) d ≡ true
-      → Makes (tables_of p.records) cs (after_duty version (tables_of p.records) d) → IsWider wide span
-      → TouchesAllTold (tables_of p.records) wide cs → HasParts q (step (replay h) (what.Duty d)).after → CoversAgents p span
-      → CoversAgents q wide
-  -- where the first duty is known
-  pub from : (h : List Entry) (p : Parts) (d : Duty) (node : ℕ) (span : Span) → IsLegal h → StandsFor p (replay h)
-      → first_of (duties role.Agents (replay h)) ≡ Some d → first_of (duty_numbers d) ≡ Some node → CoversAgents p span
-      → CoversAgents p (beyond span (node - 1))
-  pub none : (h : List Entry) (p : Parts) (span : Span) → StandsFor p (replay h)
-      → first_of (duties role.Agents (replay h)) ≡ None → CoversAgents p span
-  -- after a change of one agent
-  pub one : (h : List Entry) (p q : Parts) (v : World) (node : ℕ) (f : NodeAgent → NodeAgent) (span wide : Span)
-      → StandsFor p (replay h) → HasParts q v → v.tables ≡ (replay h).tables → v.sent ≡ (replay h).sent
-      → v.agents ≡ change_row agent_node node f (replay h).agents → ((a : NodeAgent) → (f a).node ≡ a.node)
-      → IsWider wide span → is_in wide node ≡ true → CoversAgents p span → CoversAgents q wide
-  -- whatever is known
-  pub all : (h : List Entry) (p : Parts) → IsLegal h → StandsFor p (replay h) → CoversAgents p full
+      → CoversAgents p spans → CoversAgents q (after_turn d spans)
+  -- after a duty of another loop, whose changes touch the wider spans
+  pub rows : (h : List Entry) (d : Duty) (version : ℕ) (cs : List Change) (p q : Parts) (spans wide : AgentSpans)
+      → IsAt version p h → is_agents (role_of d) ≡ false → is_due (replay h) d ≡ true
+      → Makes (tables_of p.records) cs (after_duty version (tables_of p.records) d)
+      → AreTouched (tables_of p.records) spans wide cs → StandsFor q (step (replay h) (what.Duty d)).after
+      → CoversAgents p spans → CoversAgents q wide

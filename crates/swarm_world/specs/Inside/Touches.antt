@@ -7,8 +7,9 @@ use Rattle.swarm_objects.specs.declared.messages.Assigned.{Assigned}
 use Rattle.swarm_objects.specs.declared.rows.Change.TheVariants as change
 use Rattle.swarm_objects.specs.declared.rows.Change.{Change}
 use Rattle.swarm_objects.specs.declared.tasks.Task.{Task}
-use Rattle.swarm_spans.specs.Spans.{is_in}
+use Rattle.swarm_spans.specs.Spans.{IsWider, is_in}
 use Rattle.swarm_spans.specs.declared.span.Span.{Span}
+use Rattle.swarm_world.specs.declared.agent_spans.AgentSpans.{AgentSpans}
 
 -- what the node is to be told of a task
 abbrev pub told_on : ℕ → Option Task → Option Assigned
@@ -31,3 +32,13 @@ pub record TouchesTold (t : Tables) (wide : Span) (c : Change) : Type 0 where
 
 pub record TouchesAllTold (t : Tables) (wide : Span) (cs : List Change) : Type 0 where
   pub each : (c : Change) → Has cs c → TouchesTold t wide c
+
+-- the wider span has them, and what the former one had
+pub record WidensTold (t : Tables) (span wide : Span) (cs : List Change) : Type 0 where
+  pub wider : IsWider wide span
+  pub touches : TouchesAllTold t wide cs
+
+-- so does each of the two
+pub record AreTouched (t : Tables) (spans wide : AgentSpans) (cs : List Change) : Type 0 where
+  pub duties : WidensTold t spans.duties wide.duties cs
+  pub tells : WidensTold t spans.tells wide.tells cs

@@ -2,6 +2,7 @@ use Rattle.std.proofs.Common.{refl}
 use Rattle.swarm_world.proofs.Entering.{are_usable}
 use Rattle.swarm_world.proofs.Recorded.{usable_rows}
 use Rattle.swarm_world.proofs.Registering.{next_still, registered_by}
+use Rattle.swarm_world.proofs.RowsTouched.{same_spans}
 use Rattle.swarm_world.specs.Inside.Records.{tables_of}
 use Rattle.swarm_world.proofs.parts.Parts.register.Goals as goal
 
@@ -27,4 +28,6 @@ returns-clause-enters c = λ h is.
     c.in-Ok.changes is c.in-Ok.ensures did.1 did.2 c.register.ensures refl refl refl refl
 
 pub returns-clause-marks : goal.returns-clause-marks
-returns-clause-marks c = c.touch_rows.ensures.goes_on (tables_of c.begin.new.self.records)
+returns-clause-marks c = λ usable.
+    let t = tables_of c.begin.new.self.records in
+    same_spans c.touch_rows.new.self _ t refl refl (c.touch_rows.ensures.goes_on t usable)

@@ -1,12 +1,12 @@
 use Rattle.std.proofs.Common.{ap, false, refl, subst, ◌∙◌, ◌≡◌}
 use Rattle.swarm_objects.specs.Kinds.{role_of}
 use Rattle.swarm_objects.specs.Effects.{is_agents}
-use Rattle.swarm_spans.specs.Spans.{IsWider}
 use Rattle.swarm_world.proofs.AgentsTaken.{rows_taken}
 use Rattle.swarm_world.proofs.Entering.{are_usable, took}
 use Rattle.swarm_world.proofs.Recorded.{usable_rows}
 use Rattle.swarm_world.proofs.RowsTouched.{commit_marked, same_spans}
 use Rattle.swarm_world.specs.Inside.Records.{tables_of}
+use Rattle.swarm_world.specs.Inside.Touches.{AreTouched}
 use Rattle.swarm_world.proofs.parts.Parts.take_by_rows.Goals as goal
 
 pub changes_of-requires-clause-usable : goal.changes_of-requires-clause-usable
@@ -36,9 +36,10 @@ pub returns-clause-agents : goal.returns-clause-agents
 returns-clause-agents c = λ h is due covers.
     let other : is_agents (role_of c.args.duty) ≡ false = ap is_agents c.requires.own ∙ c.requires.rows in
     rows_taken c.agents_stay_covered.ensures c.args.version h c.args.duty c.as_slice-2.result.now c.in-Ok.changes
-    c.commit.result c.args.self.now _ c.args.marks.now.agents c.touch_agents.new.span is other due c.in-Ok.ensures
-    c.as_slice-2.ensures (subst (IsWider c.touch_agents.new.span) c.touch.ensures.agents c.touch_agents.ensures.wider)
-    c.touch_agents.ensures.touches
+    c.commit.result c.args.self.now _ c.args.marks.now.agents c.touch_agents.new.spans is other due c.in-Ok.ensures
+    c.as_slice-2.ensures
+    (subst (λ s. AreTouched (tables_of c.args.self.now.records) s c.touch_agents.new.spans c.as_slice-2.result.now)
+    c.touch.ensures.agents c.touch_agents.ensures)
     (took c.entries_are_noted.ensures c.args.version c.args.self.now c.commit.new.records c.commit.new.watches
     c.commit.result h c.args.duty c.in-Ok.changes is other c.in-Ok.ensures c.commit.ensures)
     covers
