@@ -10,8 +10,8 @@ returns-in-Ok-clause-line g c =
     settle_line c.answer.result c.args.budget (seen c.args.pass.now) (seen c.take_duties.new.pass)
     (seen c.answer.new.pass) _ _ c.in-Ok.ensures.ok c.answer.ensures.line
 
-pub returns-in-Err-clause-line : goal.returns-in-Err-clause-line
-returns-in-Err-clause-line g c =
+pub returns-clause-line : goal.returns-clause-line
+returns-clause-line g c =
     subst (λ e. DoesLine (Err e) (Settle c.args.budget) (seen c.args.pass.now) (seen c.take_duties.new.pass)
     (g.O.Sink.written c.args.out.now) (g.O.Sink.written c.args.out.now)) (sym c.ending_by.ensures)
     (settle_stops c.in-Err.cause c.args.budget (seen c.args.pass.now) (seen c.take_duties.new.pass)

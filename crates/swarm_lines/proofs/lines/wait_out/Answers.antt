@@ -10,8 +10,8 @@ pub returns-in-Ok-clause-line : goal.returns-in-Ok-clause-line
 returns-in-Ok-clause-line g c = λ out.
     wait_line c.args.ms (seen c.args.pass.now) (seen c.wait.new.pass) out (appends_none out) c.in-Ok.ensures.ok
 
-pub returns-in-Err-clause-line : goal.returns-in-Err-clause-line
-returns-in-Err-clause-line g c = λ out.
+pub returns-clause-line : goal.returns-clause-line
+returns-clause-line g c = λ out.
     subst (λ e. DoesLine (Err e) (Wait c.args.ms) (seen c.args.pass.now) (seen c.wait.new.pass) out out)
     (sym c.ending_by.ensures)
     (wait_stops c.in-Err.cause c.args.ms (seen c.args.pass.now) (seen c.wait.new.pass) out c.in-Err.ensures.err)
