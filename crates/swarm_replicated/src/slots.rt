@@ -5,7 +5,7 @@ ghost use Rattle.swarm_objects.specs.Rows.{first_of};
 ghost use Rattle.swarm_objects.specs.Usable.{IsUsable};
 
 use crate::order::first_to_go;
-use role_words::{first_gap, held_count};
+use role_words::{held_count, tally};
 use swarm_objects::{Duty, Mode, Rows, Service};
 
 /// The slot that the service gives up, where more are held than there are to be replicas.
@@ -33,8 +33,9 @@ pub fn create_duty<R: Rows>(rows: &R, service: &Service) -> Option<Duty>
     let Mode::Replicated(replicas) = service.spec.mode else {
         return None;
     };
-    if replicas <= held_count(rows, service) {
+    let places = tally(rows, service, 1);
+    if replicas <= places.held {
         return None;
     }
-    Some(Duty::ReplicatedCreate(service.id, first_gap(rows, service, 1)))
+    Some(Duty::ReplicatedCreate(service.id, places.gap))
 }
