@@ -1,2 +1,3 @@
+mod Branching
 mod Scheduling
 mod Totalling

@@ -1,2 +1,3 @@
 -- Words of private contracts.
+pub mod Branches
 pub mod Totals

@@ -1,13 +1,15 @@
 // The best node for a task.
-ghost use Rattle.std.specs.Prelude.{◌≡◌, IfSome, Some, if◌then◌else◌};
+ghost use Rattle.std.specs.Prelude.{◌≡◌, IfSome, Some, if◌then◌else◌, is_some};
 ghost use Rattle.std.specs.Option.{option_copied, option_map};
+ghost use Rattle.std.specs.Ordering.{nat_cmp, ordering_then};
 ghost use Rattle.swarm_objects.specs.Nodes.BestNode.{best_node, node_cmp};
 ghost use Rattle.swarm_objects.specs.Rows.{keep_least, node_id};
 ghost use Rattle.swarm_objects.specs.Usable.{IsUsable};
+ghost use Rattle.swarm_sched.specs.Inside.Branches.{preferences};
 ghost use Rattle.swarm_sched.specs.Inside.Totals.{AreTotals};
 ghost use Rattle.swarm_spread.specs.Counts.{IsFor, Stands};
 
-use crate::branches::spread_cmp;
+use crate::branches::Branches;
 use crate::filters::Filters;
 use crate::totals::{OneNode, Totals, count_up};
 use std::cmp::Ordering;
@@ -17,59 +19,64 @@ use swarm_objects::walks::nodes;
 use swarm_objects::{Id, Node, Rows, Task};
 use swarm_spread::SpreadTree;
 
-// Which of two nodes comes first for the task, by what their tasks come to.
-fn node_cmp<R: Rows>(
-    rows: &R,
-    task: &Task,
-    a: &Node,
-    b: &Node,
-    one: Totals,
-    other: Totals,
-) -> Ordering
-    requires usable { IsUsable (R.tables rows.now) }
-    requires one { AreTotals (R.tables rows.now) a.now.id task.now.service one }
-    requires other { AreTotals (R.tables rows.now) b.now.id task.now.service other }
-    ensures { result ≡ node_cmp (R.tables rows.now) task.now a.now b.now }
+// Which of two nodes comes first, by the placement preferences and then by what their tasks come to.
+fn node_cmp(spread: Ordering, a: &Node, b: &Node, one: Totals, other: Totals) -> Ordering
+    ensures { result ≡ ordering_then spread (ordering_then (nat_cmp one.here other.here)
+        (ordering_then (nat_cmp one.load other.load) (nat_cmp a.now.id b.now.id))) }
 {
-    spread_cmp(rows, task.service, task.template.spread.as_slice(), a, b)
+    spread
         .then(one.here.cmp(&other.here))
         .then(one.load.cmp(&other.load))
         .then(a.id.cmp(&b.id))
 }
 
-// The node comes before the best one so far, or is the first.
-fn is_better<R: Rows>(
+// What the node's tasks come to, where it comes before the best one so far, or is the first. They are gone over only where
+// the placement preferences leave it open.
+fn if_better<'a, R: Rows>(
+    branches: &mut Branches<'a, R>,
     rows: &R,
     task: &Task,
-    best: Option<&Node>,
+    best: Option<&'a Node>,
     held: Totals,
-    node: &Node,
-    totals: Totals,
-) -> bool
+    node: &'a Node,
+) -> Option<Totals>
     requires usable { IsUsable (R.tables rows.now) }
+    requires own { branches.old ≡ preferences (R.tables rows.now) task.now }
     requires held { IfSome best (λ b. AreTotals (R.tables rows.now) b.now.id task.now.service held) }
-    requires totals { AreTotals (R.tables rows.now) node.now.id task.now.service totals }
-    ensures { let order = node_cmp (R.tables rows.now) task.now in
+    ensures totals { IfSome result (AreTotals (R.tables rows.now) node.now.id task.now.service) }
+    ensures order { let order = node_cmp (R.tables rows.now) task.now in
         keep_least order (option_copied best.entry) node.now
-        ≡ (if result then Some node.now else option_copied best.entry) }
+        ≡ (if is_some result then Some node.now else option_copied best.entry) }
+    ensures same { branches.new ≡ branches.old }
 {
-    match best {
-        None => true,
-        Some(best) => node_cmp(rows, task, node, best, totals, held) == Ordering::Less,
+    let Some(best) = best else {
+        return Some(count_up(rows, node.id, task.service));
+    };
+    let spread = branches.spread_cmp(node, best);
+    if spread == Ordering::Greater {
+        return None;
     }
+    let totals = count_up(rows, node.id, task.service);
+    if node_cmp(spread, node, best, totals, held) == Ordering::Less {
+        return Some(totals);
+    }
+    None
 }
 
-/// The best of the nodes that admit the task; None exactly where none does. The tasks of each node are gone over once.
+/// The best of the nodes that admit the task; None exactly where none does. The tasks of a node are gone over once at most.
 pub fn best_node<'a, R: Rows>(rows: &'a R, task: &Task) -> Option<&'a Node>
     requires { IsUsable (R.tables rows.now) }
     ensures { option_copied result ≡ best_node (R.tables rows.now) task.now }
 {
+    let mut branches = Branches::new(rows, task.service, task.template.spread.as_slice());
     let mut best = None;
     let mut held = Totals::NONE;
     for node in nodes(rows) {
-        let totals = count_up(rows, node.id, task.service);
+        let Some(totals) = if_better(&mut branches, rows, task, best, held, node) else {
+            continue;
+        };
         let loads = OneNode::new(rows, node.id, task.service, totals);
-        if is_open_by(rows, &loads, task, node) && is_better(rows, task, best, held, node, totals) {
+        if is_open_by(rows, &loads, task, node) {
             best = Some(node);
             held = totals;
         }

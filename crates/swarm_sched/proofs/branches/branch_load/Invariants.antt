@@ -1,16 +1,14 @@
-use Rattle.std.proofs.Common.{◌≡◌, ◌+◌, ◌≤◌, ◌*◌, ◌^◌, ℕ, length}
-use Rattle.std.specs.Prelude.{filter, sum_by}
-use Rattle.swarm_objects.specs.Nodes.BestNode.{agrees, branch_load}
-use Rattle.swarm_objects.specs.Nodes.Filters.{here}
-use Rattle.swarm_objects.specs.declared.nodes.Node.{Node}
+use Rattle.std.proofs.Common.{◌≡◌, ◌+◌, ◌≤◌, length}
+use Rattle.std.specs.Prelude.{count_by, filter}
+use Rattle.swarm_objects.specs.Nodes.BestNode.{branch_load}
+use Rattle.swarm_objects.specs.Tasks.Words.{is_of}
 use Rattle.swarm_sched.proofs.branches.branch_load.Given as goal
+use Rattle.swarm_sched.specs.Inside.Branches.{is_of_branch}
 
-abbrev pub invariant-loop-other : goal.invariant-loop-other
-invariant-loop-other g l =
+abbrev pub invariant-loop-task : goal.invariant-loop-task
+invariant-loop-task g l =
     let t = g.R.Rows.tables l.rows in
-    let here_on : Node → ℕ = λ m. here t m.id l.service in
     record {
-      left : l.sum + sum_by here_on (filter (agrees l.keys l.node) l.other-iterator)
-          ≡ branch_load t l.service l.keys l.node;
-      small : l.sum + 2 ^ 64 * length l.other-iterator ≤ 2 ^ 64 * length t.nodes;
+      sum : l.count + count_by (is_of_branch t l.keys l.node) l.task-iterator ≡ branch_load t l.service l.keys l.node;
+      fits : l.count + length l.task-iterator ≤ length (filter (is_of l.service) t.tasks);
     }

@@ -5,6 +5,7 @@ use Rattle.swarm_filters.specs.Tested.{is_open}
 use Rattle.swarm_objects.specs.Nodes.BestNode.{node_cmp}
 use Rattle.swarm_objects.specs.Rows.{least_by}
 use Rattle.swarm_objects.specs.declared.nodes.Node.{Node}
+use Rattle.swarm_objects.specs.declared.templates.Key.{Key}
 use Rattle.swarm_sched.proofs.placing.best_node.Goals as goal
 
 pub loop-node-init : goal.loop-node-init
@@ -16,4 +17,5 @@ loop-node-init g c =
           (c.into_iter-node-iterator.ensures.into_iter_gives ∙ c.nodes-node-items.ensures)
           ∙ best_is t x;
       held = tt;
+      own = c.new-branches.ensures ∙ ap (λ (keys : List Key). record { tables = t; service = x.service; keys = keys }) c.as_slice.ensures;
     }

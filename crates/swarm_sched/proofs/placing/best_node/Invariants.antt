@@ -5,6 +5,7 @@ use Rattle.swarm_filters.specs.Tested.{is_open}
 use Rattle.swarm_objects.specs.Nodes.BestNode.{best_node, node_cmp}
 use Rattle.swarm_objects.specs.Rows.{least_by}
 use Rattle.swarm_sched.proofs.placing.best_node.Given as goal
+use Rattle.swarm_sched.specs.Inside.Branches.{preferences}
 use Rattle.swarm_sched.specs.Inside.Totals.{AreTotals}
 
 abbrev pub invariant-loop-node : goal.invariant-loop-node
@@ -14,4 +15,5 @@ invariant-loop-node g l =
       best : least_by (node_cmp t l.task) (option_copied l.best) (filter (is_open t l.task) l.node-iterator)
           ≡ best_node t l.task;
       held : IfSome l.best (λ b. AreTotals t b.now.id l.task.service l.held);
+      own : l.branches ≡ preferences t l.task;
     }

@@ -1,0 +1,16 @@
+use Rattle.std.proofs.Common.{Some, arith, ◌∙◌}
+use Rattle.std.proofs.lemmas.List.{length-set}
+use Rattle.swarm_sched.proofs.Branching.{known-more}
+use Rattle.swarm_sched.proofs.branches.Branches.counted.Goals as goal
+use Rattle.swarm_sched.specs.declared.branches.Known.{Known}
+
+pub invariant_of-self : goal.invariant_of-self
+invariant_of-self g c =
+    let b = c.self.inside in
+    let one : Known = record { depth = c.args.depth; node = c.args.node; load = c.branch_load-load.result } in (
+      c.self.invariant.0,
+      known-more (record { tables = g.R.Rows.tables b.rows.now; service = b.service; keys = b.keys.now }) b.known b.next
+          one c.self.invariant.1 c.branch_load-load.ensures,
+      length-set b.known b.next (Some one) ∙ c.self.invariant.2,
+      omega arith,
+    )
