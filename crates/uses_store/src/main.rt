@@ -15,8 +15,8 @@ use swarm_store::Store;
 
 // The one operation that creates a service of this name.
 fn creation(alloc: Global, name: &str) -> Result<List<Op>, NoMemory> {
-    let draft = Draft::usual(alloc);
-    list_of(alloc, Op::CreateService(Name::new(alloc, name)?, draft))
+    let name = Name::new(alloc, name)?;
+    list_of(alloc, Op::CreateService(name, Draft::usual(alloc)))
 }
 
 /// Creates a service of this name as the entry with this number, and gives the ids of what was made. A store that
@@ -32,7 +32,9 @@ fn create(
     let Ok(ops) = creation(alloc, name) else {
         return Err(Refusal::NoMemory);
     };
-    store.txn(version, ops.as_slice())
+    let answer = store.txn(version, ops.as_slice());
+    drop(ops);
+    answer
 }
 
 // What became of a creation, in words.
@@ -44,15 +46,24 @@ fn told(answer: &Result<List<Id>, Refusal>) -> (&'static str, Id) {
     }
 }
 
-fn main(rt: HostRuntime) -> io::Result<()> {
-    let Ok(mut store) = Store::new(rt.alloc()) else {
-        return Err(io::Error::from(io::ErrorKind::OutOfMemory));
-    };
+// Creates two services of one name, and prints what became of each.
+fn create_two(rt: &impl Print, alloc: Global, store: &mut Store) -> io::Result<()> {
     for version in 1..=2 {
-        let answer = create(rt.alloc(), &mut store, version, "web");
+        let answer = create(alloc, store, version, "web");
         let (word, id) = told(&answer);
+        drop(answer);
         let events = store.changes().len();
         println!(rt; "{version}: {word} {id}, {events} event")?;
     }
     Ok(())
+}
+
+fn main(rt: HostRuntime) -> io::Result<()> {
+    let Ok(mut store) = Store::new(rt.alloc()) else {
+        return Err(io::Error::from(io::ErrorKind::OutOfMemory));
+    };
+    let done = create_two(&rt, rt.alloc(), &mut store);
+    // by name, as the function that owns it has one way out
+    drop(store);
+    done
 }

@@ -3,6 +3,6 @@ use Rattle.uses_store.proofs.create.Goals as goal
 
 pub returns : goal.returns
 returns c = record {
-  kept = λ w stands. stands_still c.args.version c.as_slice.result.now w c.args.store.now c.txn.result c.txn.new.self
-      (c.txn.ensures.done w stands) stands;
+  kept = λ w stands. stands_still c.args.version c.as_slice.result.now w c.args.store.now c.txn-answer.result
+      c.txn-answer.new.self (c.txn-answer.ensures.done w stands) stands;
 }
