@@ -1,6 +1,5 @@
 // Messages of a session, due sets, and whether a message is there, each answer once.
-ghost use Rattle.std.specs.Prelude.{◌≡◌, ◌<◌, ◌≤◌, ◌+◌, OnOk};
-ghost use Rattle.swarm_assign.specs.Sents.{sent_count};
+ghost use Rattle.std.specs.Prelude.{◌≡◌, ◌<◌, ◌≤◌, ◌+◌, IfOk, OnOk};
 ghost use Rattle.swarm_objects.specs.Agents.Messages.{assigned_task};
 ghost use Rattle.swarm_objects.specs.Bounds.{far_end};
 ghost use Rattle.swarm_objects.specs.Rows.{IsRising};
@@ -10,7 +9,7 @@ use std::alloc::Global;
 use std::test::Fail;
 use swarm_assign::{Sent, Sents, due_set};
 use swarm_objects::{
-    AssignChange, Assigned, Desired, Id, Message, NoMemory, NodeState, TaskState, Workload,
+    AssignChange, Assigned, Desired, Id, List, Message, NoMemory, NodeState, TaskState, Workload,
 };
 
 // What a message shows.
@@ -63,15 +62,23 @@ fn wanted(task: Id, desired: Desired) -> Assigned
 }
 
 // Nothing is due, nothing again, task 4 runs, it is to be removed, and is gone.
+fn tell_of_one_task(sent: &mut Sent) -> Result<[Shown; 5], NoMemory>
+    requires { sent.old.count ≡ 0 }
+{
+    Ok([
+        tell(sent, &[])?,
+        tell(sent, &[])?,
+        tell(sent, &[wanted(4, Desired::Running)])?,
+        tell(sent, &[wanted(4, Desired::Remove)])?,
+        tell(sent, &[])?,
+    ])
+}
+
 fn one_task_told(alloc: Global) -> Result<[Shown; 5], NoMemory> {
     let mut sent = Sent::new(alloc);
-    Ok([
-        tell(&mut sent, &[])?,
-        tell(&mut sent, &[])?,
-        tell(&mut sent, &[wanted(4, Desired::Running)])?,
-        tell(&mut sent, &[wanted(4, Desired::Remove)])?,
-        tell(&mut sent, &[])?,
-    ])
+    let told = tell_of_one_task(&mut sent);
+    drop(sent);
+    told
 }
 
 #[test]
@@ -86,15 +93,23 @@ fn messages_of_a_session(rt: HostRuntime) -> Result<(), Fail> {
 }
 
 // Tasks 2 and 5 run; 3 runs, 2 is gone and 5 is to stop; and nothing changes.
-fn three_tasks_told(alloc: Global) -> Result<[Shown; 3], NoMemory> {
-    let mut sent = Sent::new(alloc);
+fn tell_of_three_tasks(sent: &mut Sent) -> Result<[Shown; 3], NoMemory>
+    requires { sent.old.count ≡ 0 }
+{
     let begun = [wanted(2, Desired::Running), wanted(5, Desired::Running)];
     let later = [wanted(3, Desired::Running), wanted(5, Desired::Shutdown)];
     Ok([
-        tell(&mut sent, &begun)?,
-        tell(&mut sent, &later)?,
-        tell(&mut sent, &later)?,
+        tell(sent, &begun)?,
+        tell(sent, &later)?,
+        tell(sent, &later)?,
     ])
+}
+
+fn three_tasks_told(alloc: Global) -> Result<[Shown; 3], NoMemory> {
+    let mut sent = Sent::new(alloc);
+    let told = tell_of_three_tasks(&mut sent);
+    drop(sent);
+    told
 }
 
 #[test]
@@ -109,7 +124,9 @@ fn changes_by_rising_task(rt: HostRuntime) -> Result<(), Fail> {
 // How many tasks the node is to have, where the one on node 1 is in this state.
 fn due_count(alloc: Global, node: Id, state: TaskState) -> Result<usize, NoMemory> {
     let rows = pair(alloc, 0, NodeState::Ready, state, Desired::Running)?;
-    Ok(due_set(alloc, &rows, node)?.len())
+    let due = due_set(alloc, &rows, node);
+    drop(rows);
+    Ok(due?.len())
 }
 
 #[test]
@@ -121,9 +138,16 @@ fn due_from_assigned_on(rt: HostRuntime) -> Result<(), Fail> {
     Ok(())
 }
 
-// What a node is told of a task that runs, and whether a message was there before.
-fn told_to_run(alloc: Global, sent: &mut Sent) -> Result<bool, NoMemory>
-    requires { sent.old.count < far_end }
+// Whether a message is there for a node whose task runs.
+fn is_due(alloc: Global, sent: &Sent, desired: Desired) -> Result<bool, NoMemory> {
+    let rows = pair(alloc, 0, NodeState::Ready, TaskState::Running, desired)?;
+    let is_due = sent.is_due(&rows, 1);
+    drop(rows);
+    Ok(is_due)
+}
+
+fn due_tasks(alloc: Global) -> Result<List<Assigned>, NoMemory>
+    ensures { IfOk result (λ due. IsRising assigned_task due) }
 {
     let rows = pair(
         alloc,
@@ -132,20 +156,48 @@ fn told_to_run(alloc: Global, sent: &mut Sent) -> Result<bool, NoMemory>
         TaskState::Running,
         Desired::Running,
     )?;
-    let before = sent.is_due(&rows, 1);
     let due = due_set(alloc, &rows, 1);
     drop(rows);
-    let due = due?;
-    tell(sent, due.as_slice())?;
-    Ok(before)
+    due
+}
+
+fn tell_due(sent: &mut Sent, due: &Result<List<Assigned>, NoMemory>) -> Result<(), NoMemory>
+    requires count { sent.old.count < far_end }
+    requires rises { IfOk due.now (λ due. IsRising assigned_task due) }
+{
+    match due {
+        Ok(due) => {
+            tell(sent, due.as_slice())?;
+            Ok(())
+        }
+        Err(NoMemory) => Err(NoMemory),
+    }
+}
+
+// A node is told of a task that runs.
+fn tell_to_run(alloc: Global, sent: &mut Sent) -> Result<(), NoMemory>
+    requires { sent.old.count < far_end }
+{
+    let due = due_tasks(alloc);
+    let told = tell_due(sent, &due);
+    drop(due);
+    told
+}
+
+fn due_then(alloc: Global, sent: &mut Sent, desired: Desired) -> Result<(bool, bool), NoMemory>
+    requires { sent.old.count < far_end }
+{
+    let before = is_due(alloc, sent, Desired::Running)?;
+    tell_to_run(alloc, sent)?;
+    Ok((before, is_due(alloc, sent, desired)?))
 }
 
 // Whether a message is there before any, and again once the task that was told to run is wanted so.
 fn is_due_then(alloc: Global, desired: Desired) -> Result<(bool, bool), NoMemory> {
     let mut sent = Sent::new(alloc);
-    let before = told_to_run(alloc, &mut sent)?;
-    let later = pair(alloc, 0, NodeState::Ready, TaskState::Running, desired)?;
-    Ok((before, sent.is_due(&later, 1)))
+    let due = due_then(alloc, &mut sent, desired);
+    drop(sent);
+    due
 }
 
 #[test]
@@ -155,19 +207,26 @@ fn due_until_it_is_told(rt: HostRuntime) -> Result<(), Fail> {
     Ok(())
 }
 
-// What node 1 is sent of task 4, which is to run.
-fn pull(sents: &mut Sents) -> Result<Shown, NoMemory>
-    requires { sent_count 1 sents.old < far_end }
-{
-    match sents.pull(1, &[wanted(4, Desired::Running)])? {
-        Some(message) => Ok(shown(&message)),
-        None => Ok((false, 0, 0, 0)),
+fn shown_or_none(pulled: &Result<Option<Message>, NoMemory>) -> Result<Shown, NoMemory> {
+    match pulled {
+        Ok(Some(message)) => Ok(shown(message)),
+        Ok(None) => Ok((false, 0, 0, 0)),
+        Err(NoMemory) => Err(NoMemory),
     }
+}
+
+// What node 1 is sent of task 4, which is to run.
+fn pulled(alloc: Global) -> Result<Shown, NoMemory> {
+    let mut sents = Sents::new(alloc);
+    let pulled = sents.pull(1, &[wanted(4, Desired::Running)]);
+    drop(sents);
+    let shown = shown_or_none(&pulled);
+    drop(pulled);
+    shown
 }
 
 #[test]
 fn pulled_once(rt: HostRuntime) -> Result<(), Fail> {
-    let mut sents = Sents::new(rt.alloc());
-    assert_eq!(rt; pull(&mut sents)?, (true, 0, 1, 14));
+    assert_eq!(rt; pulled(rt.alloc())?, (true, 0, 1, 14));
     Ok(())
 }

@@ -1,5 +1,5 @@
 // A small world, which the tests of the dispatcher's parts and of the spread tree read.
-ghost use Rattle.std.specs.Prelude.{◌≡◌, ◌<◌, IfOk, true};
+ghost use Rattle.std.specs.Prelude.{◌≡◌, ◌<◌, [], IfOk, OnOk, true};
 ghost use Rattle.swarm_objects.specs.Bounds.{far_end, is_near_task};
 ghost use Rattle.swarm_objects.specs.Usable.{IsUsable};
 ghost use Rattle.tests_dispatch.specs.Worlds.{AreNodes, small_tables};
@@ -168,14 +168,26 @@ fn one_node(alloc: Global, state: NodeState) -> Result<List<Node>, NoMemory>
 }
 
 // Nodes 1 and 3 in zone a, and node 4 in zone b.
+fn add_three(alloc: Global, nodes: &mut List<Node>) -> Result<(), NoMemory>
+    requires { nodes.old ≡ [] }
+    ensures { OnOk result (AreNodes nodes.new) }
+{
+    add(nodes, node(alloc, 1, "a", NodeState::Ready)?)?;
+    add(nodes, node(alloc, 3, "a", NodeState::Ready)?)?;
+    add(nodes, node(alloc, 4, "b", NodeState::Ready)?)
+}
+
 fn three_nodes(alloc: Global) -> Result<List<Node>, NoMemory>
     ensures { IfOk result AreNodes }
 {
     let mut nodes = List::new(alloc);
-    add(&mut nodes, node(alloc, 1, "a", NodeState::Ready)?)?;
-    add(&mut nodes, node(alloc, 3, "a", NodeState::Ready)?)?;
-    add(&mut nodes, node(alloc, 4, "b", NodeState::Ready)?)?;
-    Ok(nodes)
+    match add_three(alloc, &mut nodes) {
+        Ok(()) => Ok(nodes),
+        Err(NoMemory) => {
+            drop(nodes);
+            Err(NoMemory)
+        }
+    }
 }
 
 /// Node 1, and task 2 on it.

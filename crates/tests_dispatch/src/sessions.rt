@@ -7,7 +7,7 @@ ghost use Rattle.swarm_objects.specs.declared.loops.Role.TheVariants as role;
 use crate::rows::{pair, task};
 use std::alloc::Global;
 use std::test::Fail;
-use swarm_objects::{Change, Desired, Duty, Id, Ms, NoMemory, NodeState, Refusal, TaskState};
+use swarm_objects::{Change, Desired, Duty, Id, List, Ms, NoMemory, NodeState, Refusal, TaskState};
 use swarm_sessions::{Sessions, changes, least_dispatcher, status_check};
 
 // Leases. An answer is 0 with the deadline, or the refusal's place in the list of refusals with what it carries.
@@ -24,10 +24,8 @@ fn number_of(refusal: &Refusal) -> (u64, u64) {
 }
 
 // Session 3 of node 1, begun at 0.
-fn begun(alloc: Global) -> Result<Sessions, NoMemory> {
-    let mut sessions = Sessions::new(alloc);
-    sessions.begin(1, 3, 0, 5_000)?;
-    Ok(sessions)
+fn begin(sessions: &mut Sessions) -> Result<(), NoMemory> {
+    sessions.begin(1, 3, 0, 5_000)
 }
 
 fn beat(sessions: &mut Sessions, session: Id, now: Ms) -> (u64, u64)
@@ -48,12 +46,16 @@ fn admitted(sessions: &Sessions, node: Id, session: Id, now: Ms) -> (u64, u64) {
 
 // What a beat before the deadline is answered, one at it, and one of another session.
 fn beats(alloc: Global) -> Result<[(u64, u64); 3], NoMemory> {
-    let mut sessions = begun(alloc)?;
-    Ok([
+    let mut sessions = Sessions::new(alloc);
+    let begun = begin(&mut sessions);
+    let answers = [
         beat(&mut sessions, 3, 14_999),
         beat(&mut sessions, 3, 29_999),
         beat(&mut sessions, 2, 0),
-    ])
+    ];
+    drop(sessions);
+    begun?;
+    Ok(answers)
 }
 
 #[test]
@@ -65,13 +67,17 @@ fn beats_until_the_deadline(rt: HostRuntime) -> Result<(), Fail> {
 
 // Whether the session is admitted before its deadline and at it, and another one, and one of another node.
 fn admissions(alloc: Global) -> Result<[(u64, u64); 4], NoMemory> {
-    let sessions = begun(alloc)?;
-    Ok([
+    let mut sessions = Sessions::new(alloc);
+    let begun = begin(&mut sessions);
+    let answers = [
         admitted(&sessions, 1, 3, 14_999),
         admitted(&sessions, 1, 3, 15_000),
         admitted(&sessions, 1, 2, 0),
         admitted(&sessions, 2, 3, 0),
-    ])
+    ];
+    drop(sessions);
+    begun?;
+    Ok(answers)
 }
 
 #[test]
@@ -94,15 +100,22 @@ fn all_held(sessions: &Sessions) -> [Id; 3] {
     [held(sessions, 1), held(sessions, 2), held(sessions, 5)]
 }
 
-// Which sessions there are where the first node's began anew, and where the second node's was removed.
-fn held_then(alloc: Global) -> Result<([Id; 3], [Id; 3]), NoMemory> {
-    let mut sessions = begun(alloc)?;
+fn hold(sessions: &mut Sessions) -> Result<([Id; 3], [Id; 3]), NoMemory> {
+    begin(sessions)?;
     sessions.begin(5, 7, 0, 5_000)?;
     sessions.begin(2, 8, 0, 5_000)?;
     sessions.begin(1, 9, 0, 5_000)?;
-    let all = all_held(&sessions);
+    let all = all_held(sessions);
     sessions.remove(2);
-    Ok((all, all_held(&sessions)))
+    Ok((all, all_held(sessions)))
+}
+
+// Which sessions there are where the first node's began anew, and where the second node's was removed.
+fn held_then(alloc: Global) -> Result<([Id; 3], [Id; 3]), NoMemory> {
+    let mut sessions = Sessions::new(alloc);
+    let held = hold(&mut sessions);
+    drop(sessions);
+    held
 }
 
 #[test]
@@ -114,8 +127,11 @@ fn sessions_come_and_go(rt: HostRuntime) -> Result<(), Fail> {
 
 fn held_in_room(alloc: Global) -> Result<Id, NoMemory> {
     let mut sessions = Sessions::new(alloc);
-    sessions.reserve(2)?;
-    Ok(held(&sessions, 1))
+    let reserved = sessions.reserve(2);
+    let held = held(&sessions, 1);
+    drop(sessions);
+    reserved?;
+    Ok(held)
 }
 
 #[test]
@@ -127,15 +143,21 @@ fn room_is_taken_before(rt: HostRuntime) -> Result<(), Fail> {
 // The dispatcher's duties, in a world of node 1 and task 2 on it.
 
 // 1 and the node that expires, 2 and the task that is orphaned, or 0.
+fn number_and_row(duty: Option<Duty>) -> (u64, Id) {
+    match duty {
+        Some(Duty::Expire(node)) => (1, node),
+        Some(Duty::Orphan(task)) => (2, task),
+        _ => (0, 0),
+    }
+}
+
 fn first(alloc: Global, now: Ms, up: NodeState) -> Result<(u64, Id), NoMemory>
     requires { now < far_end }
 {
     let pair = pair(alloc, now, up, TaskState::Running, Desired::Running)?;
-    Ok(match least_dispatcher(&pair) {
-        Some(Duty::Expire(node)) => (1, node),
-        Some(Duty::Orphan(task)) => (2, task),
-        _ => (0, 0),
-    })
+    let duty = least_dispatcher(&pair);
+    drop(pair);
+    Ok(number_and_row(duty))
 }
 
 #[test]
@@ -160,6 +182,13 @@ fn seen(changes: &[Change]) -> (u64, Ms) {
     }
 }
 
+fn seen_of(changes: &Result<List<Change>, NoMemory>) -> Result<(u64, Ms), NoMemory> {
+    match changes {
+        Ok(changes) => Ok(seen(changes.as_slice())),
+        Err(NoMemory) => Err(NoMemory),
+    }
+}
+
 // What the duty changes at 2,000.
 fn changed(alloc: Global, duty: Duty) -> Result<(u64, Ms), NoMemory>
     requires { role_of duty ≡ role.Dispatcher }
@@ -173,8 +202,9 @@ fn changed(alloc: Global, duty: Duty) -> Result<(u64, Ms), NoMemory>
     )?;
     let changes = changes(alloc, &pair, 9, duty);
     drop(pair);
-    let changes = changes?;
-    Ok(seen(changes.as_slice()))
+    let seen = seen_of(&changes);
+    drop(changes);
+    seen
 }
 
 #[test]
@@ -189,7 +219,9 @@ fn what_the_duties_change(rt: HostRuntime) -> Result<(), Fail> {
 
 fn reported(alloc: Global, node: Id, seen: TaskState, state: TaskState) -> (u64, u64) {
     let task = task(alloc, Some(1), seen, Desired::Running);
-    match status_check(&task, node, state) {
+    let checked = status_check(&task, node, state);
+    drop(task);
+    match checked {
         Ok(()) => (0, 0),
         Err(refusal) => number_of(&refusal),
     }

@@ -20,14 +20,6 @@ impl Admits for Any {
     }
 }
 
-// A task that waits for a node, of a service that is spread over zones.
-fn waiting_task(alloc: Global) -> Result<Task, NoMemory> {
-    let zone = Key::Label(Name::new(alloc, "zone")?);
-    let mut waiting = task(alloc, None, TaskState::Pending, Desired::Running);
-    add(&mut waiting.template.spread, zone)?;
-    Ok(waiting)
-}
-
 // The best node by a tree that counted a task on this one, and dropped it again.
 fn best_after<R: Rows>(
     alloc: Global,
@@ -40,13 +32,30 @@ fn best_after<R: Rows>(
     let mut tree = SpreadTree::build(alloc, rows, task.service, task.template.spread.as_slice())?;
     tree.add(node)?;
     tree.drop_task(node);
-    Ok(tree.best(rows, task, &Any))
+    let found = tree.best(rows, task, &Any);
+    drop(tree);
+    Ok(found)
+}
+
+// The best node for a task that waits for one, of a service that is spread over zones.
+fn best_of_rows<R: Rows>(alloc: Global, rows: &R) -> Result<Option<Id>, NoMemory>
+    requires { IsUsable (R.tables rows.now) }
+{
+    let zone = Key::Label(Name::new(alloc, "zone")?);
+    let mut waiting = task(alloc, None, TaskState::Pending, Desired::Running);
+    let best = match add(&mut waiting.template.spread, zone) {
+        Ok(()) => best_after(alloc, rows, &waiting, 1),
+        Err(NoMemory) => Err(NoMemory),
+    };
+    drop(waiting);
+    best
 }
 
 fn best_of_zones(alloc: Global) -> Result<Option<Id>, NoMemory> {
     let zones = zones(alloc)?;
-    let task = waiting_task(alloc)?;
-    best_after(alloc, &zones, &task, 1)
+    let best = best_of_rows(alloc, &zones);
+    drop(zones);
+    best
 }
 
 #[test]
