@@ -27,8 +27,17 @@ fn service(alloc: Global) -> Result<Service, NoMemory> {
     })
 }
 
+// How a task stands: what is desired of it, and why it closes, if it does.
+type Stand = (Desired, Option<Closed>);
+
+const LIVE: Stand = (Desired::Running, None);
+
+const CLOSING: Stand = (Desired::Shutdown, Some(Closed::Condition));
+
+const ENDED: Stand = (Desired::Shutdown, None);
+
 // A task of it in this slot.
-fn task(alloc: Global, slot: u64, desired: Desired, closed: Option<Closed>) -> Task {
+fn task(alloc: Global, slot: u64, (desired, closed): Stand) -> Task {
     Task {
         id: 1,
         version: 1,
@@ -50,65 +59,72 @@ fn task(alloc: Global, slot: u64, desired: Desired, closed: Option<Closed>) -> T
     }
 }
 
-fn live(alloc: Global, slot: u64) -> Task {
-    task(alloc, slot, Desired::Running, None)
-}
-
-fn closing(alloc: Global, slot: u64) -> Task {
-    task(alloc, slot, Desired::Shutdown, Some(Closed::Condition))
-}
-
-fn ended(alloc: Global, slot: u64) -> Task {
-    task(alloc, slot, Desired::Shutdown, None)
-}
-
-// How many slots have a live one of two tasks, how many are held, and the first gap from 1 on.
-fn told(alloc: Global, older: Task, newer: Task) -> Result<(u64, u64, u64), NoMemory> {
-    let mut tasks = List::new(alloc);
-    add(&mut tasks, older)?;
-    add(&mut tasks, newer)?;
-    let tally = tally_of(&service(alloc)?, tasks.as_slice(), 1);
-    Ok((tally.live, tally.held, tally.gap))
-}
-
-// The same of live tasks in so many slots from 1 on.
-fn told_of_many(alloc: Global, most: u64) -> Result<(u64, u64, u64), NoMemory> {
-    let mut tasks = List::new(alloc);
-    for slot in 0..most {
-        add(&mut tasks, live(alloc, slot + 1))?;
+// Adds a task for each of these slots, from the first to the last.
+fn fill(
+    alloc: Global,
+    tasks: &mut List<Task>,
+    first: u64,
+    last: u64,
+    stand: Stand,
+) -> Result<(), NoMemory> {
+    for slot in first..=last {
+        add(tasks, task(alloc, slot, stand))?;
     }
-    let tally = tally_of(&service(alloc)?, tasks.as_slice(), 1);
+    Ok(())
+}
+
+// Adds these tasks, and counts: how many slots have a live one, how many are held, and the first gap from 1 on.
+fn count(
+    alloc: Global,
+    tasks: &mut List<Task>,
+    service: &Service,
+    all: &[(u64, u64, Stand)],
+) -> Result<(u64, u64, u64), NoMemory> {
+    for (first, last, stand) in all {
+        fill(alloc, tasks, *first, *last, *stand)?;
+    }
+    let tally = tally_of(service, tasks.as_slice(), 1);
     Ok((tally.live, tally.held, tally.gap))
+}
+
+// What is counted of a service with these tasks, older ones first: from which slot to which, and how they stand.
+fn told(alloc: Global, all: &[(u64, u64, Stand)]) -> Result<(u64, u64, u64), NoMemory> {
+    let service = service(alloc)?;
+    let mut tasks = List::new(alloc);
+    let told = count(alloc, &mut tasks, &service, all);
+    drop(tasks);
+    drop(service);
+    told
 }
 
 #[test]
 fn closed_slot_is_held(rt: HostRuntime) -> Result<(), Fail> {
-    let alloc = rt.alloc();
-    assert_eq!(rt; told(alloc, closing(alloc, 1), live(alloc, 2))?, (1, 2, 3));
+    let tasks = [(1, 1, CLOSING), (2, 2, LIVE)];
+    assert_eq!(rt; told(rt.alloc(), &tasks)?, (1, 2, 3));
     Ok(())
 }
 
 #[test]
 fn newest_task_no_longer_closes(rt: HostRuntime) -> Result<(), Fail> {
-    let alloc = rt.alloc();
-    assert_eq!(rt; told(alloc, closing(alloc, 1), ended(alloc, 1))?, (0, 0, 1));
-    assert_eq!(rt; told(alloc, ended(alloc, 1), closing(alloc, 1))?, (0, 1, 2));
+    let tasks = [(1, 1, CLOSING), (1, 1, ENDED)];
+    assert_eq!(rt; told(rt.alloc(), &tasks)?, (0, 0, 1));
+    let tasks = [(1, 1, ENDED), (1, 1, CLOSING)];
+    assert_eq!(rt; told(rt.alloc(), &tasks)?, (0, 1, 2));
     Ok(())
 }
 
 #[test]
 fn slot_far_beyond_the_window(rt: HostRuntime) -> Result<(), Fail> {
-    let alloc = rt.alloc();
-    assert_eq!(rt;
-        told(alloc, live(alloc, u64::MAX), live(alloc, 1))?,
-        (2, 2, 2)
-    );
+    let tasks = [(u64::MAX, u64::MAX, LIVE), (1, 1, LIVE)];
+    assert_eq!(rt; told(rt.alloc(), &tasks)?, (2, 2, 2));
     Ok(())
 }
 
 #[test]
 fn gap_beyond_a_full_window(rt: HostRuntime) -> Result<(), Fail> {
-    let alloc = rt.alloc();
-    assert_eq!(rt; told_of_many(alloc, 1_100)?, (1_100, 1_100, 1_101));
+    assert_eq!(rt;
+        told(rt.alloc(), &[(1, 1_100, LIVE)])?,
+        (1_100, 1_100, 1_101)
+    );
     Ok(())
 }

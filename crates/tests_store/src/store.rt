@@ -10,11 +10,14 @@ use swarm_objects::{
 };
 use swarm_store::Store;
 
-// What a transaction was answered: how many ids and the last, or who has the name.
+// What a transaction was answered: how many ids and the last, who has the name, or that memory was wanting; and whether
+// a part of it stands then.
 #[derive(Clone, Copy, Debug, PartialEq, Eq)]
 enum Told {
     Ids(usize, Id),
     NameTaken(Id),
+    NoMemory,
+    Part,
     Other,
 }
 
@@ -29,8 +32,17 @@ fn told_of(answer: &Result<List<Id>, Refusal>) -> Told {
     match answer {
         Ok(ids) => told_ids(ids.as_slice()),
         Err(Refusal::NameTaken(id)) => Told::NameTaken(*id),
+        Err(Refusal::NoMemory) => Told::NoMemory,
         Err(_) => Told::Other,
     }
+}
+
+// Does the transaction as the entry with this number.
+fn txn(store: &mut Store, version: Version, ops: &[Op]) -> Told {
+    let answer = store.txn(version, ops);
+    let told = told_of(&answer);
+    drop(answer);
+    told
 }
 
 fn service(alloc: Global, name: &str) -> Result<Op, NoMemory> {
@@ -53,7 +65,9 @@ fn create(
     name: &str,
 ) -> Result<Told, NoMemory> {
     let ops = list_of(alloc, service(alloc, name)?)?;
-    Ok(told_of(&store.txn(version, ops.as_slice())))
+    let told = txn(store, version, ops.as_slice());
+    drop(ops);
+    Ok(told)
 }
 
 // The row as the entry with this number writes it.
@@ -101,42 +115,40 @@ fn of_service(entry: u64, verb: Verb, id: Id) -> Option<Event> {
     })
 }
 
-// The name twice, and then the first one's row by a duty.
-fn played(
+// The name twice, and then the first one's row by a duty, with the event after each.
+fn play(
     alloc: Global,
     store: &mut Store,
-) -> Result<(Told, Told, Option<Event>, bool, Option<Event>), NoMemory> {
+) -> Result<([Told; 2], bool, [Option<Event>; 2]), NoMemory> {
     let first = create(alloc, store, 1, "web")?;
     let again = create(alloc, store, 2, "web")?;
     let created = only_event(store);
     let is_put = rewrite(alloc, store, 3, 1)?;
-    Ok((first, again, created, is_put, only_event(store)))
+    Ok(([first, again], is_put, [created, only_event(store)]))
 }
 
 #[test]
 fn changes_are_those_of_the_last_accepted_entry(rt: HostRuntime) -> Result<(), Fail> {
     let mut store = Store::new(rt.alloc())?;
-    assert_eq!(rt;
-        played(rt.alloc(), &mut store)?,
-        (
-            Told::Ids(1, 1),
-            Told::NameTaken(1),
-            of_service(1, Verb::Created, 1),
-            true,
-            of_service(3, Verb::Updated, 1)
-        )
-    );
+    let played = play(rt.alloc(), &mut store);
+    drop(store);
+    let told = [Told::Ids(1, 1), Told::NameTaken(1)];
+    let events = [
+        of_service(1, Verb::Created, 1),
+        of_service(3, Verb::Updated, 1),
+    ];
+    assert_eq!(rt; played?, (told, true, events));
     Ok(())
 }
 
-// A network, a node and three services.
-fn five(alloc: Global) -> Result<List<Op>, NoMemory> {
-    let mut ops = list_of(alloc, network(alloc, "net")?)?;
-    add(&mut ops, node(alloc, "n1")?)?;
-    add(&mut ops, service(alloc, "web")?)?;
-    add(&mut ops, service(alloc, "db")?)?;
-    add(&mut ops, service(alloc, "api")?)?;
-    Ok(ops)
+// Adds a network, a node and three services.
+fn add_five(alloc: Global, ops: &mut List<Op>) -> Result<(), NoMemory> {
+    add(ops, network(alloc, "net")?)?;
+    add(ops, node(alloc, "n1")?)?;
+    for name in ["web", "db", "api"] {
+        add(ops, service(alloc, name)?)?;
+    }
+    Ok(())
 }
 
 // Whether it has no row and no event.
@@ -148,20 +160,29 @@ fn is_blank(store: &Store) -> bool {
 }
 
 // The same transaction again where memory was wanting. Nothing may have changed then.
-fn tried_twice(store: &mut Store, ops: &[Op]) -> Result<Told, Fail> {
-    match store.txn(1, ops) {
-        Err(Refusal::NoMemory) if is_blank(store) => Ok(told_of(&store.txn(1, ops))),
-        Err(Refusal::NoMemory) => Err(Fail::new(format_args!("a part of it stands"))),
-        answer => Ok(told_of(&answer)),
+fn try_twice(store: &mut Store, ops: &[Op]) -> Told {
+    match txn(store, 1, ops) {
+        Told::NoMemory if is_blank(store) => txn(store, 1, ops),
+        Told::NoMemory => Told::Part,
+        told => told,
     }
+}
+
+// How it was answered, and how many events there are then.
+fn pass(alloc: Global, store: &mut Store, ops: &mut List<Op>) -> Result<(Told, usize), NoMemory> {
+    add_five(alloc, ops)?;
+    let told = try_twice(store, ops.as_slice());
+    Ok((told, store.changes().len()))
 }
 
 // It passes whichever single allocation of the transaction fails.
 #[test]
 fn transaction_goes_through_after_want_of_memory(rt: HostRuntime) -> Result<(), Fail> {
-    let ops = five(rt.alloc())?;
     let mut store = Store::new(rt.alloc())?;
-    assert_eq!(rt; tried_twice(&mut store, ops.as_slice())?, Told::Ids(5, 5));
-    assert_eq!(rt; store.changes().len(), 5);
+    let mut ops = List::new(rt.alloc());
+    let passed = pass(rt.alloc(), &mut store, &mut ops);
+    drop(ops);
+    drop(store);
+    assert_eq!(rt; passed?, (Told::Ids(5, 5), 5));
     Ok(())
 }
