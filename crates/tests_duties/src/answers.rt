@@ -1,49 +1,46 @@
 // The duties of one loop, and the answers to the settle test and to a view.
-use crate::worlds::{copy_of, create, do_first, join, transact};
+ghost use Rattle.swarm_objects.specs.Usable.{IsUsableWorld};
+ghost use Rattle.swarm_plain.specs.Plain.{world_of};
+
+use crate::worlds::{begin, copy_of, do_all, enter};
 use std::alloc::Global;
 use std::test::Fail;
 use swarm_duties::{Replay, answer, duties, settle_call};
-use swarm_objects::{
-    Call, Duty, Query, Refusal, Reply, Role, Settle, ViewReply, What, add, list_of,
-};
+use swarm_objects::{Call, Duty, NoMemory, Query, Refusal, Reply, Role, Settle, ViewReply, What};
+use swarm_plain::Plain;
 
 // The first of what a node with one task has to have done.
-const DUTIES: [Duty; 4] = [
-    Duty::ReplicatedCreate(2, 1),
-    Duty::Address(3),
-    Duty::Explain(3),
-    Duty::Register(1),
-];
+const FIRST_DUTIES: [Duty; 2] = [Duty::ReplicatedCreate(2, 1), Duty::Address(3)];
 
-// A node and a service of one replica, and so many duties.
-fn begun(alloc: Global, count: usize) -> Result<Replay, Fail> {
-    let mut ops = list_of(alloc, join(alloc, "n1")?)?;
-    add(&mut ops, create(alloc)?)?;
-    let mut replay = Replay::new(alloc);
-    transact(&mut replay, ops)?;
-    do_first(&mut replay, &DUTIES, count)?;
-    Ok(replay)
+// What comes after these.
+const LATER_DUTIES: [Duty; 2] = [Duty::Explain(3), Duty::Register(1)];
+
+// The first duty of the loop, and how many it has.
+fn first_of(replay: &Replay, role: Role) -> Result<(Option<Duty>, usize), NoMemory> {
+    let all = duties(replay.plain(), role)?;
+    let told = (all.as_slice().first().copied(), all.len());
+    drop(all);
+    Ok(told)
 }
 
-// The first duty of the loop, and how many it has, after so many entries.
-fn first_of(alloc: Global, count: usize, role: Role) -> Result<(Option<Duty>, usize), Fail> {
-    let replay = begun(alloc, count)?;
-    let all = duties(replay.plain(), role)?;
-    Ok((all.as_slice().first().copied(), all.len()))
+// The same of a node and a service of one replica: what its agent has to do, what the scheduler has, and what it has
+// after these duties.
+fn find_duties(alloc: Global, replay: &mut Replay) -> Result<[(Option<Duty>, usize); 3], Fail> {
+    begin(alloc, replay, &["n1"])?;
+    let agents = first_of(replay, Role::Agents)?;
+    let before = first_of(replay, Role::Scheduler)?;
+    do_all(replay, &FIRST_DUTIES)?;
+    Ok([agents, before, first_of(replay, Role::Scheduler)?])
 }
 
 #[test]
 fn duties_of_one_loop(rt: HostRuntime) -> Result<(), Fail> {
-    let alloc = rt.alloc();
-    assert_eq!(rt;
-        first_of(alloc, 0, Role::Agents)?,
-        (Some(Duty::Register(1)), 1)
-    );
-    assert_eq!(rt; first_of(alloc, 0, Role::Scheduler)?, (None, 0));
-    assert_eq!(rt;
-        first_of(alloc, 2, Role::Scheduler)?,
-        (Some(Duty::Explain(3)), 1)
-    );
+    let mut replay = Replay::new(rt.alloc());
+    let told = find_duties(rt.alloc(), &mut replay);
+    drop(replay);
+    let register = (Some(Duty::Register(1)), 1);
+    let explain = (Some(Duty::Explain(3)), 1);
+    assert_eq!(rt; told?, [register, (None, 0), explain]);
     Ok(())
 }
 
@@ -65,45 +62,88 @@ fn told_of(reply: &Reply) -> Told {
     }
 }
 
-// The answer to the settle test after so many duties, and how many entries there are then.
-fn settle_told(alloc: Global, count: usize) -> Result<(Told, u64), Fail> {
-    let mut plain = copy_of(&begun(alloc, count)?)?;
-    let reply = settle_call(&mut plain, 7);
-    Ok((told_of(&reply), plain.entries))
+// The answer to the settle test, and how many entries there are then.
+fn ask_settle(plain: &mut Plain) -> (Told, u64)
+    requires { IsUsableWorld (world_of plain.old) }
+{
+    let reply = settle_call(plain, 7);
+    let told = told_of(&reply);
+    drop(reply);
+    (told, plain.entries)
 }
 
-// The same for any call, after four duties.
-fn call_told(alloc: Global, call: &Call) -> Result<(Told, u64), Fail> {
-    let mut plain = copy_of(&begun(alloc, 4)?)?;
-    let reply = answer(&mut plain, call);
-    Ok((told_of(&reply), plain.entries))
+// The same for any call.
+fn ask(plain: &mut Plain, call: &Call) -> (Told, u64)
+    requires { IsUsableWorld (world_of plain.old) }
+{
+    let reply = answer(plain, call);
+    let told = told_of(&reply);
+    drop(reply);
+    (told, plain.entries)
 }
 
-fn settle_call_told(alloc: Global) -> Result<(Told, u64), Fail> {
-    call_told(alloc, &Call::Settle(8))
+// The same on a copy of the world.
+fn settle_told(replay: &Replay) -> Result<(Told, u64), NoMemory> {
+    let mut plain = copy_of(replay)?;
+    let told = ask_settle(&mut plain);
+    drop(plain);
+    Ok(told)
 }
 
-fn view_told(alloc: Global) -> Result<(Told, u64), Fail> {
-    call_told(alloc, &Call::View(Query::ListNodes))
+// The answer to the call on a copy of the world.
+fn copy_told(replay: &Replay, call: &Call) -> Result<(Told, u64), NoMemory> {
+    let mut plain = copy_of(replay)?;
+    let told = ask(&mut plain, call);
+    drop(plain);
+    Ok(told)
 }
 
-// The same for the settle test after Halt.
-fn told_after_halt(alloc: Global) -> Result<(Told, u64), Fail> {
-    let mut replay = begun(alloc, 0)?;
-    replay.step(&What::Call(Call::Halt))?;
-    let mut plain = copy_of(&replay)?;
-    let reply = settle_call(&mut plain, 7);
-    Ok((told_of(&reply), plain.entries))
+fn call_told(replay: &Replay, call: Call) -> Result<(Told, u64), NoMemory> {
+    let told = copy_told(replay, &call);
+    drop(call);
+    told
+}
+
+// The settle test after the first duties, and both calls after four.
+fn answers(alloc: Global, replay: &mut Replay) -> Result<[(Told, u64); 3], Fail> {
+    begin(alloc, replay, &["n1"])?;
+    do_all(replay, &FIRST_DUTIES)?;
+    let settle = settle_told(replay)?;
+    do_all(replay, &LATER_DUTIES)?;
+    let settle_call = call_told(replay, Call::Settle(8))?;
+    let view = call_told(replay, Call::View(Query::ListNodes))?;
+    Ok([settle, settle_call, view])
 }
 
 #[test]
 fn answers_to_calls(rt: HostRuntime) -> Result<(), Fail> {
-    let alloc = rt.alloc();
-    let busy = Settle::Busy(Duty::Explain(3));
-    assert_eq!(rt; settle_told(alloc, 2)?, (Told::Settle(7, busy), 4));
-    let busy = Settle::Busy(Duty::Place(3, 1));
-    assert_eq!(rt; settle_call_told(alloc)?, (Told::Settle(8, busy), 6));
-    assert_eq!(rt; view_told(alloc)?, (Told::Nodes(1), 6));
-    assert_eq!(rt; told_after_halt(alloc)?, (Told::Halted, 2));
+    let mut replay = Replay::new(rt.alloc());
+    let told = answers(rt.alloc(), &mut replay);
+    drop(replay);
+    let explain = Settle::Busy(Duty::Explain(3));
+    let place = Settle::Busy(Duty::Place(3, 1));
+    assert_eq!(rt;
+        told?,
+        [
+            (Told::Settle(7, explain), 4),
+            (Told::Settle(8, place), 6),
+            (Told::Nodes(1), 6)
+        ]
+    );
+    Ok(())
+}
+
+fn answer_after_halt(alloc: Global, replay: &mut Replay) -> Result<(Told, u64), Fail> {
+    begin(alloc, replay, &["n1"])?;
+    enter(replay, What::Call(Call::Halt))?;
+    Ok(settle_told(replay)?)
+}
+
+#[test]
+fn halted_world_is_not_settled(rt: HostRuntime) -> Result<(), Fail> {
+    let mut replay = Replay::new(rt.alloc());
+    let told = answer_after_halt(rt.alloc(), &mut replay);
+    drop(replay);
+    assert_eq!(rt; told?, (Told::Halted, 2));
     Ok(())
 }

@@ -6,28 +6,19 @@ ghost use Rattle.swarm_objects.specs.Rows.{first_of};
 ghost use Rattle.swarm_objects.specs.Usable.{IsUsableWorld};
 ghost use Rattle.swarm_plain.specs.Plain.{world_of};
 
-use crate::worlds::{copy_of, create, do_first, join, transact};
+use crate::worlds::{begin, copy_of, do_all};
 use std::alloc::Global;
 use std::test::Fail;
 use swarm_duties::{Replay, do_duty, duties, step};
-use swarm_objects::{Call, Duty, NoMemory, Role, What, add, list_of};
+use swarm_objects::{Call, Duty, NoMemory, Role, What};
 use swarm_plain::Plain;
 
-// Two nodes and a service, whose one task is PENDING; one node has a session.
-fn begun(alloc: Global) -> Result<Replay, Fail> {
-    let mut ops = list_of(alloc, join(alloc, "n1")?)?;
-    add(&mut ops, join(alloc, "n2")?)?;
-    add(&mut ops, create(alloc)?)?;
-    let mut replay = Replay::new(alloc);
-    transact(&mut replay, ops)?;
-    let all = [
-        Duty::ReplicatedCreate(3, 1),
-        Duty::Address(4),
-        Duty::Register(1),
-    ];
-    do_first(&mut replay, &all, 3)?;
-    Ok(replay)
-}
+// What is done before the one task of a service on two nodes is PENDING, and one node has a session.
+const FIRST_DUTIES: [Duty; 3] = [
+    Duty::ReplicatedCreate(3, 1),
+    Duty::Address(4),
+    Duty::Register(1),
+];
 
 // The loop's first duty, if it has one.
 fn head(plain: &Plain, role: Role) -> Result<Option<Duty>, NoMemory>
@@ -35,7 +26,9 @@ fn head(plain: &Plain, role: Role) -> Result<Option<Duty>, NoMemory>
     ensures { IfOk result (λ head. head ≡ first_of (duties role (world_of plain.now))) }
 {
     let all = duties(plain, role)?;
-    Ok(all.as_slice().first().copied())
+    let first = all.as_slice().first().copied();
+    drop(all);
+    Ok(first)
 }
 
 // Does it.
@@ -51,25 +44,54 @@ fn do_next(plain: &mut Plain, role: Role) -> Result<bool, NoMemory>
     }
 }
 
-// Whether the loop has a duty, how many entries there are once it is done, and whether the world is halted then.
-fn done(alloc: Global, role: Role) -> Result<(bool, u64, bool), Fail> {
-    let mut plain = copy_of(&begun(alloc)?)?;
-    let has_done = do_next(&mut plain, role)?;
-    Ok((has_done, plain.entries, plain.halted))
+// Whether the loop has a duty, how many entries there are once it is done on a copy of the world, and whether that is
+// halted then.
+fn done(replay: &Replay, role: Role) -> Result<(bool, u64, bool), NoMemory> {
+    let mut plain = copy_of(replay)?;
+    let has_done = do_next(&mut plain, role);
+    let (entries, halted) = (plain.entries, plain.halted);
+    drop(plain);
+    Ok((has_done?, entries, halted))
+}
+
+// Halts it.
+fn halt(plain: &mut Plain) -> bool
+    requires { IsReached (world_of plain.old) }
+{
+    let what = What::Call(Call::Halt);
+    let stepped = step(plain, &what);
+    let has_stepped = stepped.is_ok();
+    drop(stepped);
+    drop(what);
+    has_stepped
 }
 
 // The same where the next entry is Halt.
-fn halted(alloc: Global) -> Result<(bool, u64, bool), Fail> {
-    let mut plain = copy_of(&begun(alloc)?)?;
-    let has_stepped = step(&mut plain, &What::Call(Call::Halt)).is_ok();
-    Ok((has_stepped, plain.entries, plain.halted))
+fn halted(replay: &Replay) -> Result<(bool, u64, bool), NoMemory> {
+    let mut plain = copy_of(replay)?;
+    let has_stepped = halt(&mut plain);
+    let (entries, halted) = (plain.entries, plain.halted);
+    drop(plain);
+    Ok((has_stepped, entries, halted))
+}
+
+// A duty of the scheduler, none of the allocator, and Halt, each as the next entry.
+fn steps(alloc: Global, replay: &mut Replay) -> Result<[(bool, u64, bool); 3], Fail> {
+    begin(alloc, replay, &["n1", "n2"])?;
+    do_all(replay, &FIRST_DUTIES)?;
+    let scheduler = done(replay, Role::Scheduler)?;
+    let allocator = done(replay, Role::Allocator)?;
+    Ok([scheduler, allocator, halted(replay)?])
 }
 
 #[test]
 fn one_entry_more(rt: HostRuntime) -> Result<(), Fail> {
-    let alloc = rt.alloc();
-    assert_eq!(rt; done(alloc, Role::Scheduler)?, (true, 5, false));
-    assert_eq!(rt; done(alloc, Role::Allocator)?, (false, 4, false));
-    assert_eq!(rt; halted(alloc)?, (true, 5, true));
+    let mut replay = Replay::new(rt.alloc());
+    let told = steps(rt.alloc(), &mut replay);
+    drop(replay);
+    assert_eq!(rt;
+        told?,
+        [(true, 5, false), (false, 4, false), (true, 5, true)]
+    );
     Ok(())
 }
