@@ -30,7 +30,9 @@ fn free_of_all(alloc: Global) -> Result<(Option<u32>, Option<u32>), NoMemory> {
     let mut pool = all_ports(alloc)?;
     let none = pool.least_free();
     pool.give(31_000);
-    Ok((none, pool.least_free()))
+    let one = pool.least_free();
+    drop(pool);
+    Ok((none, one))
 }
 
 #[test]
@@ -39,12 +41,22 @@ fn ports_run_out(rt: HostRuntime) -> Result<(), Fail> {
     Ok(())
 }
 
+fn take_two(pool: &mut Pool) -> Result<(), NoMemory>
+    requires first { pool.old.first ≡ 5 }
+    requires last { pool.old.last ≡ 204 }
+{
+    pool.take(5)?;
+    pool.take(150)
+}
+
 // The least free number from 5 to 204, where two are taken.
 fn free_beside_two(alloc: Global) -> Result<Option<u32>, NoMemory> {
     let mut pool = Pool::new(alloc, 5, 204);
-    pool.take(5)?;
-    pool.take(150)?;
-    Ok(pool.least_free())
+    let taken = take_two(&mut pool);
+    let free = pool.least_free();
+    drop(pool);
+    taken?;
+    Ok(free)
 }
 
 #[test]
@@ -57,8 +69,11 @@ fn gap_below_a_taken_number(rt: HostRuntime) -> Result<(), Fail> {
 fn free_of_one(alloc: Global) -> Result<(Option<u32>, Option<u32>), NoMemory> {
     let mut pool = Pool::new(alloc, u32::MAX, u32::MAX);
     let before = pool.least_free();
-    pool.take(u32::MAX)?;
-    Ok((before, pool.least_free()))
+    let taken = pool.take(u32::MAX);
+    let after = pool.least_free();
+    drop(pool);
+    taken?;
+    Ok((before, after))
 }
 
 #[test]

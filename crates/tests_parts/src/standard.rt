@@ -95,12 +95,14 @@ impl<'a> Write for Scripted<'a> {
 // What four calls are answered, each of which gets four places of the buffer.
 fn takes(reader: Scripted<'_>, buf: &mut [u8; 16]) -> [Result<usize, Failed>; 4] {
     let mut source = StdSource::new(reader);
-    [
+    let answers = [
         source.take(&mut buf[..4]),
         source.take(&mut buf[4..8]),
         source.take(&mut buf[8..12]),
         source.take(&mut buf[12..]),
-    ]
+    ];
+    drop(source);
+    answers
 }
 
 #[test]
@@ -116,15 +118,29 @@ fn source_fails_in_mid_stream(rt: HostRuntime) -> Result<(), Fail> {
 // What is answered where these pieces are put.
 fn puts(writer: &mut Scripted<'_>, pieces: [&[u8]; 3]) -> [Result<(), Failed>; 3] {
     let mut sink = StdSink::new(writer);
-    [
+    let answers = [
         sink.put(pieces[0]),
         sink.put(pieces[1]),
         sink.put(pieces[2]),
-    ]
+    ];
+    drop(sink);
+    answers
+}
+
+// The same by a writer of one's own, and whether it moved these bytes.
+fn puts_and_moves(
+    mut writer: Scripted<'_>,
+    pieces: [&[u8]; 3],
+    wanted: &[u8],
+) -> ([Result<(), Failed>; 3], bool) {
+    let answers = puts(&mut writer, pieces);
+    let is_moved = writer.moved.as_slice() == wanted;
+    drop(writer);
+    (answers, is_moved)
 }
 
 #[test]
-fn sink_fails_in_mid_stream(rt: HostRuntime) -> Result<(), Fail> {
+fn sink_fails_in_mid_stream(rt: HostRuntime) {
     let steps = [
         Step::Moves(2),
         INTERRUPTED,
@@ -133,26 +149,28 @@ fn sink_fails_in_mid_stream(rt: HostRuntime) -> Result<(), Fail> {
         BROKEN,
         Step::Moves(1),
     ];
-    let mut writer = Scripted::new(rt.alloc(), &steps);
-    let answers = puts(&mut writer, [b"first\n", b"second\n", b"third\n"]);
+    let writer = Scripted::new(rt.alloc(), &steps);
+    let (answers, is_moved) = puts_and_moves(
+        writer,
+        [b"first\n", b"second\n", b"third\n"],
+        b"first\nst",
+    );
     assert_eq!(rt;
         answers,
         [Ok(()), Err(Failed), Err(Failed)],
         "broken, and nothing is taken"
     );
-    assert_eq!(rt; writer.moved.as_slice(), b"first\nst".as_slice());
-    Ok(())
+    assert!(rt; is_moved);
 }
 
 #[test]
-fn failed_flush_is_a_fault(rt: HostRuntime) -> Result<(), Fail> {
+fn failed_flush_is_a_fault(rt: HostRuntime) {
     let steps = [Step::Moves(2), Step::Moves(2), Step::Moves(2)];
     let mut writer = Scripted::new(rt.alloc(), &steps);
     writer.flush_fails = true;
-    let answers = puts(&mut writer, [b"ab", b"cd", b"ef"]);
+    let (answers, is_moved) = puts_and_moves(writer, [b"ab", b"cd", b"ef"], b"abcdef");
     assert_eq!(rt; answers, [Err(Failed), Ok(()), Ok(())]);
-    assert_eq!(rt; writer.moved.as_slice(), b"abcdef".as_slice());
-    Ok(())
+    assert!(rt; is_moved);
 }
 
 #[test]
@@ -178,38 +196,62 @@ fn writes_are_tried_a_thousand_times(rt: HostRuntime) {
 }
 
 // Whether the file has this text.
-fn has_text<F: Files + Alloc>(rt: &F, path: &str, text: &str) -> bool {
-    match fs::read_to_string(rt, path) {
+fn has_text<F: Files + AllocGlobal>(rt: &F, path: &str, text: &str) -> bool {
+    let read = fs::read_to_string(rt, path);
+    let is_text = match &read {
         Ok(found) => found.as_str() == text,
         Err(_) => false,
-    }
+    };
+    drop(read);
+    is_text
+}
+
+fn puts_both<F: Files>(sink: &mut FileSink<'_, F>) -> bool {
+    sink.put(b"one\n").is_ok() && sink.put(b"two\n").is_ok()
 }
 
 // Whether an old journal stays until the first piece and goes then.
-fn is_made_anew<F: Files + Alloc>(rt: &F, path: &str) -> bool {
+fn is_made_anew<F: Files + AllocGlobal>(rt: &F, path: &str) -> bool {
     let mut sink = FileSink::new(rt, path);
-    has_text(rt, path, "an old journal\n")
-        && sink.put(b"one\n").is_ok()
-        && sink.put(b"two\n").is_ok()
-        && has_text(rt, path, "one\ntwo\n")
+    let is_kept = has_text(rt, path, "an old journal\n");
+    let is_put = puts_both(&mut sink);
+    let is_new = has_text(rt, path, "one\ntwo\n");
+    drop(sink);
+    is_kept && is_put && is_new
 }
 
 fn put_one<F: Files>(rt: &F, path: &str) -> Result<(), Failed> {
     let mut sink = FileSink::new(rt, path);
-    sink.put(b"one\n")
+    let answer = sink.put(b"one\n");
+    drop(sink);
+    answer
+}
+
+fn put_inside<F: Files + AllocGlobal>(rt: &F, path: &str) -> Result<Result<(), Failed>, Fail> {
+    let inside = format!(in rt.alloc(); "{path}/inside")?;
+    let answer = put_one(rt, inside.as_str());
+    drop(inside);
+    Ok(answer)
+}
+
+// Whether a file is made anew at the path, and what is answered inside of it once it is gone.
+fn asked_at<F: Files + AllocGlobal>(
+    rt: &F,
+    path: &str,
+) -> Result<(bool, Result<(), Failed>), Fail> {
+    fs::write(rt, path, "an old journal\n")?;
+    let is_new = is_made_anew(rt, path);
+    fs::remove_file(rt, path)?;
+    Ok((is_new, put_inside(rt, path)?))
 }
 
 #[test]
 fn file_is_made_empty_at_the_first_piece(rt: HostRuntime) -> Result<(), Fail> {
     let path = format!(in rt.alloc(); "/tmp/swarm-file-sink-{}", process::id(rt.process()))?;
-    fs::write(&rt, path.as_str(), "an old journal\n")?;
-    assert!(rt; is_made_anew(&rt, path.as_str()));
-    fs::remove_file(&rt, path.as_str())?;
-    let inside = format!(in rt.alloc(); "{path}/inside")?;
-    assert_eq!(rt;
-        put_one(&rt, inside.as_str()),
-        Err(Failed),
-        "there is no such folder"
-    );
+    let asked = asked_at(&rt, path.as_str());
+    drop(path);
+    let (is_new, inside) = asked?;
+    assert!(rt; is_new);
+    assert_eq!(rt; inside, Err(Failed), "there is no such folder");
     Ok(())
 }

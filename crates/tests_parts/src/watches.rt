@@ -1,12 +1,12 @@
 // Watchers, and what waits for them.
-ghost use Rattle.std.specs.Prelude.{◌≡◌, [], ◌∷◌, None, IfOk};
+ghost use Rattle.std.specs.Prelude.{◌≡◌, [], ◌∷◌, None, IfOk, OnOk};
 ghost use Rattle.swarm_objects.specs.Rows.{row_at};
 ghost use Rattle.swarm_watch.specs.Calls.{new_watching};
 ghost use Rattle.swarm_watch.specs.Watchings.{watching_id};
 
 use std::alloc::Global;
 use std::test::Fail;
-use swarm_objects::{Event, Filter, Id, Kind, NoMemory, Refusal, Verb};
+use swarm_objects::{Event, Filter, Id, Kind, List, NoMemory, Refusal, Verb};
 use swarm_watch::Watches;
 
 const ALL: Filter = Filter {
@@ -35,54 +35,77 @@ enum Answer {
     Other,
 }
 
-fn refused(refusal: Refusal) -> Result<Answer, NoMemory> {
+fn refused(refusal: &Refusal) -> Result<Answer, NoMemory> {
     match refusal {
-        Refusal::Lagged(count) => Ok(Answer::Lagged(count)),
-        Refusal::UnknownWatcher(id) => Ok(Answer::Unknown(id)),
-        Refusal::TooMany(kind, count) => Ok(Answer::TooMany(kind, count)),
+        Refusal::Lagged(count) => Ok(Answer::Lagged(*count)),
+        Refusal::UnknownWatcher(id) => Ok(Answer::Unknown(*id)),
+        Refusal::TooMany(kind, count) => Ok(Answer::TooMany(*kind, *count)),
         Refusal::NoMemory => Err(NoMemory),
         _ => Ok(Answer::Other),
     }
 }
 
-fn polled(watches: &mut Watches, id: Id) -> Result<Answer, NoMemory> {
-    match watches.poll(id) {
+fn told(polled: &Result<List<Event>, Refusal>) -> Result<Answer, NoMemory> {
+    match polled {
         Ok(events) => Ok(Answer::Events(events.len())),
         Err(refusal) => refused(refusal),
     }
 }
 
-// Whether the watcher is told these events, in this order.
-fn is_told(watches: &mut Watches, id: Id, events: &[Event]) -> Result<bool, NoMemory> {
-    match watches.poll(id) {
+fn polled(watches: &mut Watches, id: Id) -> Result<Answer, NoMemory> {
+    let polled = watches.poll(id);
+    let answer = told(&polled);
+    drop(polled);
+    answer
+}
+
+fn are(polled: &Result<List<Event>, Refusal>, events: &[Event]) -> Result<bool, NoMemory> {
+    match polled {
         Ok(told) => Ok(told.as_slice() == events),
         Err(_) => Err(NoMemory),
     }
 }
 
-fn done(answer: Result<(), Refusal>) -> Result<Answer, NoMemory> {
+// Whether the watcher is told these events, in this order.
+fn is_told(watches: &mut Watches, id: Id, events: &[Event]) -> Result<bool, NoMemory> {
+    let polled = watches.poll(id);
+    let is_told = are(&polled, events);
+    drop(polled);
+    is_told
+}
+
+fn done(answer: &Result<(), Refusal>) -> Result<Answer, NoMemory> {
     match answer {
         Ok(()) => Ok(Answer::Done),
         Err(refusal) => refused(refusal),
     }
 }
 
-// Whose one watcher is 1.
-fn watched(alloc: Global, filter: Filter) -> Result<Watches, NoMemory>
-    ensures { IfOk result (λ watches. watches.watchers ≡ new_watching 1 filter ∷ []) }
+fn finished(watches: &mut Watches, id: Id) -> Result<Answer, NoMemory> {
+    let finished = watches.finish(id);
+    let answer = done(&finished);
+    drop(finished);
+    answer
+}
+
+// The one watcher is 1.
+fn watch(watches: &mut Watches, filter: Filter) -> Result<(), NoMemory>
+    requires { watches.old.watchers ≡ [] }
+    ensures { OnOk result (watches.new.watchers ≡ new_watching 1 filter ∷ []) }
 {
-    let mut watches = Watches::new(alloc);
     match watches.begin(1, filter) {
-        Ok(()) => Ok(watches),
+        Ok(()) => Ok(()),
         Err(_) => Err(NoMemory),
     }
 }
 
-// Whose watchers are 1 and 2.
-fn both_watched(alloc: Global, one: Filter, two: Filter) -> Result<Watches, NoMemory> {
-    let mut watches = watched(alloc, one)?;
+// The watchers are 1 and 2.
+fn watch_both(watches: &mut Watches, one: Filter, two: Filter) -> Result<(), NoMemory>
+    requires { watches.old.watchers ≡ [] }
+{
+    watch(watches, one)?;
     match watches.begin(2, two) {
-        Ok(()) => Ok(watches),
+        Ok(()) => Ok(()),
         Err(_) => Err(NoMemory),
     }
 }
@@ -111,14 +134,11 @@ fn event(verb: Verb, kind: Kind, id: Id) -> Event {
 }
 
 // So many services, each made.
-fn services_made(alloc: Global, count: u64) -> Result<Vec<Event>, NoMemory> {
-    let mut events = Vec::new(alloc);
+fn make_services(events: &mut Vec<Event>, count: u64) -> Result<(), NoMemory> {
     for id in 0..count {
-        let Ok(()) = events.push(event(Verb::Created, Kind::Service, id)) else {
-            return Err(NoMemory);
-        };
+        events.extend_from_slice(&[event(Verb::Created, Kind::Service, id)])?;
     }
-    Ok(events)
+    Ok(())
 }
 
 // A second try, where memory was wanting at the first.
@@ -129,12 +149,35 @@ fn noted(watches: &mut Watches, events: &[Event]) -> Result<(), NoMemory> {
     }
 }
 
+// The watches are told that so many services were made.
+fn note_services(alloc: Global, watches: &mut Watches, count: u64) -> Result<(), NoMemory> {
+    let mut events = Vec::new(alloc);
+    let noted = match make_services(&mut events, count) {
+        Ok(()) => noted(watches, events.as_slice()),
+        Err(NoMemory) => Err(NoMemory),
+    };
+    drop(events);
+    noted
+}
+
+fn poll_twice(
+    alloc: Global,
+    watches: &mut Watches,
+    count: u64,
+) -> Result<(Answer, Answer), NoMemory>
+    requires { watches.old.watchers ≡ [] }
+{
+    watch(watches, ALL)?;
+    note_services(alloc, watches, count)?;
+    Ok((polled(watches, 1)?, polled(watches, 1)?))
+}
+
 // What two polls of a watcher of everything are answered, where so many services were made.
 fn polled_after(alloc: Global, count: u64) -> Result<(Answer, Answer), NoMemory> {
-    let mut watches = watched(alloc, ALL)?;
-    let events = services_made(alloc, count)?;
-    noted(&mut watches, events.as_slice())?;
-    Ok((polled(&mut watches, 1)?, polled(&mut watches, 1)?))
+    let mut watches = Watches::new(alloc);
+    let answers = poll_twice(alloc, &mut watches, count);
+    drop(watches);
+    answers
 }
 
 #[test]
@@ -151,16 +194,25 @@ fn one_event_too_many(rt: HostRuntime) -> Result<(), Fail> {
     Ok(())
 }
 
-// Whether a watcher of services and one of task 7 are each told what is theirs.
-fn is_life_told(alloc: Global) -> Result<(bool, bool), NoMemory> {
-    let mut watches = both_watched(alloc, SERVICES, TASK_7)?;
+fn tell_life(watches: &mut Watches) -> Result<(bool, bool), NoMemory>
+    requires { watches.old.watchers ≡ [] }
+{
+    watch_both(watches, SERVICES, TASK_7)?;
     let made = event(Verb::Created, Kind::Service, 7);
     let task = event(Verb::Updated, Kind::Task, 7);
     let gone = event(Verb::Deleted, Kind::Service, 7);
     let other = event(Verb::Created, Kind::Task, 8);
-    noted(&mut watches, &[made, task, gone, other])?;
-    let service = is_told(&mut watches, 1, &[made, gone])?;
-    Ok((service, is_told(&mut watches, 2, &[task])?))
+    noted(watches, &[made, task, gone, other])?;
+    let service = is_told(watches, 1, &[made, gone])?;
+    Ok((service, is_told(watches, 2, &[task])?))
+}
+
+// Whether a watcher of services and one of task 7 are each told what is theirs.
+fn is_life_told(alloc: Global) -> Result<(bool, bool), NoMemory> {
+    let mut watches = Watches::new(alloc);
+    let told = tell_life(&mut watches);
+    drop(watches);
+    told
 }
 
 #[test]
@@ -169,16 +221,25 @@ fn a_life_is_told_in_order(rt: HostRuntime) -> Result<(), Fail> {
     Ok(())
 }
 
-// What the second watcher is answered, then the first, and the second again, where two events come before and two after.
-fn polled_in_turn(alloc: Global) -> Result<[Answer; 3], NoMemory> {
-    let mut watches = both_watched(alloc, SERVICES, ALL)?;
+fn poll_in_turn(watches: &mut Watches) -> Result<[Answer; 3], NoMemory>
+    requires { watches.old.watchers ≡ [] }
+{
+    watch_both(watches, SERVICES, ALL)?;
     let made = event(Verb::Created, Kind::Service, 7);
     let task = event(Verb::Created, Kind::Task, 8);
-    noted(&mut watches, &[task, made])?;
-    let early = polled(&mut watches, 2)?;
-    noted(&mut watches, &[made, task])?;
-    let slow = polled(&mut watches, 1)?;
-    Ok([early, slow, polled(&mut watches, 2)?])
+    noted(watches, &[task, made])?;
+    let early = polled(watches, 2)?;
+    noted(watches, &[made, task])?;
+    let slow = polled(watches, 1)?;
+    Ok([early, slow, polled(watches, 2)?])
+}
+
+// What the second watcher is answered, then the first, and the second again, where two events come before and two after.
+fn polled_in_turn(alloc: Global) -> Result<[Answer; 3], NoMemory> {
+    let mut watches = Watches::new(alloc);
+    let answers = poll_in_turn(&mut watches);
+    drop(watches);
+    answers
 }
 
 #[test]
@@ -189,10 +250,18 @@ fn slow_watcher_is_told_all(rt: HostRuntime) -> Result<(), Fail> {
     Ok(())
 }
 
+fn finish_twice(watches: &mut Watches) -> Result<(Answer, Answer), NoMemory>
+    requires { watches.old.watchers ≡ [] }
+{
+    watch(watches, ALL)?;
+    Ok((finished(watches, 1)?, finished(watches, 1)?))
+}
+
 fn finished_twice(alloc: Global) -> Result<(Answer, Answer), NoMemory> {
-    let mut watches = watched(alloc, ALL)?;
-    let first = done(watches.finish(1))?;
-    Ok((first, done(watches.finish(1))?))
+    let mut watches = Watches::new(alloc);
+    let answers = finish_twice(&mut watches);
+    drop(watches);
+    answers
 }
 
 #[test]
@@ -204,7 +273,11 @@ fn a_watcher_ends(rt: HostRuntime) -> Result<(), Fail> {
 
 fn begun_beside_a_crowd(alloc: Global) -> Result<Answer, NoMemory> {
     let mut watches = crowd(alloc)?;
-    done(watches.begin(101, ALL))
+    let begun = watches.begin(101, ALL);
+    drop(watches);
+    let answer = done(&begun);
+    drop(begun);
+    answer
 }
 
 #[test]
@@ -214,12 +287,21 @@ fn one_watcher_too_many(rt: HostRuntime) -> Result<(), Fail> {
     Ok(())
 }
 
-// Whether there is room for 3 events more, and for all numbers of events; and a poll after it.
-fn room_made(alloc: Global) -> Result<(bool, bool, Answer), NoMemory> {
-    let mut watches = watched(alloc, ALL)?;
+fn make_room(watches: &mut Watches) -> Result<(bool, bool, Answer), NoMemory>
+    requires { watches.old.watchers ≡ [] }
+{
+    watch(watches, ALL)?;
     let few = watches.reserve(3).is_ok();
     let most = watches.reserve(u64::MAX).is_ok();
-    Ok((few, most, polled(&mut watches, 1)?))
+    Ok((few, most, polled(watches, 1)?))
+}
+
+// Whether there is room for 3 events more, and for all numbers of events; and a poll after it.
+fn room_made(alloc: Global) -> Result<(bool, bool, Answer), NoMemory> {
+    let mut watches = Watches::new(alloc);
+    let room = make_room(&mut watches);
+    drop(watches);
+    room
 }
 
 #[test]
