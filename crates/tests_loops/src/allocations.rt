@@ -16,14 +16,14 @@ use swarm_objects::{
 use swarm_plain::Plain;
 
 // A service with id 7 and these ports.
-fn service(alloc: Global, ports: List<Port>) -> Result<Service, NoMemory>
-    ensures id { IfOk result (λ s. s.id ≡ 7) }
-    ensures near { IfOk result (λ s. is_near_service s ≡ true) }
+fn service(alloc: Global, name: Name, ports: List<Port>) -> Service
+    ensures id { result.id ≡ 7 }
+    ensures near { is_near_service result ≡ true }
 {
-    Ok(Service {
+    Service {
         id: 7,
         version: 1,
-        name: Name::new(alloc, "web")?,
+        name,
         spec: ServiceSpec {
             mode: Mode::usual(),
             template: Template::usual(alloc),
@@ -36,7 +36,7 @@ fn service(alloc: Global, ports: List<Port>) -> Result<Service, NoMemory>
         iteration: 0,
         numbers: List::new(alloc),
         run: None,
-    })
+    }
 }
 
 // Its new task, on these networks.
@@ -54,7 +54,7 @@ fn new_task(alloc: Global, networks: List<Id>) -> Task
 fn world(alloc: Global, ports: List<Port>, networks: List<Id>) -> Result<Plain, NoMemory>
     ensures { IfOk result (λ plain. IsUsable (tables_of plain)) }
 {
-    let service = service(alloc, ports)?;
+    let service = service(alloc, Name::new(alloc, "web")?, ports);
     let services = list_of(alloc, service)?;
     let tasks = list_of(alloc, new_task(alloc, networks))?;
     Ok(Plain {
@@ -90,7 +90,9 @@ fn open_port(alloc: Global) -> Result<List<Port>, NoMemory> {
 
 fn first(alloc: Global, ports: List<Port>, networks: List<Id>) -> Result<Option<Duty>, NoMemory> {
     let plain = world(alloc, ports, networks)?;
-    Ok(swarm_alloc::least(&plain))
+    let duty = swarm_alloc::least(&plain);
+    drop(plain);
+    Ok(duty)
 }
 
 #[test]
@@ -111,36 +113,59 @@ fn a_port_comes_before_an_address(rt: HostRuntime) -> Result<(), Fail> {
 #[test]
 fn a_network_without_addresses_is_noted(rt: HostRuntime) -> Result<(), Fail> {
     let alloc = rt.alloc();
+    let networks = list_of(alloc, 9)?;
     assert_eq!(rt;
-        first(alloc, List::new(alloc), list_of(alloc, 9)?)?,
+        first(alloc, List::new(alloc), networks)?,
         Some(Duty::Note(1))
     );
     Ok(())
 }
 
 // The number that the one changed service has.
-fn number_of(changes: &List<Change>) -> Option<u16> {
+fn number_of(changes: &Result<List<Change>, NoMemory>) -> Result<Option<u16>, NoMemory> {
+    let Ok(changes) = changes else {
+        return Err(NoMemory);
+    };
     match changes.as_slice() {
         [Change::PutService(service)] => match service.numbers.as_slice() {
-            [given] => Some(given.number),
-            _ => None,
+            [given] => Ok(Some(given.number)),
+            _ => Ok(None),
         },
-        _ => None,
+        _ => Ok(None),
     }
-}
-
-fn given_number(alloc: Global) -> Result<Option<u16>, NoMemory> {
-    let plain = world(alloc, open_port(alloc)?, List::new(alloc))?;
-    let changes = swarm_alloc::changes(alloc, &plain, 2, Duty::Port(7, 80, false))?;
-    Ok(number_of(&changes))
 }
 
 // The state and the note that the one changed task has.
-fn put_in(changes: &List<Change>) -> Option<(TaskState, Note)> {
+fn put_in(changes: &Result<List<Change>, NoMemory>) -> Result<Option<(TaskState, Note)>, NoMemory> {
+    let Ok(changes) = changes else {
+        return Err(NoMemory);
+    };
     match changes.as_slice() {
-        [Change::PutTask(task)] => Some((task.state, task.note)),
-        _ => None,
+        [Change::PutTask(task)] => Ok(Some((task.state, task.note))),
+        _ => Ok(None),
     }
+}
+
+fn changes_of(
+    alloc: Global,
+    ports: List<Port>,
+    networks: List<Id>,
+    duty: Duty,
+) -> Result<List<Change>, NoMemory>
+    requires { role_of duty ≡ role.Allocator }
+{
+    let plain = world(alloc, ports, networks)?;
+    let changes = swarm_alloc::changes(alloc, &plain, 2, duty);
+    drop(plain);
+    changes
+}
+
+fn given_number(alloc: Global) -> Result<Option<u16>, NoMemory> {
+    let ports = open_port(alloc)?;
+    let changes = changes_of(alloc, ports, List::new(alloc), Duty::Port(7, 80, false));
+    let number = number_of(&changes);
+    drop(changes);
+    number
 }
 
 fn changed(
@@ -150,9 +175,10 @@ fn changed(
 ) -> Result<Option<(TaskState, Note)>, NoMemory>
     requires { role_of duty ≡ role.Allocator }
 {
-    let plain = world(alloc, List::new(alloc), networks)?;
-    let changes = swarm_alloc::changes(alloc, &plain, 2, duty)?;
-    Ok(put_in(&changes))
+    let changes = changes_of(alloc, List::new(alloc), networks, duty);
+    let put = put_in(&changes);
+    drop(changes);
+    put
 }
 
 #[test]
@@ -168,8 +194,9 @@ fn an_addressed_task_is_pending(rt: HostRuntime) -> Result<(), Fail> {
         changed(alloc, List::new(alloc), Duty::Address(1))?,
         Some((TaskState::Pending, Note::Empty))
     );
+    let networks = list_of(alloc, 9)?;
     assert_eq!(rt;
-        changed(alloc, list_of(alloc, 9)?, Duty::Note(1))?,
+        changed(alloc, networks, Duty::Note(1))?,
         Some((TaskState::New, Note::NoAddress(9)))
     );
     Ok(())

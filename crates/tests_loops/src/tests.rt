@@ -73,24 +73,30 @@ fn firsts(
     desired: Desired,
 ) -> Result<(Option<Duty>, Option<Duty>, Option<Duty>), NoMemory> {
     let plain = world(alloc, task(alloc, state, desired))?;
-    Ok((
-        swarm_upkeep::least_reaper(&plain),
-        swarm_replicated::least(&plain),
-        swarm_sched::least(&plain),
-    ))
+    let reaper = swarm_upkeep::least_reaper(&plain);
+    let replicated = swarm_replicated::least(&plain);
+    let scheduler = swarm_sched::least(&plain);
+    drop(plain);
+    Ok((reaper, replicated, scheduler))
+}
+
+fn all_others_rest(plain: &Plain) -> bool
+    requires { IsUsable (tables_of plain.now) }
+{
+    swarm_upkeep::least_enforcer(plain).is_none()
+        && swarm_restart::least(plain).is_none()
+        && swarm_update::least(plain).is_none()
+        && swarm_global::least(plain).is_none()
+        && swarm_jobs::least(plain).is_none()
+        && swarm_alloc::least(plain).is_none()
 }
 
 // Whether no other loop has anything to do.
 fn others_rest(alloc: Global, state: TaskState, desired: Desired) -> Result<bool, NoMemory> {
     let plain = world(alloc, task(alloc, state, desired))?;
-    Ok(
-        swarm_upkeep::least_enforcer(&plain).is_none()
-            && swarm_restart::least(&plain).is_none()
-            && swarm_update::least(&plain).is_none()
-            && swarm_global::least(&plain).is_none()
-            && swarm_jobs::least(&plain).is_none()
-            && swarm_alloc::least(&plain).is_none(),
-    )
+    let rest = all_others_rest(&plain);
+    drop(plain);
+    Ok(rest)
 }
 
 #[test]
@@ -108,18 +114,24 @@ fn a_task_without_its_service_goes(rt: HostRuntime) -> Result<(), Fail> {
     Ok(())
 }
 
-// How the one change of a duty reads.
-fn is_drop_of(changes: &List<Change>, id: u64) -> bool {
+// Whether the one change of a duty drops the task.
+fn is_drop_of(changes: &Result<List<Change>, NoMemory>, id: u64) -> Result<bool, NoMemory> {
+    let Ok(changes) = changes else {
+        return Err(NoMemory);
+    };
     match changes.as_slice() {
-        [Change::DropTask(task)] => *task == id,
-        _ => false,
+        [Change::DropTask(task)] => Ok(*task == id),
+        _ => Ok(false),
     }
 }
 
 fn is_deleted(alloc: Global) -> Result<bool, NoMemory> {
     let plain = world(alloc, task(alloc, TaskState::Pending, Desired::Remove))?;
-    let changes = swarm_upkeep::changes(alloc, &plain, 2, Duty::Delete(1))?;
-    Ok(is_drop_of(&changes, 1))
+    let changes = swarm_upkeep::changes(alloc, &plain, 2, Duty::Delete(1));
+    drop(plain);
+    let is_dropped = is_drop_of(&changes, 1);
+    drop(changes);
+    is_dropped
 }
 
 #[test]
