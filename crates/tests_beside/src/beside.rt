@@ -9,7 +9,7 @@ use crate::stored::has_same_rows;
 use std::alloc::Global;
 use std::marker::Model;
 use swarm_duties::Replay;
-use swarm_objects::{NoMemory, What};
+use swarm_objects::{Entry, NoMemory, What};
 use swarm_script::{LineFault, read_entry};
 use swarm_store::Store;
 use swarm_watch::Watches;
@@ -36,9 +36,10 @@ impl Model for Beside {
 
 impl Beside {
     fn new(alloc: Global) -> Result<Beside, NoMemory> {
+        let store = Store::new(alloc)?;
         Ok(Beside {
             replay: Replay::new(alloc),
-            store: Store::new(alloc)?,
+            store,
             watches: Watches::new(alloc),
             is_alike: true,
         })
@@ -78,17 +79,22 @@ impl Beside {
         }
     }
 
-    fn line(&mut self, said: &mut Said, line: &[u8]) -> Result<(), Fault> {
-        match read_entry(said.alloc, line) {
+    fn take(&mut self, said: &mut Said, read: &Result<Entry, LineFault>) -> Result<(), Fault> {
+        match read {
             Ok(entry) => {
-                let done = self.enter(said, &entry.what);
-                drop(entry);
-                done?;
+                self.enter(said, &entry.what)?;
                 self.compare_rows(said)
             }
             Err(LineFault::NoMemory) => Err(Fault::NoMemory),
             Err(_) => Err(differs(&mut said.note, b"it isn't in the grammar\n")),
         }
+    }
+
+    fn line(&mut self, said: &mut Said, line: &[u8]) -> Result<(), Fault> {
+        let read = read_entry(said.alloc, line);
+        let done = self.take(said, &read);
+        drop(read);
+        done
     }
 
     // Puts the replies to the output, and gives how many entries were alike.

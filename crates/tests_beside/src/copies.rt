@@ -41,11 +41,12 @@ fn put_task(copy: &mut Plain, task: &Task) -> Result<(), Fault>
     ensures can { OnOk result (CanApply (tables_of copy.old) (Change.PutTask task.now)) }
     ensures made { OnOk result (tables_of copy.new ≡ apply_change (tables_of copy.old) (Change.PutTask task.now)) }
 {
-    let row = task.duplicate(copy.alloc)?;
     if copy.task(task.id).is_some() {
+        let row = task.duplicate(copy.alloc)?;
         put_row(copy.alloc, &mut copy.tasks, row)?;
         Ok(())
     } else if task.id == copy.next_id && copy.next_id < u64::MAX {
+        let row = task.duplicate(copy.alloc)?;
         add(&mut copy.tasks, row)?;
         copy.next_id += 1;
         Ok(())

@@ -39,6 +39,26 @@ fn add_tasks(
     Ok(())
 }
 
+fn add_all(
+    alloc: Global,
+    changes: &mut List<Change>,
+    before: &Plain,
+    after: &Plain,
+) -> Result<(), NoMemory> {
+    add_nodes(
+        alloc,
+        changes,
+        before.nodes.as_slice(),
+        after.nodes.as_slice(),
+    )?;
+    add_tasks(
+        alloc,
+        changes,
+        before.tasks.as_slice(),
+        after.tasks.as_slice(),
+    )
+}
+
 /// The nodes and tasks that the later world has otherwise, each put.
 pub(crate) fn differences(
     alloc: Global,
@@ -46,8 +66,11 @@ pub(crate) fn differences(
     after: &Plain,
 ) -> Result<List<Change>, NoMemory> {
     let mut changes = List::new(alloc);
-    let list = &mut changes;
-    add_nodes(alloc, list, before.nodes.as_slice(), after.nodes.as_slice())?;
-    add_tasks(alloc, list, before.tasks.as_slice(), after.tasks.as_slice())?;
-    Ok(changes)
+    match add_all(alloc, &mut changes, before, after) {
+        Ok(()) => Ok(changes),
+        Err(fault) => {
+            drop(changes);
+            Err(fault)
+        }
+    }
 }

@@ -104,12 +104,12 @@ fn follow_agents(
     watches: &mut Watches,
     copy: &mut Plain,
     said: &mut Said,
-    duty: Duty,
+    what: &What,
 ) -> Result<(), Fault>
     requires { StandsFor store.old (world_of copy.old) }
     ensures { OnOk result (StandsFor store.new replay.new) }
 {
-    step(replay, said, &What::Duty(duty))?;
+    step(replay, said, what)?;
     catch_up(replay, store, watches, copy)?;
     compare_rows(copy, replay, &mut said.note)
 }
@@ -121,6 +121,7 @@ fn follow_loop(
     watches: &mut Watches,
     copy: &mut Plain,
     said: &mut Said,
+    what: &What,
     duty: Duty,
 ) -> Result<(), Fault>
     requires { StandsFor store.old (world_of copy.old) }
@@ -129,7 +130,7 @@ fn follow_loop(
     let version = next_version(replay)?;
     let changes = changes_of(said.alloc, replay, duty)?;
     apply_both(store, watches, copy, version, changes)?;
-    step(replay, said, &What::Duty(duty))?;
+    step(replay, said, what)?;
     compare_rows(copy, replay, &mut said.note)
 }
 
@@ -212,8 +213,8 @@ pub(crate) fn follow(
         }
         What::Call(call) => follow_call(replay, store, watches, copy, said, what, call),
         What::Duty(duty) if is_agents(*duty) => {
-            follow_agents(replay, store, watches, copy, said, *duty)
+            follow_agents(replay, store, watches, copy, said, what)
         }
-        What::Duty(duty) => follow_loop(replay, store, watches, copy, said, *duty),
+        What::Duty(duty) => follow_loop(replay, store, watches, copy, said, what, *duty),
     }
 }

@@ -57,8 +57,8 @@ pub(crate) fn transact(
 {
     match store.txn(version, ops) {
         Ok(ids) => {
-            watches.note(store.changes())?;
             push_reply(alloc, own, Reply::Txn(ids))?;
+            watches.note(store.changes())?;
             Ok(true)
         }
         Err(refusal) => {
@@ -79,10 +79,17 @@ pub(crate) fn apply_both(
     requires { StandsFor store.old (world_of copy.old) }
     ensures { OnOk result (StandsFor store.new (world_of copy.new)) }
 {
-    apply_all(copy, changes.as_slice())?;
-    store.apply(version, changes)?;
-    watches.note(store.changes())?;
-    Ok(())
+    match apply_all(copy, changes.as_slice()) {
+        Ok(()) => {
+            store.apply(version, changes)?;
+            watches.note(store.changes())?;
+            Ok(())
+        }
+        Err(fault) => {
+            drop(changes);
+            Err(fault)
+        }
+    }
 }
 
 /// Answers the query.

@@ -15,20 +15,44 @@ use std::process::ExitCode;
 use swarm_duties::{Replay, StepFault, settle};
 use swarm_objects::limits::LONGEST_TICK;
 use swarm_objects::{
-    Call, Draft, Mode, Ms, Name, NoMemory, NodeDraft, Op, Settle, What, add, list_of,
+    Call, Draft, List, Mode, Ms, Name, NoMemory, NodeDraft, Op, Settle, What, add,
 };
+use swarm_plain::Plain;
 
 /// The most entries that the world may take to settle.
 const MOST: u64 = 1_000;
 
-// A node joins, and a service of two tasks is created.
-fn opening(alloc: Global) -> Result<What, NoMemory> {
-    let node = Op::CreateNode(Name::new(alloc, "n1")?, NodeDraft::usual(alloc)?);
+// A node joins.
+fn add_node(alloc: Global, ops: &mut List<Op>) -> Result<(), NoMemory> {
+    let name = Name::new(alloc, "n1")?;
+    match NodeDraft::usual(alloc) {
+        Ok(draft) => add(ops, Op::CreateNode(name, draft)),
+        Err(fault) => Err(fault),
+    }
+}
+
+// A service of two tasks is created.
+fn add_service(alloc: Global, ops: &mut List<Op>) -> Result<(), NoMemory> {
+    let name = Name::new(alloc, "web")?;
     let mut draft = Draft::usual(alloc);
     draft.spec.mode = Mode::Replicated(2);
-    let mut ops = list_of(alloc, node)?;
-    add(&mut ops, Op::CreateService(Name::new(alloc, "web")?, draft))?;
-    Ok(What::Call(Call::Txn(ops)))
+    add(ops, Op::CreateService(name, draft))
+}
+
+fn add_both(alloc: Global, ops: &mut List<Op>) -> Result<(), NoMemory> {
+    add_node(alloc, ops)?;
+    add_service(alloc, ops)
+}
+
+fn opening(alloc: Global) -> Result<What, NoMemory> {
+    let mut ops = List::new(alloc);
+    match add_both(alloc, &mut ops) {
+        Ok(()) => Ok(What::Call(Call::Txn(ops))),
+        Err(fault) => {
+            drop(ops);
+            Err(fault)
+        }
+    }
 }
 
 // The duty that is due, or the time till what is waited for. Nothing where neither would go on.
@@ -53,6 +77,18 @@ fn settled(replay: &Replay) -> Result<Settle, StepFault>
     }
 }
 
+// Does the entry, whose reply nobody asks for. Both are dropped by name, at the one way out.
+fn step(replay: &mut Replay, what: What) -> Result<(), StepFault> {
+    let stepped = replay.step(&what);
+    drop(what);
+    let done = match &stepped {
+        Ok(_) => Ok(()),
+        Err(fault) => Err(*fault),
+    };
+    drop(stepped);
+    done
+}
+
 /// Goes on until nothing is due or waited for, by at most so many entries. Says how the world stands then; where that
 /// is `Settled`, what runs is what the specifications ask for.
 fn run_until_settled(replay: &mut Replay, most: u64) -> Result<Settle, StepFault>
@@ -63,7 +99,7 @@ fn run_until_settled(replay: &mut Replay, most: u64) -> Result<Settle, StepFault
         let Some(what) = next_entry(answer, replay.plain().clock) else {
             return Ok(answer);
         };
-        replay.step(&what)?;
+        step(replay, what)?;
     }
     settled(replay)
 }
@@ -75,23 +111,29 @@ fn run(alloc: Global, replay: &mut Replay) -> Result<Settle, StepFault>
     let Ok(what) = opening(alloc) else {
         return Err(StepFault::NoMemory);
     };
-    replay.step(&what)?;
+    step(replay, what)?;
     run_until_settled(replay, MOST)
 }
 
-fn main(rt: HostRuntime) -> ExitCode {
-    let mut replay = Replay::new(rt.alloc());
-    let Ok(answer) = run(rt.alloc(), &mut replay) else {
-        return ExitCode::FAILURE;
-    };
-    let world = replay.plain();
+// Prints how the world stands.
+fn tell(rt: &impl Print, plain: &Plain, answer: Settle) -> ExitCode {
     let told = match answer {
         Settle::Settled => "settled",
         _ => "not settled",
     };
-    let (entries, clock, tasks) = (world.entries, world.clock, world.tasks.len());
+    let (entries, clock, tasks) = (plain.entries, plain.clock, plain.tasks.len());
     match println!(rt; "{told} after {entries} entries at {clock} ms, with {tasks} tasks") {
         Ok(()) => ExitCode::SUCCESS,
         Err(_) => ExitCode::FAILURE,
     }
+}
+
+fn main(rt: HostRuntime) -> ExitCode {
+    let mut replay = Replay::new(rt.alloc());
+    let code = match run(rt.alloc(), &mut replay) {
+        Ok(answer) => tell(&rt, replay.plain(), answer),
+        Err(_) => ExitCode::FAILURE,
+    };
+    drop(replay);
+    code
 }

@@ -8,11 +8,11 @@ use Rattle.swarm_store.specs.Stored.{without_sessions}
 pub apply-requires : goal.apply-requires
 apply-requires c =
     let t = tables_of c.args.copy.now in
-    let can = subst (CanApplyAll t) c.as_slice.ensures c.in_ok-apply_all.ensures.can in
+    let can = subst (CanApplyAll t) c.as_slice.ensures c.in-Ok.ensures.can in
     subst (λ u. CanApplyAll u c.args.changes) (sym c.requires) (can_bare c.args.changes t can)
 
-pub returns : goal.returns
-returns c =
+pub returns-in_ok-note-in-Ok : goal.returns-in_ok-note-in-Ok
+returns-in_ok-note-in-Ok c =
     let t = tables_of c.args.copy.now in
-    let made = c.in_ok-apply_all.ensures.made ∙ ap (apply_changes t) c.as_slice.ensures in
-    (c.in_ok-apply.ensures.applied (world_of c.args.copy.now) c.requires).0 ∙ ap without_sessions (sym made)
+    let made = c.in-Ok.ensures.made ∙ ap (apply_changes t) c.as_slice.ensures in
+    (c.in_ok-apply-in-Ok.ensures.applied (world_of c.args.copy.now) c.requires).0 ∙ ap without_sessions (sym made)
