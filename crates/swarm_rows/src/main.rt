@@ -40,6 +40,7 @@
 mod comparisons;
 mod constraints;
 mod heads;
+mod lines;
 mod rows;
 mod runs;
 mod scripts;
@@ -48,7 +49,7 @@ mod texts;
 mod told;
 mod walks;
 
-use crate::rows::tell_rows;
+use crate::rows::{Shown, tell_rows};
 use crate::told::Told;
 use std::process::ExitCode;
 use std::rt::Files;
@@ -101,27 +102,50 @@ const UNWRITTEN: u8 = 4;
 
 const NO_MEMORY: u8 = 5;
 
-// Runs the rows of all files. One that is missing, or isn't UTF-8, is told.
+// Runs the rows of the file. One that is missing, or isn't UTF-8, is told.
+fn tell_file<R: Threads + Wait + Sync + AllocGlobal + Files>(
+    rt: &R,
+    told: &mut Told,
+    shown: &mut Shown,
+    name: &str,
+) -> Result<(), NoMemory> {
+    let read = fs::read_to_string(rt, name);
+    let done = match &read {
+        Ok(text) => tell_rows(rt, told, shown, text.as_str()),
+        Err(_) => told.add_missing(name),
+    };
+    drop(read);
+    done
+}
+
+// Runs the rows of all files.
 fn tell_files<R: Threads + Wait + Sync + AllocGlobal + Files>(
     rt: &R,
     told: &mut Told,
+    shown: &mut Shown,
 ) -> Result<(), NoMemory> {
     for name in FILES {
-        match fs::read_to_string(rt, name) {
-            Ok(text) => tell_rows(rt, told, text.as_str())?,
-            Err(_) => told.add_missing(name)?,
-        }
+        tell_file(rt, told, shown, name)?;
     }
     told.end()
 }
 
-fn main(rt: HostRuntime) -> ExitCode {
-    let mut told = Told::new(rt.alloc());
-    if tell_files(&rt, &mut told).is_err() {
-        return ExitCode::from(NO_MEMORY);
-    }
-    match StdSink::new(io::writer(&rt)).put(told.text()) {
+fn put_told(rt: &HostRuntime, told: &Told) -> ExitCode {
+    match StdSink::new(io::writer(rt)).put(told.text()) {
         Ok(()) => ExitCode::SUCCESS,
         Err(_) => ExitCode::from(UNWRITTEN),
     }
+}
+
+fn main(rt: HostRuntime) -> ExitCode {
+    let mut told = Told::new(rt.alloc());
+    let mut shown = Shown::new(rt.alloc());
+    let done = tell_files(&rt, &mut told, &mut shown);
+    drop(shown);
+    let status = match done {
+        Ok(()) => put_told(&rt, &told),
+        Err(NoMemory) => ExitCode::from(NO_MEMORY),
+    };
+    drop(told);
+    status
 }

@@ -1,38 +1,63 @@
 // The rows of a file, one after the other.
-use crate::constraints::push_constraints;
+use crate::constraints::push_constraint;
 use crate::heads::{Head, Kind};
+use crate::lines::is_newline;
 use crate::runs::push_run;
-use crate::scripts::push_line;
-use crate::texts::{push_again, push_entries, push_lines};
+use crate::scripts::push_script;
+use crate::texts::{push_again, push_line};
 use crate::told::Told;
 use std::alloc::Global;
 use std::sync::Wait;
 use std::thread::Threads;
 use swarm_objects::NoMemory;
 
-// The script, from its lines behind the head.
-fn script_of(alloc: Global, asked: &str) -> Result<Vec<u8>, NoMemory> {
-    let mut script = Vec::new(alloc);
-    for line in asked.split('\n').skip(1) {
-        push_line(alloc, &mut script, line)?;
+// The script of a row, and what is seen of it. One stands for all rows, since its memory serves the next row too.
+#[derive(Drop)]
+pub(crate) struct Shown {
+    script: Vec<u8>,
+    seen: Vec<u8>,
+}
+
+impl Shown {
+    pub(crate) fn new(alloc: Global) -> Shown {
+        Shown {
+            script: Vec::new(alloc),
+            seen: Vec::new(alloc),
+        }
     }
-    Ok(script)
+}
+
+// What a line alone is seen as.
+fn push_one(alloc: Global, seen: &mut Vec<u8>, kind: Kind, line: &[u8]) -> Result<(), NoMemory> {
+    let text = line.strip_suffix(b"\n").unwrap_or(line);
+    match kind {
+        Kind::Lines => push_line(alloc, seen, text),
+        Kind::Constraints => push_constraint(alloc, seen, text),
+        _ => push_again(alloc, seen, line),
+    }
+}
+
+// What each line is seen as.
+fn push_each(alloc: Global, seen: &mut Vec<u8>, kind: Kind, script: &[u8]) -> Result<(), NoMemory> {
+    for line in script.split_inclusive(is_newline) {
+        push_one(alloc, seen, kind, line)?;
+    }
+    Ok(())
 }
 
 // What is seen of a row, as far as it says what is to be seen.
 fn push_seen<R: Threads + Wait + Sync + AllocGlobal>(
     rt: &R,
-    seen: &mut Vec<u8>,
+    shown: &mut Shown,
     head: &Head<'_>,
-    script: &[u8],
     wanted: &str,
 ) -> Result<(), NoMemory> {
+    let script = shown.script.as_slice();
+    let seen = &mut shown.seen;
     match head.kind {
         Kind::Run => push_run(rt, seen, head, script, wanted),
-        Kind::Lines => push_lines(rt.alloc(), seen, script),
-        Kind::Entries => push_entries(rt.alloc(), seen, script),
         Kind::Entry => push_again(rt.alloc(), seen, script),
-        Kind::Constraints => push_constraints(rt.alloc(), seen, script),
+        kind => push_each(rt.alloc(), seen, kind, script),
     }
 }
 
@@ -51,6 +76,7 @@ fn is_as_wanted(seen: &[u8], wanted: &str) -> bool {
 fn tell_row<R: Threads + Wait + Sync + AllocGlobal>(
     rt: &R,
     told: &mut Told,
+    shown: &mut Shown,
     row: &str,
 ) -> Result<(), NoMemory> {
     let Some((asked, wanted)) = row.split_once("\n-\n") else {
@@ -60,14 +86,15 @@ fn tell_row<R: Threads + Wait + Sync + AllocGlobal>(
     let Some(head) = Head::read(line) else {
         return told.add_other(line, b"no head\n");
     };
-    let script = script_of(rt.alloc(), asked)?;
-    let mut seen = Vec::new(rt.alloc());
-    push_seen(rt, &mut seen, &head, script.as_slice(), wanted)?;
-    if is_as_wanted(seen.as_slice(), wanted) {
+    shown.script.clear();
+    shown.seen.clear();
+    push_script(&mut shown.script, asked)?;
+    push_seen(rt, shown, &head, wanted)?;
+    if is_as_wanted(shown.seen.as_slice(), wanted) {
         told.add_row();
         Ok(())
     } else {
-        told.add_other(line, seen.as_slice())
+        told.add_other(line, shown.seen.as_slice())
     }
 }
 
@@ -75,12 +102,13 @@ fn tell_row<R: Threads + Wait + Sync + AllocGlobal>(
 pub(crate) fn tell_rows<R: Threads + Wait + Sync + AllocGlobal>(
     rt: &R,
     told: &mut Told,
+    shown: &mut Shown,
     file: &str,
 ) -> Result<(), NoMemory> {
     let file = file.strip_suffix('\n').unwrap_or(file);
     for row in file.split("\n= ") {
         if !row.starts_with("//") {
-            tell_row(rt, told, row)?;
+            tell_row(rt, told, shown, row)?;
         }
     }
     Ok(())

@@ -1,5 +1,5 @@
 // The bytes of a script, from its lines in a row.
-use std::alloc::Global;
+use itoa::Buffer;
 use swarm_objects::NoMemory;
 
 // The byte that a letter behind a backslash stands for.
@@ -34,9 +34,9 @@ fn push_text(script: &mut Vec<u8>, text: &str, digits: &[u8]) -> Result<(), NoMe
 }
 
 // The line so many times, with the numbers from 1.
-fn push_times(alloc: Global, script: &mut Vec<u8>, times: u32, text: &str) -> Result<(), NoMemory> {
+fn push_times(script: &mut Vec<u8>, times: u32, text: &str) -> Result<(), NoMemory> {
     for number in 1..=times {
-        push_text(script, text, number.to_string(alloc)?.as_bytes())?;
+        push_text(script, text, Buffer::new().format(number).as_bytes())?;
     }
     Ok(())
 }
@@ -48,12 +48,20 @@ fn repeated(line: &str) -> Option<(u32, &str)> {
 }
 
 // Adds what the line of the row stands for.
-pub(crate) fn push_line(alloc: Global, script: &mut Vec<u8>, line: &str) -> Result<(), NoMemory> {
+fn push_line(script: &mut Vec<u8>, line: &str) -> Result<(), NoMemory> {
     if line.starts_with("//") {
         return Ok(());
     }
     match repeated(line) {
-        Some((times, text)) => push_times(alloc, script, times, text),
+        Some((times, text)) => push_times(script, times, text),
         None => push_text(script, line, b"@"),
     }
+}
+
+// Adds the script, from its lines behind the head.
+pub(crate) fn push_script(script: &mut Vec<u8>, asked: &str) -> Result<(), NoMemory> {
+    for line in asked.split('\n').skip(1) {
+        push_line(script, line)?;
+    }
+    Ok(())
 }

@@ -1,11 +1,11 @@
 // What is told of the rows.
+use crate::lines::push_digits;
 use std::alloc::Global;
 use swarm_objects::NoMemory;
 
 // How many rows there were and how many of them differ, and the text of the output.
 #[derive(Drop)]
 pub(crate) struct Told {
-    alloc: Global,
     rows: u64,
     others: u64,
     text: Vec<u8>,
@@ -14,7 +14,6 @@ pub(crate) struct Told {
 impl Told {
     pub(crate) fn new(alloc: Global) -> Told {
         Told {
-            alloc,
             rows: 0,
             others: 0,
             text: Vec::new(alloc),
@@ -46,14 +45,10 @@ impl Told {
         Ok(self.text.extend_from_slice(seen)?)
     }
 
-    fn push_count(&mut self, count: u64, words: &[u8]) -> Result<(), NoMemory> {
-        let digits = count.to_string(self.alloc)?;
-        self.text.extend_from_slice(digits.as_bytes())?;
-        Ok(self.text.extend_from_slice(words)?)
-    }
-
     pub(crate) fn end(&mut self) -> Result<(), NoMemory> {
-        self.push_count(self.rows, b" rows, ")?;
-        self.push_count(self.others, b" other than expected\n")
+        push_digits(&mut self.text, self.rows)?;
+        self.text.extend_from_slice(b" rows, ")?;
+        push_digits(&mut self.text, self.others)?;
+        Ok(self.text.extend_from_slice(b" other than expected\n")?)
     }
 }

@@ -6,27 +6,35 @@ use swarm_check::check_service;
 use swarm_objects::{Call, Draft, List, NoMemory, Port, Query, Refusal, Reply, add};
 use swarm_plain::Plain;
 
-// What a transaction of no operation is answered in the empty world: how many ids, and how many entries there are then.
-fn empty_txn(alloc: Global) -> (Option<usize>, u64) {
-    let mut plain = Plain::new(alloc);
-    match plain.call(&Call::Txn(List::new(alloc))) {
-        Reply::Txn(ids) => (Some(ids.len()), plain.entries),
-        _ => (None, plain.entries),
+// How many ids the reply has, or whether it is that of a halt.
+fn shown(reply: &Reply) -> (Option<usize>, bool) {
+    match reply {
+        Reply::Txn(ids) => (Some(ids.len()), false),
+        Reply::HaltDone => (None, true),
+        _ => (None, false),
     }
 }
 
-// Whether the empty world halts, and how many entries there are then.
-fn halt(alloc: Global) -> (bool, u64) {
+// What a transaction of no operation, or a halt, is answered in the empty world, and how many entries there are then.
+fn asked(alloc: Global, halts: bool) -> ((Option<usize>, bool), u64) {
     let mut plain = Plain::new(alloc);
-    let is_done = matches!(plain.call(&Call::Halt), Reply::HaltDone);
-    (is_done, plain.entries)
+    let reply = if halts {
+        plain.call(&Call::Halt)
+    } else {
+        plain.call(&Call::Txn(List::new(alloc)))
+    };
+    let entries = plain.entries;
+    drop(plain);
+    let shown = shown(&reply);
+    drop(reply);
+    (shown, entries)
 }
 
 #[test]
 fn calls_that_no_line_is(rt: HostRuntime) {
     let alloc = rt.alloc();
-    assert_eq!(rt; empty_txn(alloc), (Some(0), 1));
-    assert_eq!(rt; halt(alloc), (true, 1));
+    assert_eq!(rt; asked(alloc, false), ((Some(0), false), 1));
+    assert_eq!(rt; asked(alloc, true), ((None, true), 1));
 }
 
 // Why a call becomes no entry.
@@ -37,11 +45,12 @@ enum Told {
     Other,
 }
 
-fn told_of(refusal: &Refusal) -> Told {
-    match refusal {
-        Refusal::Halted => Told::Halted,
-        Refusal::Full(entries) => Told::Full(*entries),
-        _ => Told::Other,
+fn told_of(refused: &Option<Refusal>) -> Option<Told> {
+    match refused {
+        Some(Refusal::Halted) => Some(Told::Halted),
+        Some(Refusal::Full(entries)) => Some(Told::Full(*entries)),
+        Some(_) => Some(Told::Other),
+        None => None,
     }
 }
 
@@ -50,39 +59,64 @@ fn refusal(alloc: Global, entries: u64, halted: bool, call: &Call) -> Option<Tol
     let mut plain = Plain::new(alloc);
     plain.entries = entries;
     plain.halted = halted;
-    plain.refuses(call).map(|refusal| told_of(&refusal))
+    let refused = plain.refuses(call);
+    drop(plain);
+    let told = told_of(&refused);
+    drop(refused);
+    told
+}
+
+fn list_refusal(alloc: Global, entries: u64, halted: bool) -> Option<Told> {
+    let list = Call::View(Query::ListNodes);
+    let told = refusal(alloc, entries, halted, &list);
+    drop(list);
+    told
+}
+
+fn halt_refusal(alloc: Global, entries: u64, halted: bool) -> Option<Told> {
+    let halt = Call::Halt;
+    let told = refusal(alloc, entries, halted, &halt);
+    drop(halt);
+    told
 }
 
 #[test]
 fn no_entries(rt: HostRuntime) {
     let alloc = rt.alloc();
-    let list = Call::View(Query::ListNodes);
-    assert_eq!(rt; refusal(alloc, 0, false, &list), None);
-    assert_eq!(rt; refusal(alloc, 299_999, false, &list), None);
-    assert_eq!(rt;
-        refusal(alloc, 300_000, false, &list),
-        Some(Told::Full(300_000))
-    );
-    assert_eq!(rt; refusal(alloc, 300_000, false, &Call::Halt), None);
-    assert_eq!(rt;
-        refusal(alloc, 300_001, true, &Call::Halt),
-        Some(Told::Halted)
-    );
-    assert_eq!(rt; refusal(alloc, 1, true, &list), Some(Told::Halted));
-    assert_eq!(rt; refusal(alloc, 300_001, true, &list), Some(Told::Halted));
+    let full = Some(Told::Full(300_000));
+    assert_eq!(rt; list_refusal(alloc, 0, false), None);
+    assert_eq!(rt; list_refusal(alloc, 299_999, false), None);
+    assert_eq!(rt; list_refusal(alloc, 300_000, false), full);
+    assert_eq!(rt; halt_refusal(alloc, 300_000, false), None);
 }
 
-// Whether a service may have the same host port twice, where it has no number. In a line each host port has one.
-fn may_stay_open(alloc: Global) -> Result<bool, NoMemory> {
+#[test]
+fn no_entries_once_it_has_halted(rt: HostRuntime) {
+    let alloc = rt.alloc();
+    let halted = Some(Told::Halted);
+    assert_eq!(rt; halt_refusal(alloc, 300_001, true), halted);
+    assert_eq!(rt; list_refusal(alloc, 1, true), halted);
+    assert_eq!(rt; list_refusal(alloc, 300_001, true), halted);
+}
+
+fn add_open(ports: &mut List<Port>) -> Result<(), NoMemory> {
     let port = Port {
         target: 80,
         number: None,
         udp: false,
     };
+    add(ports, port)?;
+    add(ports, port)
+}
+
+// Whether a service may have the same host port twice, where it has no number. In a line each host port has one.
+fn may_stay_open(alloc: Global) -> Result<bool, NoMemory> {
     let mut draft = Draft::usual(alloc);
-    add(&mut draft.spec.template.host_ports, port)?;
-    add(&mut draft.spec.template.host_ports, port)?;
-    Ok(check_service(&draft).is_ok())
+    let added = add_open(&mut draft.spec.template.host_ports);
+    let checked = check_service(&draft);
+    drop(draft);
+    added?;
+    Ok(checked.is_ok())
 }
 
 #[test]
