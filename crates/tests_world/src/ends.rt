@@ -47,10 +47,8 @@ fn fill(world: &mut World) -> bool {
 }
 
 fn is_full(world: &mut World) -> bool {
-    matches!(
-        answer(world, 7, Call::Tick(1)),
-        Outcome::Full(MOST_ENTRIES)
-    ) && world.turn(7, Role::Agents) == Turn::Full(MOST_ENTRIES)
+    matches!(answer(world, 7, Call::Tick(1)), Outcome::Full(MOST_ENTRIES))
+        && world.turn(7, Role::Agents) == Turn::Full(MOST_ENTRIES)
 }
 
 // Halt has room, and nothing follows it.
