@@ -25,8 +25,9 @@ use Rattle.swarm_objects.specs.Tasks.Words.{is_live, is_of, is_placed}
 use Rattle.swarm_objects.specs.World.{Tables}
 use Rattle.swarm_objects.specs.declared.nodes.Node.{Node}
 use Rattle.swarm_objects.specs.declared.tasks.Task.{Task}
+use Rattle.swarm_objects.specs.declared.templates.Key.TheVariants as key
 use Rattle.swarm_objects.specs.declared.templates.Key.{Key}
-use Rattle.swarm_sched.specs.Inside.Branches.{AreKnown, IsLoad, Preferences, is_of_branch, load_at}
+use Rattle.swarm_sched.specs.Inside.Branches.{AreKnown, HasText, IsKnown, IsLoad, IsToldByText, Preferences, is_of_branch, load_at}
 use Rattle.swarm_sched.specs.declared.branches.Known.{Known}
 
 -- Task by task.
@@ -150,28 +151,52 @@ has-set (y ∷ xs) zero v x (inr h) = inl (inr h)
 has-set (y ∷ xs) (suc i) v x (inl e) = inl (inl e)
 has-set (y ∷ xs) (suc i) v x (inr h) = elim (has-set xs i v x h) [ inl old ↦ inl (inr old) | inr new ↦ inr new ]
 
-pub known-more : (p : Preferences) (all : List (Option Known)) (i : ℕ) (k : Known) → AreKnown p all → IsLoad p k →
+pub known-more : (p : Preferences) (all : List (Option Known)) (i : ℕ) (k : Known) → AreKnown p all → IsKnown p k →
     AreKnown p (set all i (Some k))
 known-more p all i k known is = record { each = λ o h. one o (has-set all i (Some k) o h) }
   where
-    one : (o : Option Known) → Has all o ⊎ (Some k ≡ o) → IfSome o (IsLoad p)
+    one : (o : Option Known) → Has all o ⊎ (Some k ≡ o) → IfSome o (IsKnown p)
     one o (inl old) = known.each o old
     one None (inr new) = absurd cc
-    one (Some j) (inr new) = let same : k ≡ j = cc in subst (IsLoad p) same is
+    one (Some j) (inr new) = let same : k ≡ j = cc in subst (IsKnown p) same is
 
 at_place : {X : Type 0} (xs : List X) (i : ℕ) (d : X) → i < length xs → Has xs (get_or xs i d)
 at_place [] i d lt = absurd (omega arith)
 at_place (x ∷ xs) zero d lt = inl refl
 at_place (x ∷ xs) (suc i) d lt = inr (at_place xs i d (omega arith))
 
-pub remembered_is : (p : Preferences) (all : List (Option Known)) (i depth : ℕ) (o : Option Known) (k : Known) (n : Node) →
-    AreKnown p all → i < length all → o ≡ slice_index_or all i o → o ≡ Some k → k.depth ≡ depth →
+pub known_at : (p : Preferences) (all : List (Option Known)) (i : ℕ) (o : Option Known) (k : Known) → AreKnown p all →
+    i < length all → o ≡ slice_index_or all i o → o ≡ Some k → IsKnown p k
+known_at p all i o k known lt is some =
+    subst (λ o. IfSome o (IsKnown p)) some (known.each o (subst (Has all) (sym is) (at_place all i o lt)))
+
+pub remembered_is : (p : Preferences) (depth : ℕ) (k : Known) (n : Node) → IsKnown p k → k.depth ≡ depth →
     agrees (take depth p.keys) k.node.now n ≡ true → k.load ≡ load_at p depth n
-remembered_is p all i depth o k n known lt is some deep alike =
-    let load : k.load ≡ load_at p k.depth k.node.now =
-    subst (λ o. IfSome o (IsLoad p)) some (known.each o (subst (Has all) (sym is) (at_place all i o lt))) in
-    load ∙ ap (λ d. load_at p d k.node.now) deep
+remembered_is p depth k n is deep alike =
+    is.load ∙ ap (λ d. load_at p d k.node.now) deep
     ∙ branch-alike p.tables p.service (take depth p.keys) k.node.now n alike
+
+-- Branches that are told by a text.
+
+pub told_by : (keys : List Key) (k : Key) → keys ≡ k ∷ [] → (k ≡ key.NodeId → ⊥) → IsToldByText keys
+told_by keys k alone other = record { one = k; alone = alone; other = other }
+
+pub text_has : (keys : List Key) (k : Key) (n : Node) (text : List ℕ) → keys ≡ k ∷ [] → (k ≡ key.NodeId) ⊎ (text ≡ key_value n k) →
+    HasText keys n text
+text_has keys k n text alone is j e =
+    let both : k ∷ [] ≡ j ∷ [] = sym alone ∙ e in
+    let same : k ≡ j = cc in
+    subst (λ i. (i ≡ key.NodeId) ⊎ (text ≡ key_value n i)) same is
+
+pub texts_agree : (keys : List Key) (a b : Node) (one two : List ℕ) → IsToldByText keys → HasText keys a one →
+    HasText keys b two → one ≡ two → agrees keys a b ≡ true
+texts_agree keys a b one two told first second same =
+    ap (λ ks. agrees ks a b) told.alone
+    ∙ ap (λ c. c && true) ((bytes_eq-Decides (key_value b told.one) (key_value a told.one)).1 (sym (value b two (second told.one told.alone)) ∙ sym same ∙ value a one (first told.one told.alone)))
+  where
+    value : (n : Node) (text : List ℕ) → (told.one ≡ key.NodeId) ⊎ (text ≡ key_value n told.one) → text ≡ key_value n told.one
+    value n text (inl id) = absurd (told.other id)
+    value n text (inr is) = is
 
 -- Nodes of one branch.
 

@@ -1,3 +1,5 @@
 mod Branching
+mod Knowing
+mod Preferring
 mod Scheduling
 mod Totalling

@@ -1,3 +1,4 @@
 -- Words of private contracts.
 pub mod Branches
+pub mod Known
 pub mod Totals

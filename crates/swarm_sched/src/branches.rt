@@ -1,13 +1,13 @@
 // Which of two nodes comes first by the placement preferences.
-ghost use Rattle.std.specs.Prelude.{◌≡◌, ◌≤◌, IfSome, [], length};
+ghost use Rattle.std.specs.Prelude.{◌≡◌, ◌≤◌, IfSome, IsTrue, [], length, true};
 ghost use Rattle.std.specs.Cmp.Lexicographic.{slice_cmp};
 ghost use Rattle.std.specs.Ordering.{nat_cmp, ordering_then};
-ghost use Rattle.swarm_objects.specs.Nodes.BestNode.{branch_load, spread_cmp};
+ghost use Rattle.swarm_objects.specs.Nodes.BestNode.{agrees, branch_load, spread_cmp};
 ghost use Rattle.swarm_objects.specs.Nodes.Constraints.{key_value};
 ghost use Rattle.swarm_objects.specs.Usable.{IsUsable};
-ghost use Rattle.swarm_sched.specs.Inside.Branches.{is_of_branch, load_at};
+ghost use Rattle.swarm_sched.specs.Inside.Branches.{HasText, IsToldByText, is_of_branch, load_at};
 
-use crate::keys::{agrees, value_cmp};
+use crate::keys::{agrees, text_of, value_cmp};
 use std::cmp::Ordering;
 use std::marker::Model;
 use swarm_objects::walks::tasks_of;
@@ -21,6 +21,8 @@ const WIDTH: usize = 16;
 struct Known<'a> {
     depth: usize,
     node: &'a Node,
+    // its text for the last of them
+    text: &'a str,
     load: u64,
 }
 
@@ -82,6 +84,35 @@ fn branch_load<R: Rows>(rows: &R, service: Id, keys: &[Key], node: &Node) -> u64
     count
 }
 
+// The node's text for the last of the keys.
+fn last_text<'a>(keys: &[Key], node: &'a Node) -> &'a str
+    ensures { HasText keys.now node.now result.now }
+{
+    match keys.last() {
+        Some(key) => text_of(node, key),
+        None => "",
+    }
+}
+
+// The text tells the branch: there is no other key, and this one isn't the node's id.
+fn is_told_by_text(keys: &[Key]) -> bool
+    ensures { IsTrue result → IsToldByText keys.now }
+{
+    match keys.first() {
+        Some(Key::NodeId) | None => false,
+        Some(_) => keys.len() == 1,
+    }
+}
+
+// The nodes, which have these texts for the last of the keys, are of one branch. Most that aren't are told by their texts.
+fn is_one(keys: &[Key], node: &Node, text: &str, other: &Node, other_text: &str) -> bool
+    requires own { HasText keys.now node.now text.now }
+    requires other { HasText keys.now other.now other_text.now }
+    ensures { IsTrue result → agrees keys.now node.now other.now ≡ true }
+{
+    text == other_text && (is_told_by_text(keys) || agrees(keys, node, other))
+}
+
 impl<'a, R: Rows> Branches<'a, R> {
     /// Those of the service by these preferences.
     pub fn new(rows: &'a R, service: Id, keys: &'a [Key]) -> Branches<'a, R>
@@ -103,9 +134,10 @@ impl<'a, R: Rows> Branches<'a, R> {
         ensures { IfSome result (λ load. load ≡ load_at self.now depth node.now) }
     {
         let keys = &self.keys[..depth];
+        let text = last_text(keys, node);
         for known in &self.known[..] {
             if let Some(known) = known {
-                if known.depth == depth && agrees(keys, known.node, node) {
+                if known.depth == depth && is_one(keys, known.node, known.text, node, text) {
                     return Some(known.load);
                 }
             }
@@ -119,10 +151,17 @@ impl<'a, R: Rows> Branches<'a, R> {
         ensures load { result ≡ load_at self.old depth node.now }
         ensures same { self.new ≡ self.old }
     {
-        let load = branch_load(self.rows, self.service, &self.keys[..depth], node);
+        let keys = &self.keys[..depth];
+        let load = branch_load(self.rows, self.service, keys, node);
+        let text = last_text(keys, node);
         let next = self.next;
         let all = &mut self.known[..];
-        all[next] = Some(Known { depth, node, load });
+        all[next] = Some(Known {
+            depth,
+            node,
+            text,
+            load,
+        });
         self.next = (next + 1) % WIDTH;
         load
     }
@@ -139,25 +178,20 @@ impl<'a, R: Rows> Branches<'a, R> {
         }
     }
 
-    // By the last preference of those that were looked at: the load of the branch, and then the branch's value. Nodes of one
-    // branch needn't be counted.
-    fn branch_cmp(&mut self, depth: usize, last: &Key, a: &'a Node, b: &'a Node) -> Ordering
+    // Which of two nodes' branches by so many preferences has fewer tasks.
+    fn branch_cmp(&mut self, depth: usize, a: &'a Node, b: &'a Node) -> Ordering
         requires { depth ≤ length self.old.keys }
-        ensures order { let load = load_at self.old depth in
-            result ≡ ordering_then (nat_cmp (load a.now) (load b.now))
-            (slice_cmp nat_cmp (key_value a.now last.now) (key_value b.now last.now)) }
+        ensures order { let load = load_at self.old depth in result ≡ nat_cmp (load a.now) (load b.now) }
         ensures same { self.new ≡ self.old }
     {
-        let value = value_cmp(last, a, b);
-        if agrees(&self.keys[..depth], a, b) {
-            return value;
-        }
         let one = self.load(depth, a);
         let other = self.load(depth, b);
-        one.cmp(&other).then(value)
+        one.cmp(&other)
     }
 
-    /// Which of two nodes comes first by each preference in turn.
+    /// Which of two nodes comes first by each preference in turn: the first for which they have different values decides it, by
+    /// the tasks in their branches and then by the values.
+    #[tactic(auto, using(crate::proofs::Preferring::order_steps))]
     pub fn spread_cmp(&mut self, a: &'a Node, b: &'a Node) -> Ordering
         ensures order { let p = self.old in
             result ≡ spread_cmp p.tables p.service [] p.keys a.now b.now }
@@ -165,9 +199,9 @@ impl<'a, R: Rows> Branches<'a, R> {
     {
         let keys = self.keys;
         for place in 0..keys.len() {
-            let order = self.branch_cmp(place + 1, &keys[place], a, b);
-            if order != Ordering::Equal {
-                return order;
+            let value = value_cmp(&keys[place], a, b);
+            if value != Ordering::Equal {
+                return self.branch_cmp(place + 1, a, b).then(value);
             }
         }
         Ordering::Equal

@@ -5,6 +5,7 @@ mod branches;
 mod changing;
 mod filters;
 mod keys;
+mod known;
 mod placing;
 mod totals;
 
@@ -12,10 +13,12 @@ ghost use Rattle.std.specs.Prelude.{◌≡◌, None};
 ghost use Rattle.swarm_objects.specs.Loops.Scheduler.{is_to_drop, is_to_place, placing, schedule, scheduler};
 ghost use Rattle.swarm_objects.specs.Rows.{first_of};
 ghost use Rattle.swarm_objects.specs.Usable.{IsUsable};
+ghost use Rattle.swarm_sched.specs.Inside.Known.{Knows};
 
 pub use changing::changes;
 pub use filters::Filters;
 pub use keys::{agrees, value_cmp};
+pub use known::KnownTotals;
 pub use placing::{best_node, best_node_by};
 use swarm_filters::counts;
 use swarm_objects::walks::tasks;
@@ -48,9 +51,11 @@ fn explanation<R: Rows>(rows: &R, task: &Task) -> Option<Duty>
 }
 
 /// What there is to do about the task.
-pub fn schedule<R: Rows>(rows: &R, task: &Task) -> Option<Duty>
-    requires { IsUsable (R.tables rows.now) }
-    ensures { result ≡ first_of (schedule (R.tables rows.now) task.now) }
+pub fn schedule<R: Rows>(rows: &R, known: &mut KnownTotals, task: &Task) -> Option<Duty>
+    requires usable { IsUsable (R.tables rows.now) }
+    requires knows { Knows (R.tables rows.now) known.old }
+    ensures first { result ≡ first_of (schedule (R.tables rows.now) task.now) }
+    ensures knows { Knows (R.tables rows.now) known.new }
 {
     if is_to_drop(task) {
         return Some(Duty::Drop(task.id));
@@ -58,7 +63,7 @@ pub fn schedule<R: Rows>(rows: &R, task: &Task) -> Option<Duty>
     if !is_to_place(task) {
         return None;
     }
-    match best_node(rows, task) {
+    match best_node(rows, known, task) {
         Some(node) => Some(Duty::Place(task.id, node.id)),
         None => explanation(rows, task),
     }
@@ -69,8 +74,9 @@ pub fn least<R: Rows>(rows: &R) -> Option<Duty>
     requires { IsUsable (R.tables rows.now) }
     ensures { result ≡ first_of (scheduler (R.tables rows.now)) }
 {
+    let mut known = KnownTotals::none();
     for task in tasks(rows) {
-        if let Some(duty) = schedule(rows, task) {
+        if let Some(duty) = schedule(rows, &mut known, task) {
             return Some(duty);
         }
     }

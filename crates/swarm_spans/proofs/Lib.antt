@@ -6,6 +6,7 @@ pub mod InSpans
 pub mod Lines
 pub mod Made
 pub mod Moved
+pub mod Narrowing
 pub mod Nexts
 pub mod Scheduling
 pub mod Services

@@ -1,5 +1,5 @@
 -- Spans of numbers, and which rows they cover.
-use Rattle.std.specs.Prelude.{ℕ, Bool, List, ◌≡◌, true, is_some, nat_lt, nat_le, ◌&&◌, min, max, ◌-◌, ◌^◌}
+use Rattle.std.specs.Prelude.{ℕ, Bool, List, ◌≡◌, true, is_some, not, nat_lt, nat_le, ◌&&◌, ◌<◌, min, max, ◌-◌, ◌^◌}
 use Rattle.swarm_objects.specs.Rows.{first_of, Has, node_id, service_id, task_id}
 use Rattle.swarm_objects.specs.World.{Tables}
 use Rattle.swarm_objects.specs.declared.duties.Duty.{Duty}
@@ -47,3 +47,12 @@ CoversServices line t span = Covers service_id (has_duty (line t)) span t.servic
 
 abbrev pub CoversNodes : (Tables → Node → List Duty) → Tables → Span → Type 0
 CoversNodes line t span = Covers node_id (has_duty (line t)) span t.nodes
+
+-- the wider span has the task too, where it has a duty
+pub record HasDutyOf (duties : Task → List Duty) (x : Task) (span wide : Span) : Type 0 where
+  pub wider : IsWider wide span
+  pub own : 0 < x.id → has_duty duties x ≡ true → is_in wide x.id ≡ true
+
+-- the row passes the test, and isn't in the span
+abbrev pub is_left_out : {X : Type 0} → (X → ℕ) → (X → Bool) → Span → X → Bool
+is_left_out key test span x = test x && not (is_in span (key x))

@@ -7,7 +7,7 @@ ghost use Rattle.swarm_objects.specs.declared.duties.Duty.{Duty as DutyRow};
 ghost use Rattle.swarm_objects.specs.declared.nodes.Node.{Node as NodeRow};
 ghost use Rattle.swarm_objects.specs.declared.services.Service.{Service as ServiceRow};
 ghost use Rattle.swarm_objects.specs.declared.tasks.Task.{Task as TaskRow};
-ghost use Rattle.swarm_spans.specs.Spans.{CoversNodes, CoversServices, CoversTasks};
+ghost use Rattle.swarm_spans.specs.Spans.{CoversNodes, CoversServices, CoversTasks, HasDutyOf};
 
 use crate::next::{next_node_in, next_service_in, next_task_in};
 use crate::span::Span;
@@ -98,4 +98,32 @@ pub fn first_of_nodes<L: NodeLine, R: Rows>(rows: &R, span: &mut Span) -> Option
     }
     *span = Span::empty();
     None
+}
+
+// With the task, where it has a duty of the line.
+#[tactic(auto, using(crate::proofs::Narrowing::duty_steps))]
+fn with_task<L: TaskLine, R: Rows>(rows: &R, task: &Task, span: Span) -> Span
+    requires { IsUsable (R.tables rows.now) }
+    ensures { HasDutyOf (L.duties (R.tables rows.now)) task.now span result }
+{
+    let mut wide = span;
+    if L::duty(rows, task).is_some() {
+        wide.add(task.id);
+    }
+    wide
+}
+
+/// The span from the first task in this one that has a duty of the line to the last. All tasks in the span are asked.
+pub fn narrowed<L: TaskLine, R: Rows>(rows: &R, span: Span) -> Span
+    requires usable { IsUsable (R.tables rows.now) }
+    requires covers { CoversTasks L.duties (R.tables rows.now) span }
+    ensures { CoversTasks L.duties (R.tables rows.now) result }
+{
+    let mut narrow = Span::empty();
+    let mut left = span;
+    while let Some(task) = next_task_in(rows, left) {
+        narrow = with_task::<L, R>(rows, task, narrow);
+        left.pass(task.id);
+    }
+    narrow
 }

@@ -35,7 +35,7 @@ mod touching;
 pub use adding::{add_tasks_of, add_tasks_on};
 pub use blocking::{touch_blocked, touch_moved};
 pub use first::{
-    NodeLine, ServiceLine, TaskLine, first_of_nodes, first_of_services, first_of_tasks,
+    NodeLine, ServiceLine, TaskLine, first_of_nodes, first_of_services, first_of_tasks, narrowed,
 };
 pub use laws::{events_tell_all, tasks_go_on, waiting_go_on};
 pub use next::{next_node_in, next_service_in, next_task_in};

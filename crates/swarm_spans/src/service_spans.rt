@@ -4,7 +4,7 @@ ghost use Rattle.std.specs.List.{list_any};
 ghost use Rattle.swarm_objects.specs.ChangeLists.{apply_changes};
 ghost use Rattle.swarm_objects.specs.Usable.{IsUsable};
 ghost use Rattle.swarm_objects.specs.World.{Tables};
-ghost use Rattle.swarm_spans.specs.Services.Touches.{AreCovered, Joins, JoinsForNodes, JoinsForPorts, puts_node, puts_service};
+ghost use Rattle.swarm_spans.specs.Services.Touches.{AreCovered, Joins, JoinsForNodes, JoinsForPorts, ServiceTimeLaw, puts_node, puts_service};
 
 use crate::service_touches::{Places, Updates, add_shifted};
 use crate::service_trims::add_remains;
@@ -126,6 +126,17 @@ impl ServiceSpans {
             ports: joined_for_ports(changes, self.ports),
             updates,
             trims,
+        }
+    }
+
+    /// With what may have a duty as time goes by, and nothing else changes: updates, which wait for the ends of delays and
+    /// monitors.
+    pub fn with_time(self) -> ServiceSpans
+        ensures goes_on { ServiceTimeLaw self result }
+    {
+        ServiceSpans {
+            updates: Span::full(),
+            ..self
         }
     }
 }

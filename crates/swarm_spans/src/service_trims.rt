@@ -5,12 +5,12 @@ ghost use Rattle.swarm_objects.specs.Rows.{row_at, task_id};
 ghost use Rattle.swarm_objects.specs.Usable.{IsUsable};
 ghost use Rattle.swarm_spans.specs.Services.Standings.{bounds_alike, remains_alike};
 ghost use Rattle.swarm_spans.specs.Services.Steps.{HasBesideOf, HasRemains, HasTasksOf};
-ghost use Rattle.swarm_spans.specs.Services.Touches.{AddsBeside, AddsNew, AddsOther, HasBounded, HasPlaces, HasTrimmed};
+ghost use Rattle.swarm_spans.specs.Services.Touches.{AddsNew, AddsPast, AddsOther, HasBounded, HasPlaces, HasTrimmed};
 ghost use Rattle.swarm_spans.specs.Spans.{IsWider};
 
 use crate::service_touches::has_open_run;
 use crate::span::Span;
-use swarm_objects::walks::tasks_of;
+use swarm_objects::walks::{tasks_at, tasks_of};
 use swarm_objects::{Change, Id, Rows, Service, Task};
 
 // As much remains of the one as of the other.
@@ -32,30 +32,30 @@ fn bounds_alike(one: &Service, two: &Service) -> bool
         && has_open_run(one) == has_open_run(two)
 }
 
-// The task, where it is beside the other one.
-#[tactic(auto, using(crate::proofs::Services::Trimming::beside_steps))]
-fn add_if_beside(task: &Task, one: &Task, span: &mut Span)
+// The task, where it is past: no other has a duty of this line.
+#[tactic(auto, using(crate::proofs::Services::Trimming::past_steps))]
+fn add_past(task: &Task, span: &mut Span)
     ensures wider { IsWider span.new span.old }
-    ensures has { AddsBeside one.now task.now span.new }
+    ensures has { AddsPast task.now span.new }
 {
-    if task.is_beside(one) {
+    if task.is_past() {
         span.add(task.id);
     }
 }
 
-// Each task beside this one.
-#[tactic(auto, using(crate::proofs::Services::Trimming::all_beside_steps))]
+// Each past task beside this one.
+#[tactic(auto, using(crate::proofs::Services::Trimming::all_of_steps))]
 fn add_beside<R: Rows>(rows: &R, one: &Task, span: &mut Span)
     requires { IsUsable (R.tables rows.now) }
     ensures wider { IsWider span.new span.old }
     ensures has { HasBesideOf span.new (R.tables rows.now) (Some one.now) }
 {
-    for task in tasks_of(rows, one.service) {
-        add_if_beside(task, one, span);
+    for task in tasks_at(rows, one.service, one.place) {
+        add_past(task, span);
     }
 }
 
-// Each task of the service.
+// Each past task of the service.
 #[tactic(auto, using(crate::proofs::Services::Trimming::all_of_steps))]
 fn add_tasks_of<R: Rows>(rows: &R, service: Id, span: &mut Span)
     requires { IsUsable (R.tables rows.now) }
@@ -63,11 +63,11 @@ fn add_tasks_of<R: Rows>(rows: &R, service: Id, span: &mut Span)
     ensures has { HasTasksOf span.new (R.tables rows.now) service }
 {
     for task in tasks_of(rows, service) {
-        span.add(task.id);
+        add_past(task, span);
     }
 }
 
-// A task that is new, and each task beside it.
+// A task that is new, and each one beside it.
 #[tactic(auto, using(crate::proofs::Services::Trimming::new_steps))]
 fn add_new<R: Rows>(rows: &R, new: &Task, span: &mut Span)
     requires { IsUsable (R.tables rows.now) }
@@ -75,7 +75,7 @@ fn add_new<R: Rows>(rows: &R, new: &Task, span: &mut Span)
     ensures has { AddsNew (R.tables rows.now) new.now span.new }
 {
     add_beside(rows, new, span);
-    span.add(new.id);
+    add_past(new, span);
 }
 
 // A task that takes the place of a former one, and each task beside the one and the other, where something else
@@ -148,7 +148,7 @@ fn touch_trims<R: Rows>(rows: &R, change: &Change, span: &mut Span)
     }
 }
 
-/// The tasks beside each one of which these changes make something else remain, and those of each service that they
+/// The past tasks beside each one of which these changes make something else remain, and those of each service that they
 /// make bound its places otherwise. It is asked before the changes are made.
 #[tactic(auto, using(crate::proofs::Services::Trimming::all_steps))]
 pub fn add_remains<R: Rows>(rows: &R, changes: &[Change], span: &mut Span)

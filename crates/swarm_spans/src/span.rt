@@ -1,5 +1,5 @@
 // Numbers from one to another.
-ghost use Rattle.std.specs.Prelude.{◌≡◌};
+ghost use Rattle.std.specs.Prelude.{◌≡◌, ◌==◌, ◌-◌, ◌^◌};
 ghost use Rattle.swarm_spans.specs.Spans.{beyond, empty, full, IsWider, with_id};
 
 use swarm_objects::Id;
@@ -31,6 +31,13 @@ impl Span {
             after: 0,
             high: u64::MAX,
         }
+    }
+
+    /// It goes on to the last number, as it does after `full`.
+    pub fn is_endless(self) -> bool
+        ensures { result ≡ (self.high == 2 ^ 64 - 1) }
+    {
+        self.high == u64::MAX
     }
 
     /// This one too, and what lies between.

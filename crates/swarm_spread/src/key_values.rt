@@ -18,9 +18,9 @@ fn label_of<'a>(labels: &'a Labels, name: &str) -> Option<&'a (Name, Name)>
         .find(|label| label.0.as_str() == name)
 }
 
-// Its value, which is empty where there is none.
+/// The value of the first label with this key, which is empty where there is none.
 #[tactic(auto, using(swarm_objects::proofs::LabelValues::label_value_is))]
-fn label_value<'a>(labels: &'a Labels, name: &str) -> &'a str
+pub fn label_value<'a>(labels: &'a Labels, name: &str) -> &'a str
     ensures { result.now ≡ label_value labels.now name.now }
 {
     match label_of(labels, name) {

@@ -8,5 +8,5 @@ mod tree;
 mod values;
 
 pub use admits::Admits;
-pub use key_values::key_value;
+pub use key_values::{key_value, label_value};
 pub use tree::SpreadTree;

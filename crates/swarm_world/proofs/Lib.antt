@@ -35,5 +35,6 @@ pub mod RowsTurned
 pub mod SettleLines
 pub mod Stepping
 pub mod Taking
+pub mod Ticking
 pub mod ToldNodes
 pub mod Transacting

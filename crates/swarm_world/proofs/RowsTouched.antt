@@ -14,6 +14,7 @@ use Rattle.swarm_objects.specs.declared.rows.Change.{Change}
 use Rattle.swarm_objects.specs.declared.sessions.NodeSession.{NodeSession}
 use Rattle.swarm_objects.specs.declared.tasks.Task.{Task}
 use Rattle.swarm_sessions.specs.OnRecord.{OnRecord, tables_with}
+use Rattle.swarm_sched.specs.Inside.Known.{Knows}
 use Rattle.swarm_spans.proofs.Services.GoesOn.{come_goes_on, create_goes_on, down_goes_on, leave_goes_on, next_goes_on, port_goes_on}
 use Rattle.swarm_spans.proofs.Services.Trimmed.{trim_goes_on}
 use Rattle.swarm_spans.proofs.Services.Updated.{update_goes_on}
@@ -38,10 +39,11 @@ use Rattle.swarm_world.specs.declared.records.Records.{Records}
 pub same_rows : (m : Marks) (r s : Records) → s ≡ r → AreMarked m (tables_of r) → AreMarked m (tables_of s)
 same_rows m r s same = subst (λ (x : Records). AreMarked m (tables_of x)) (sym same)
 
--- where the spans over the rows are the same
-pub same_spans : (m n : Marks) (t : Tables) → n.tasks ≡ m.tasks → n.services ≡ m.services → AreMarked m t
-    → AreMarked n t
-same_spans m n t tasks services marked = record {
+-- where the spans over the rows, and what is remembered, are the same
+pub same_spans : (m n : Marks) (t : Tables) → n.tasks ≡ m.tasks → n.services ≡ m.services → n.totals ≡ m.totals
+    → AreMarked m t → AreMarked n t
+same_spans m n t tasks services totals marked = record {
+  totals = subst (Knows t) (sym totals) marked.totals;
   tasks = subst (AreTasksCovered t) (sym tasks) marked.tasks;
   services = subst (AreCovered t) (sym services) marked.services;
 }
@@ -92,9 +94,10 @@ others-have node f t keeps = record { others = λ n. go n (eqb node n) refl }
 -- after its beat
 pub beat_marked : (node now heartbeat id : ℕ) (before after : Marks) (r : Records) (s : OnRecord) → AreUsable r
     → AreMarked before (tables_of r) → SessionLaw node before.tasks after.tasks → after.services ≡ before.services
+    → after.totals ≡ before.totals
     → s.rows ≡ (after_beat (tables_with r.sessions.rows now heartbeat id) node).sessions
     → AreMarked after (tables_of (record { store = r.store; sessions = s }))
-beat_marked node now heartbeat id before after r s are marked law services rows =
+beat_marked node now heartbeat id before after r s are marked law services totals rows =
     let t = tables_of r in
     let f = beaten (tables_with r.sessions.rows now heartbeat id) in
     let beats = change_row session_node node f r.sessions.rows in
@@ -104,6 +107,7 @@ beat_marked node now heartbeat id before after r s are marked law services rows 
       tasks = law t t.next_id beats usable (others-have node f t (λ x. refl)) marked.tasks;
       services = subst (AreCovered (record t { sessions = beats })) (sym services)
           (services-still t beats before.services usable marked.services);
+      totals = record { each = λ n. (subst (Knows t) (sym totals) marked.totals).each n };
     })
 
 -- Changes of rows that were touched before.

@@ -16,6 +16,7 @@ mod parts;
 mod records;
 mod remote;
 mod removals;
+mod scheduling;
 mod settling;
 mod touched;
 mod turns;

@@ -8,7 +8,6 @@ use swarm_jobs::{is_old, next_duty};
 use swarm_objects::{Duty, Node, Rows, Service, Task};
 use swarm_replicated::{create_duty, down_duty, is_gone};
 use swarm_restart::{wants_raise, wants_restart};
-use swarm_sched::schedule;
 use swarm_sessions::{is_expired, is_orphaned};
 use swarm_spans::reads::{ToAllocate, ToSchedule, ToWait};
 use swarm_spans::{NodeLine, ServiceLine, TaskLine, TaskReads};
@@ -162,19 +161,6 @@ impl TaskLine for Trims {
 
     fn duty<R: Rows>(rows: &R, task: &Task) -> Option<Duty> {
         when(is_trimmed_past(rows, task), Duty::Trim(task.id))
-    }
-}
-
-/// Tasks to be placed, or to be told why they can't be.
-pub struct Schedules;
-
-impl TaskLine for Schedules {
-    ghost use Rattle.swarm_objects.specs.Loops.Scheduler.{schedule};
-
-    ghost duties = { schedule };
-
-    fn duty<R: Rows>(rows: &R, task: &Task) -> Option<Duty> {
-        schedule(rows, task)
     }
 }
 

@@ -1,6 +1,6 @@
 // Where a duty of the control loops over the rows may be: for each line of duties the span of the rows that may have one.
-ghost use Rattle.std.specs.Prelude.{◌≡◌, ◌++◌, List as Seq, false, flat_map};
-ghost use Rattle.swarm_model.specs.History.{replay};
+ghost use Rattle.std.specs.Prelude.{◌≡◌, ◌++◌, List as Seq, [], false, flat_map, ℕ};
+ghost use Rattle.swarm_model.specs.History.{IsLegal, replay};
 ghost use Rattle.swarm_objects.specs.declared.calls.Entry.{Entry};
 ghost use Rattle.swarm_objects.specs.ChangeLists.{apply_changes};
 ghost use Rattle.swarm_objects.specs.Duties.{duties};
@@ -11,10 +11,10 @@ ghost use Rattle.swarm_objects.specs.Usable.{IsUsable};
 ghost use Rattle.swarm_objects.specs.World.{Tables};
 ghost use Rattle.swarm_spans.specs.Lines.{addresses, deletes, expires, goes, notes, olds, orphans, raises, rejects, restarts};
 ghost use Rattle.swarm_spans.specs.Services.Lines.{comes, creates, downs, job_creates, leaves, trims, updates};
-ghost use Rattle.swarm_spans.specs.Spans.{CoversNodes, CoversServices, CoversTasks};
-ghost use Rattle.swarm_spans.specs.TasksCovered.{SessionLaw};
+ghost use Rattle.swarm_spans.specs.Spans.{CoversNodes, CoversServices, CoversTasks, full};
+ghost use Rattle.swarm_spans.specs.TasksCovered.{SessionLaw, at_time};
 ghost use Rattle.swarm_world.specs.Inside.Kept.{IsFirst};
-ghost use Rattle.swarm_world.specs.Inside.Marks.{AreMarked, IsMarked};
+ghost use Rattle.swarm_world.specs.Inside.Marks.{AreMarked, IsAfterCall, IsMarked};
 ghost use Rattle.swarm_world.specs.Inside.Parts.{HasHistory, StandsFor};
 ghost use Rattle.swarm_world.specs.Inside.Records.{tables_of};
 ghost use Rattle.swarm_world.specs.declared.parts.Parts.{Parts as Whole};
@@ -23,24 +23,28 @@ use crate::agent_spans::AgentSpans;
 use crate::firsts::is_agents;
 use crate::lines::{
     Addresses, Comes, Creates, Deletes, Downs, Expires, Goes, JobCreates, Leaves, Notes, Olds,
-    Orphans, Ports, Raises, Rejects, Restarts, Schedules, Trims, Unallocated, Unplaced, Updates,
-    Waiting,
+    Orphans, Ports, Raises, Rejects, Restarts, Trims, Unallocated, Unplaced, Updates, Waiting,
 };
 use crate::looks::agents_first_in;
 use crate::parts::Parts;
 use crate::records::Records;
+use crate::scheduling::first_scheduled;
+use std::alloc::Global;
 use swarm_agent::theorems::times_that_no_step_looks_at;
-use swarm_objects::{Change, Duty, Id, Role, Rows};
+use swarm_objects::{Call, Change, Duty, Id, Role, Rows};
+use swarm_sched::KnownTotals;
 use swarm_spans::{
-    ServiceSpans, Span, TaskSpans, first_of_nodes, first_of_services, first_of_tasks,
+    ServiceSpans, Span, TaskSpans, first_of_nodes, first_of_services, first_of_tasks, narrowed,
 };
 
-/// For each line of duties a span that has each row with a duty of the line, and the spans of the agents' loop.
-#[derive(Clone, Copy, Drop)]
+/// For each line of duties a span that has each row with a duty of the line, and the spans of the agents' loop. And what is
+/// remembered of the tasks on nodes.
+#[derive(Drop)]
 pub struct Marks {
     pub tasks: TaskSpans,
     pub services: ServiceSpans,
     pub agents: AgentSpans,
+    pub totals: KnownTotals,
 }
 
 #[tactic(auto, using(crate::proofs::Marking::first_steps))]
@@ -176,14 +180,71 @@ fn reaper<R: Rows>(rows: &R, deletes_in: &mut Span, trims_in: &mut Span) -> Opti
 }
 
 impl Marks {
-    /// Every row may have a duty.
-    pub fn all() -> Marks
+    // Every row may have a duty.
+    fn with_totals(totals: KnownTotals) -> Marks
+        requires { totals ≡ [] }
         ensures { (p : Whole) → HasHistory p → IsMarked result p }
     {
         Marks {
             tasks: TaskSpans::full(),
             services: ServiceSpans::full(),
             agents: AgentSpans::full(),
+            totals,
+        }
+    }
+
+    /// Every row may have a duty. Totals are remembered where memory is there for them.
+    pub fn new(alloc: Global) -> Marks
+        ensures { (p : Whole) → HasHistory p → IsMarked result p }
+    {
+        Marks::with_totals(KnownTotals::new(alloc))
+    }
+
+    /// Every row may have a duty. It takes no memory, and no totals will be remembered.
+    pub fn all() -> Marks
+        ensures { (p : Whole) → HasHistory p → IsMarked result p }
+    {
+        Marks::with_totals(KnownTotals::none())
+    }
+
+    /// The same spans for one look. It takes no memory.
+    pub fn apart(&self) -> Marks
+        ensures { (p : Whole) → IsMarked self.now p → IsMarked result p }
+    {
+        Marks {
+            tasks: self.tasks,
+            services: self.services,
+            agents: self.agents,
+            totals: KnownTotals::none(),
+        }
+    }
+
+    /// Every row may have a duty, whatever there is.
+    pub fn touch_all(&mut self)
+        ensures { (p : Whole) → HasHistory p → IsMarked self.new p }
+    {
+        self.tasks = TaskSpans::full();
+        self.services = ServiceSpans::full();
+        self.agents = AgentSpans::full();
+        self.totals.forget_all();
+    }
+
+    // Where the spans of tasks that wait have no end, they end with the last that waits. By them a touch, a tick or a beat
+    // widens others, again and again.
+    fn end_waiting<R: Rows>(&mut self, rows: &R)
+        requires usable { IsUsable (R.tables rows.now) }
+        requires marks { AreMarked self.old (R.tables rows.now) }
+        ensures marks { AreMarked self.new (R.tables rows.now) }
+        ensures agents { self.new.agents ≡ self.old.agents }
+    {
+        if self.tasks.to_wait.is_endless() {
+            self.tasks.to_wait = narrowed::<Waiting, R>(rows, self.tasks.to_wait);
+        }
+        if self.tasks.to_schedule.is_endless() {
+            self.tasks.to_schedule = narrowed::<Unplaced, R>(rows, self.tasks.to_schedule);
+        }
+        if self.tasks.to_allocate.is_endless() {
+            self.tasks.to_allocate = narrowed::<Unallocated, R>(rows, self.tasks.to_allocate);
         }
     }
 
@@ -208,6 +269,7 @@ impl Marks {
         ensures agents { self.new.agents ≡ self.old.agents }
     {
         self.pass_waiting(records);
+        self.totals.forget_changed(records, changes);
         self.tasks = self.tasks.touched(records, changes);
         self.services = self.services.touched(records, changes);
     }
@@ -219,12 +281,36 @@ impl Marks {
     {
         self.tasks = TaskSpans::full();
         self.services = ServiceSpans::full();
+        self.totals.forget_all();
+    }
+
+    /// With what may have a duty as time goes by.
+    pub fn touch_time(&mut self)
+        ensures rows { (t : Tables) (clock : ℕ) → IsUsable t → AreMarked self.old t → AreMarked self.new (at_time clock t) }
+        ensures duties { self.new.agents.duties ≡ full }
+        ensures tells { self.new.agents.tells ≡ full }
+    {
+        self.tasks = self.tasks.with_time();
+        self.services = self.services.with_time();
+        self.agents = AgentSpans::full();
+    }
+
+    /// With what the call may touch, whether it changes something or not.
+    pub fn touch_call(&mut self, call: &Call)
+        ensures { (h : Seq Entry) (p q : Whole) → IsLegal h → StandsFor p (replay h) → IsMarked self.old p → HasHistory q →
+            IsAfterCall h call.now q → IsMarked self.new q }
+    {
+        match call {
+            Call::Tick(_) => self.touch_time(),
+            _ => self.touch_all(),
+        }
     }
 
     /// With what a node's session concerns, where it begins, is lengthened or ends.
     pub fn touch_session(&mut self, node: Id)
         ensures goes_on { SessionLaw node self.old.tasks self.new.tasks }
         ensures services { self.new.services ≡ self.old.services }
+        ensures totals { self.new.totals ≡ self.old.totals }
         ensures agents { self.new.agents ≡ self.old.agents }
     {
         self.tasks = self.tasks.with_session(node);
@@ -240,6 +326,7 @@ impl Marks {
         ensures marks { AreMarked self.new (R.tables rows.now) }
         ensures agents { self.new.agents ≡ self.old.agents }
     {
+        self.end_waiting(rows);
         match role {
             Role::Dispatcher => dispatcher(rows, &mut self.tasks.expires, &mut self.tasks.orphans),
             Role::Enforcer => first_of_tasks::<Rejects, R>(rows, &mut self.tasks.rejects),
@@ -259,7 +346,9 @@ impl Marks {
                 &mut self.tasks.addresses,
                 &mut self.tasks.notes,
             ),
-            Role::Scheduler => first_of_tasks::<Schedules, R>(rows, &mut self.tasks.schedules),
+            Role::Scheduler => {
+                first_scheduled(rows, &mut self.totals, &mut self.tasks.schedules)
+            }
             Role::Reaper => reaper(rows, &mut self.tasks.deletes, &mut self.services.trims),
             Role::Agents => unreachable!(),
         }

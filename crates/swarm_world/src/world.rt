@@ -58,7 +58,7 @@ impl World {
         Ok(World {
             parts,
             history,
-            marks: Marks::all(),
+            marks: Marks::new(alloc),
             known: None,
         })
     }
@@ -78,7 +78,7 @@ impl World {
         ensures legal { IsLegal self.new }
     {
         self.parts.halt();
-        self.marks = Marks::all();
+        self.marks.touch_all();
         self.known = None;
         let entry = Entry {
             by,
@@ -103,7 +103,7 @@ impl World {
             return Reply::Refused(Refusal::NoMemory);
         };
         let version = self.history.len() as u64 + 1;
-        self.marks = Marks::all();
+        self.marks.touch_call(&call);
         self.known = None;
         let Ok(reply) = self.parts.enter(version, &call) else {
             return Reply::Refused(Refusal::NoMemory);
@@ -176,7 +176,7 @@ impl World {
         ensures answer { result ≡ settle_answer (replay self.now) }
         ensures lawful { IsLawful self.now }
     {
-        let mut marks = self.marks;
+        let mut marks = self.marks.apart();
         marks.settle(&self.parts)
     }
 

@@ -22,8 +22,9 @@ use Rattle.swarm_spans.proofs.Services.Updated.{update_goes_on}
 use Rattle.swarm_spans.specs.Services.Lines.{AreRising, MovedLaw, PlacedLaw, comes, creates, downs, job_creates, leaves, trims, updates}
 use Rattle.swarm_spans.specs.Services.Standings.{progress, standing}
 use Rattle.swarm_spans.specs.Services.Steps.{HasEach, HasRemains, HasShifted}
-use Rattle.swarm_spans.specs.Services.Touches.{AreCovered, Joins, JoinsForNodes, JoinsForPorts, puts_node, puts_service}
+use Rattle.swarm_spans.specs.Services.Touches.{AreCovered, Joins, JoinsForNodes, JoinsForPorts, ServiceTimeLaw, puts_node, puts_service}
 use Rattle.swarm_spans.specs.Spans.{CoversServices, CoversTasks, IsWider, full, is_in}
+use Rattle.swarm_spans.specs.TasksCovered.{at_time}
 use Rattle.swarm_spans.specs.declared.service_spans.ServiceSpans.{ServiceSpans}
 use Rattle.swarm_spans.specs.declared.span.Span.{Span}
 
@@ -107,6 +108,36 @@ all_full d c l m j p u r ds cs ls ms js ps us rs t usable = record {
   updates = subst (CoversServices updates t) (sym us) (services-full updates t usable);
   trims = subst (CoversTasks trims t) (sym rs) (tasks-full trims t usable);
 }
+
+-- As time goes by.
+
+pub time_goes_on : (spans : ServiceSpans) (updating : Span) → updating ≡ full
+    → ServiceTimeLaw spans (record spans { updates = updating })
+time_goes_on spans updating every t clock usable are =
+    let u = at_time clock t in
+    let rising : AreRising t u =
+    record {
+      before = usable.sound.ordered.tasks;
+      after = usable.sound.ordered.tasks;
+      services = usable.sound.ordered.services;
+    } in
+    record {
+      downs = down_goes_on t u spans.downs rising (same standing spans.downs) are.downs;
+      creates = create_goes_on t u spans.creates rising (same standing spans.creates) are.creates;
+      leaves =
+          leave_goes_on t u spans.leaves rising (same standing spans.leaves) (record { nodes = inl refl }) are.leaves;
+      comes = come_goes_on t u spans.comes rising (same standing spans.comes) (record { nodes = inl refl }) are.comes;
+      job_creates = next_goes_on t u spans.job_creates rising (same standing spans.job_creates) are.job_creates;
+      ports = port_goes_on t u spans.ports (record { services = inl refl }) are.ports;
+      updates =
+          subst (CoversServices updates u) (sym every) (record { has = λ s h passes. each-full t usable s h });
+      trims =
+          trim_goes_on t u spans.trims rising refl (record { services = λ id. inl refl; tasks = λ id. inl refl })
+          are.trims;
+    }
+  where
+    same : {S : Type 0} (show : Task → S) (span : Span) → HasShifted show span t (at_time clock t)
+    same show span = record { services = record { rows = λ id. inl refl }; tasks = λ id. inl refl }
 
 -- A wider span covers too.
 

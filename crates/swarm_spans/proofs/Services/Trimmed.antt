@@ -116,9 +116,9 @@ when-trim false d = refl
 
 -- A task that isn't in the span was there, and the same remained of it.
 
-former : (t u : Tables) (span : Span) (y : Task) → AreRising t u → HasRemains span t u → Has u.tasks y
+former : (t u : Tables) (span : Span) (y : Task) → AreRising t u → HasRemains span t u → Has u.tasks y → is_past y ≡ true
     → is_in span y.id ≡ false → (z : Task) × Has t.tasks z × (remains z ≡ remains y)
-former t u span y rising has h out = by (has.tasks y.id)
+former t u span y rising has h past out = by (has.tasks y.id)
   where
     at : row_at task_id y.id u.tasks ≡ Some y
     at = row_at-Some task_id 0 u.tasks y rising.after h
@@ -137,12 +137,12 @@ former t u span y rising has h out = by (has.tasks y.id)
         × HasItself span (row_at task_id y.id u.tasks))
         → (z : Task) × Has t.tasks z × (remains z ≡ remains y)
     by (inl same) = there (row_at task_id y.id t.tasks) refl (sym (ap (option_map remains) at) ∙ same)
-    by (inr three) = never-both (is_in span y.id) out (three.2.own y at positive)
+    by (inr three) = never-both (is_in span y.id) out (three.2.own y at past positive)
 
 outside : (t : Tables) (span : Span) (y z : Task) (o : Option Task) → Has t.tasks z → remains z ≡ remains y
-    → is_in span y.id ≡ false → HasBesideOf span t o → keep (is_beside y) o ≡ None
-outside t span y z None h same out has = refl
-outside t span y z (Some x) h same out has = go (is_beside y x) refl
+    → is_past z ≡ true → is_in span y.id ≡ false → HasBesideOf span t o → keep (is_beside y) o ≡ None
+outside t span y z None h same past out has = refl
+outside t span y z (Some x) h same past out has = go (is_beside y x) refl
   where
     go : (b : Bool) → is_beside y x ≡ b → cond b (Some x) None ≡ None
     go false e = refl
@@ -150,12 +150,12 @@ outside t span y z (Some x) h same out has = go (is_beside y x) refl
         let beside : is_beside z x ≡ true =
         ap (λ (r : Remains). x.service == r.service && same_place x.place r.place) same ∙ e in
         never-both (is_in span y.id) out
-        (subst (λ k. is_in span k ≡ true) (ap (λ (r : Remains). r.id) same) (has.beside x z refl h beside))
+        (subst (λ k. is_in span k ≡ true) (ap (λ (r : Remains). r.id) same) (has.beside x z refl h beside past))
 
 beside-shown : (t u : Tables) (span : Span) (y z : Task) → AreRising t u → HasRemains span t u → Has t.tasks z
-    → remains z ≡ remains y → is_in span y.id ≡ false
+    → remains z ≡ remains y → is_past z ≡ true → is_in span y.id ≡ false
     → map remains (filter (is_beside y) u.tasks) ≡ map remains (filter (is_beside y) t.tasks)
-beside-shown t u span y z rising has there same out =
+beside-shown t u span y z rising has there same past out =
     shown-rows task_id remains 0 0 (filter (is_beside y) u.tasks) (filter (is_beside y) t.tasks)
     (RisesFrom-filter task_id 0 (is_beside y) u.tasks rising.after)
     (RisesFrom-filter task_id 0 (is_beside y) t.tasks rising.before)
@@ -174,8 +174,8 @@ beside-shown t u span y z rising has there same out =
         keep-shown remains (is_beside y) (row_at task_id id u.tasks) (row_at task_id id t.tasks) (beside-read y) e
     each id (inr three) =
         ap (option_map remains)
-        (outside t span y z (row_at task_id id u.tasks) there same out three.1
-        ∙ sym (outside t span y z (row_at task_id id t.tasks) there same out three.0))
+        (outside t span y z (row_at task_id id u.tasks) there same past out three.1
+        ∙ sym (outside t span y z (row_at task_id id t.tasks) there same past out three.0))
 
 pub trim_goes_on : TrimLaw
 trim_goes_on t u span rising settings has c = record {
@@ -189,16 +189,17 @@ trim_goes_on t u span rising settings has c = record {
         → is_in span y.id ≡ true
     go y h past passes true e = e
     go y h past passes false out =
-        let z = former t u span y rising has h out in
+        let z = former t u span y rising has h past out in
+        let was : is_past z.0 ≡ true = past-read z.0 y z.2 ∙ past in
         let ids : z.0.id ≡ y.id = ap (λ (r : Remains). r.id) z.2 in
         elim (has.services y.service) [
           | inr tasks ↦
-              subst (λ k. is_in span k ≡ true) ids (tasks.tasks z.0 z.1 (ap (λ (r : Remains). r.service) z.2))
+              subst (λ k. is_in span k ≡ true) ids (tasks.tasks z.0 z.1 (ap (λ (r : Remains). r.service) z.2) was)
           | inl row ↦
               let before : is_trimmed t y ≡ true =
-              sym (trimmed-same t u y settings row (beside-shown t u span y z.0 rising has z.1 z.2 out)) ∙ passes in
+              sym (trimmed-same t u y settings row (beside-shown t u span y z.0 rising has z.1 z.2 was out)) ∙ passes in
               let trims : (is_past z.0 && is_trimmed t z.0) ≡ true =
-              both (is_past z.0) (is_trimmed t z.0) (past-read z.0 y z.2 ∙ past)
+              both (is_past z.0) (is_trimmed t z.0) was
               (trimmed-alike t z.0 y z.2 ∙ before) in
               subst (λ k. is_in span k ≡ true) ids
               (c.has z.0 z.1 (when-trim (is_past z.0 && is_trimmed t z.0) (duty.Trim z.0.id) ∙ trims))

@@ -5,11 +5,13 @@ use Rattle.std.specs.Option.{option_map}
 use Rattle.std.specs.Prelude.{filter, ◌==◌}
 use Rattle.swarm_objects.proofs.PlaceLemmas.{and_left}
 use Rattle.swarm_objects.proofs.RowLemmas.{Has-filter, Has-from_row_at, number_above}
-use Rattle.swarm_objects.proofs.Tests.{never-both}
+use Rattle.swarm_objects.proofs.SameLemmas.{Decides-same_place}
+use Rattle.swarm_objects.proofs.Tests.{both, both_are, never-both}
 use Rattle.swarm_objects.specs.ChangeLists.{apply_changes}
+use Rattle.swarm_objects.specs.Loops.Reaper.{is_past}
 use Rattle.swarm_objects.specs.Rows.{Has, row_at, service_id, task_id}
 use Rattle.swarm_objects.specs.Same.{same_place}
-use Rattle.swarm_objects.specs.Tasks.Words.{is_beside, is_of}
+use Rattle.swarm_objects.specs.Tasks.Words.{is_at, is_beside, is_of}
 use Rattle.swarm_objects.specs.Usable.{IsUsable}
 use Rattle.swarm_objects.specs.World.{Tables}
 use Rattle.swarm_objects.specs.declared.nodes.Node.{Node}
@@ -23,76 +25,65 @@ use Rattle.swarm_spans.proofs.Services.Tests.{bound_so, remain_so}
 use Rattle.swarm_spans.proofs.Services.Touching.{number-of, number-wider, touched-all, touching_next, wider_not, wider_one}
 use Rattle.swarm_spans.specs.Services.Standings.{bounds, bounds_alike, remains, remains_alike}
 use Rattle.swarm_spans.specs.Services.Steps.{HasBesideOf, HasItself, HasNumber, HasRemains, HasTasksOf}
-use Rattle.swarm_spans.specs.Services.Touches.{AddsBeside, AddsNew, AddsOther, HasBeside, HasBounded, HasPlaces, HasTask, HasTrimmed, Touching}
+use Rattle.swarm_spans.specs.Services.Touches.{AddsNew, AddsPast, AddsOther, HasBounded, HasPlaces, HasTask, HasTrimmed, Touching}
 use Rattle.swarm_spans.specs.Spans.{IsWider, is_in, with_id}
 use Rattle.swarm_spans.specs.declared.span.Span.{Span}
 
 pub wider_yet : (span one two : Span) → IsWider one span → IsWider two one → IsWider two span
 wider_yet span one two w v = record { has = λ k h. v.has k (w.has k h) }
 
--- One task beside another.
+-- One past task.
 
-pub beside_added : (x z : Task) (span one : Span) → one ≡ with_id span z.id → AddsBeside x z one
-beside_added x z span one is = record { beside = λ e. number-of z.id span one is }
+pub past_added : (z : Task) (span one : Span) → one ≡ with_id span z.id → AddsPast z one
+past_added z span one is = record { past = λ p. number-of z.id span one is }
 
-pub not_beside : (x z : Task) (span : Span) → false ≡ is_beside z x → AddsBeside x z span
-not_beside x z span no-one = record { beside = λ e. never-both (is_beside z x) (sym no-one) e }
+pub not_past : (z : Task) (span : Span) → false ≡ is_past z → AddsPast z span
+not_past z span no-one = record { past = λ p. never-both (is_past z) (sym no-one) p }
 
-pub ruleset beside_steps = (wider_not, wider_one, beside_added, not_beside)
+pub ruleset past_steps = (wider_not, wider_one, past_added, not_past)
 
 -- All of them.
-
-pub none_beside : (x : Task) (all : List Task) (span : Span) → Touching (HasBeside x) all all span span
-none_beside x all span = record { wider = wider_not span; each = λ z h. inr h }
-
-pub one_beside : (x : Task) (all items rest : List Task) (first span wide : Span) (z : Task)
-    → Touching (HasBeside x) all items first span → items ≡ z ∷ rest → IsWider wide span → AddsBeside x z wide
-    → Touching (HasBeside x) all rest first wide
-one_beside x all items rest first span wide z a step w has =
-    touching_next all items rest first span wide z (λ y part e. number-wider y.id span wide w (part e)) a step w
-    has.beside
 
 all_there : (t : Tables) (service : ℕ) (z : Task) → Has t.tasks z → z.service ≡ service
     → Has (filter (is_of service) t.tasks) z
 all_there t service z h same = Has-filter (is_of service) t.tasks z h (grind (arith, nat_tests, same))
 
+all_at : (t : Tables) (x z : Task) → Has t.tasks z → is_beside z x ≡ true → Has (filter (is_at x.service x.place) t.tasks) z
+all_at t x z h beside =
+    let two = both_are (x.service == z.service) (same_place x.place z.place) beside in
+    let service : x.service ≡ z.service = grind (arith, nat_tests, two.0) in
+    let own : (z.service == x.service) ≡ true = grind (arith, nat_tests, service) in
+    let place : x.place ≡ z.place = (Decides-same_place x.place z.place).0 two.1 in
+    let turned : same_place z.place x.place ≡ true = (Decides-same_place z.place x.place).1 (sym place) in
+    Has-filter (is_at x.service x.place) t.tasks z h
+    (both (z.service == x.service) (same_place z.place x.place) own turned)
+
 pub all_beside : (t : Tables) (x : Task) (items : List Task) (first span : Span) → IsUsable t
-    → Touching (HasBeside x) (filter (is_of x.service) t.tasks) items first span → items ≡ []
+    → Touching HasTask (filter (is_at x.service x.place) t.tasks) items first span → items ≡ []
     → HasBesideOf span t (Some x)
-all_beside t x items first span usable a none = record { beside = λ y z is h e. of y z is h e }
+all_beside t x items first span usable a none = record { beside = λ y z is h e p. of y z is h e p }
   where
-    of : (y z : Task) → Some x ≡ Some y → Has t.tasks z → is_beside z y ≡ true → is_in span z.id ≡ true
-    of y z is h e =
+    of : (y z : Task) → Some x ≡ Some y → Has t.tasks z → is_beside z y ≡ true → is_past z ≡ true → is_in span z.id ≡ true
+    of y z is h e p =
         let same : x ≡ y = cc in
-        let beside : is_beside z x ≡ true = ap (is_beside z) same ∙ e in
-        let service : (x.service == z.service) ≡ true =
-        and_left (x.service == z.service) (same_place x.place z.place) beside in
-        let equal : z.service ≡ x.service = grind (arith, nat_tests, service) in
-        touched-all (filter (is_of x.service) t.tasks) items first span a (ap length none) z
-        (all_there t x.service z h equal) beside (number_above task_id 0 t.tasks z usable.sound.ordered.tasks h)
-
-pub beside_wider : (x : Task) (all items : List Task) (first span : Span)
-    → Touching (HasBeside x) all items first span → IsWider span first
-beside_wider x all items first span a = a.wider
-
-pub ruleset all_beside_steps = (none_beside, beside_wider)
+        touched-all (filter (is_at x.service x.place) t.tasks) items first span a (ap length none) z
+        (all_at t x z h (ap (is_beside z) same ∙ e)) p (number_above task_id 0 t.tasks z usable.sound.ordered.tasks h)
 
 pub none_of : (all : List Task) (span : Span) → Touching HasTask all all span span
 none_of all span = record { wider = wider_not span; each = λ z h. inr h }
 
 pub one_of : (all items rest : List Task) (first span wide : Span) (z : Task)
-    → Touching HasTask all items first span → items ≡ z ∷ rest → wide ≡ with_id span z.id
+    → Touching HasTask all items first span → items ≡ z ∷ rest → IsWider wide span → AddsPast z wide
     → Touching HasTask all rest first wide
-one_of all items rest first span wide z a step is =
-    touching_next all items rest first span wide z
-    (λ y part. number-wider y.id span wide (wider_one z.id span wide is) part) a step (wider_one z.id span wide is)
-    (number-of z.id span wide is)
+one_of all items rest first span wide z a step w has =
+    touching_next all items rest first span wide z (λ y part p. number-wider y.id span wide w (part p)) a step w
+    has.past
 
 pub all_of : (t : Tables) (service : ℕ) (items : List Task) (first span : Span) → IsUsable t
     → Touching HasTask (filter (is_of service) t.tasks) items first span → items ≡ [] → HasTasksOf span t service
 all_of t service items first span usable a none = record {
-  tasks = λ z h e.
-      touched-all (filter (is_of service) t.tasks) items first span a (ap length none) z (all_there t service z h e)
+  tasks = λ z h e p.
+      touched-all (filter (is_of service) t.tasks) items first span a (ap length none) z (all_there t service z h e) p
       (number_above task_id 0 t.tasks z usable.sound.ordered.tasks h);
 }
 
@@ -106,35 +97,32 @@ pub ruleset all_of_steps = (none_of, of_wider)
 
 beside-wider : (t : Tables) (o : Option Task) (span wide : Span) → IsWider wide span → HasBesideOf span t o
     → HasBesideOf wide t o
-beside-wider t o span wide w has = record { beside = λ x z e h b. w.has z.id (has.beside x z e h b) }
+beside-wider t o span wide w has = record { beside = λ x z e h b p. w.has z.id (has.beside x z e h b p) }
 
 beside-of : (t : Tables) (o : Option Task) (x : Task) (span : Span) → Some x ≡ o → HasBesideOf span t (Some x)
     → HasBesideOf span t o
 beside-of t o x span row has = subst (HasBesideOf span t) row has
 
 beside-none : (t : Tables) (o : Option Task) (span : Span) → None ≡ o → HasBesideOf span t o
-beside-none t o span row = record { beside = λ x z e h b. none x (row ∙ e) }
+beside-none t o span row = record { beside = λ x z e h b p. none x (row ∙ e) }
   where
     none : {A : Type 0} (x : Task) → None ≡ Some x → A
     none x e = absurd cc
 
-itself : (x : Task) (span one : Span) → one ≡ with_id span x.id → HasItself one (Some x)
-itself x span one is = record { own = λ y e. of y e }
+itself : (x : Task) (span : Span) → AddsPast x span → HasItself span (Some x)
+itself x span has = record { own = λ y e. of y e }
   where
-    of : (y : Task) → Some x ≡ Some y → HasNumber one y.id
-    of y e = let same : x ≡ y = cc in subst (λ z. HasNumber one z.id) same (number-of x.id span one is)
+    of : (y : Task) → Some x ≡ Some y → HasTask y span
+    of y e = let same : x ≡ y = cc in subst (λ z. HasTask z span) same has.past
 
-pub wider_then : (id : ℕ) (span one two : Span) → IsWider one span → two ≡ with_id one id → IsWider two span
-wider_then id span one two w is = wider_yet span one two w (wider_one id one two is)
-
-pub is_new : (t : Tables) (x : Task) (one two : Span) → HasBesideOf one t (Some x) → two ≡ with_id one x.id
+pub is_new : (t : Tables) (x : Task) (one two : Span) → HasBesideOf one t (Some x) → IsWider two one → AddsPast x two
     → AddsNew t x two
-is_new t x one two has is = record {
-  beside = beside-wider t (Some x) one two (wider_one x.id one two is) has;
-  own = itself x one two is;
+is_new t x one two has w past = record {
+  beside = beside-wider t (Some x) one two w has;
+  own = itself x two past;
 }
 
-pub ruleset new_steps = (wider_then, is_new)
+pub ruleset new_steps = (wider_yet, is_new)
 
 pub is_alike : (t : Tables) (old x : Task) (span : Span) → true ≡ remains_alike old x → AddsOther t old x span
 is_alike t old x span same = record { shown = inl (λ id. remain_so old x id (sym same)) }
@@ -278,7 +266,7 @@ trimmed-wider t c span wide w has = record {
   service = λ s e. record {
     shown = elim ((has.service s e).shown) [
       | inl same ↦ inl same
-      | inr tasks ↦ inr (record { tasks = λ z h k. w.has z.id (tasks.tasks z h k) })
+      | inr tasks ↦ inr (record { tasks = λ z h k p. w.has z.id (tasks.tasks z h k p) })
     ];
   };
   put = λ x e. record {
@@ -288,7 +276,7 @@ trimmed-wider t c span wide w has = record {
           inr (
             beside-wider t (row_at task_id x.id t.tasks) span wide w three.0,
             beside-wider t (Some x) span wide w three.1,
-            record { own = λ y k. number-wider y.id span wide w (three.2.own y k) },
+            record { own = λ y k p. number-wider y.id span wide w (three.2.own y k p) },
           )
     ];
   };
@@ -354,7 +342,7 @@ touching_ends t all left first span a none = record {
         inr (
           (touched-all all left first span a none (change.DropTask id) gone.0).dropped id refl,
           beside-none t o span (sym gone.1),
-          record { own = λ z e. lost z (sym gone.1 ∙ e) },
+          record { own = λ z e p. lost z (sym gone.1 ∙ e) },
         )
       where
         lost : (z : Task) → None ≡ Some z → HasNumber span z.id

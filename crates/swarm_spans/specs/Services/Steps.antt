@@ -1,6 +1,7 @@
 -- What a step from tables to tables leaves as it was, or else what a span of services has.
 use Rattle.std.specs.Option.{option_map}
 use Rattle.std.specs.Prelude.{ℕ, Option, Some, true, ◌<◌, ◌≡◌, ◌⊎◌}
+use Rattle.swarm_objects.specs.Loops.Reaper.{is_past}
 use Rattle.swarm_objects.specs.Rows.{Has, row_at, service_id, task_id}
 use Rattle.swarm_objects.specs.Tasks.Words.{is_beside}
 use Rattle.swarm_objects.specs.World.{Tables}
@@ -44,17 +45,18 @@ pub record HasForNodes (span : Span) (t u : Tables) : Type 0 where
 pub record HasForPorts (span : Span) (t u : Tables) : Type 0 where
   pub services : (u.services ≡ t.services) ⊎ HasEach span u
 
--- each task that stood beside one that may be there
+-- each past task that stood beside one that may be there
 pub record HasBesideOf (span : Span) (t : Tables) (row : Option Task) : Type 0 where
-  pub beside : (x z : Task) → row ≡ Some x → Has t.tasks z → is_beside z x ≡ true → is_in span z.id ≡ true
+  pub beside : (x z : Task) → row ≡ Some x → Has t.tasks z → is_beside z x ≡ true → is_past z ≡ true
+      → is_in span z.id ≡ true
 
--- a task that may be there
+-- a task that may be there, where it is past
 pub record HasItself (span : Span) (row : Option Task) : Type 0 where
-  pub own : (x : Task) → row ≡ Some x → HasNumber span x.id
+  pub own : (x : Task) → row ≡ Some x → is_past x ≡ true → HasNumber span x.id
 
--- each task that the service had
+-- each past task that the service had
 pub record HasTasksOf (span : Span) (t : Tables) (service : ℕ) : Type 0 where
-  pub tasks : (z : Task) → Has t.tasks z → z.service ≡ service → is_in span z.id ≡ true
+  pub tasks : (z : Task) → Has t.tasks z → z.service ≡ service → is_past z ≡ true → is_in span z.id ≡ true
 
 -- the span has the tasks of each service that bounds its places otherwise than before, and each task of which something
 -- else remains, with those beside it, as it was and as it is

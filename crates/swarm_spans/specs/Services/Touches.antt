@@ -3,8 +3,10 @@ use Rattle.std.specs.List.{list_any}
 use Rattle.std.specs.Option.{option_map}
 use Rattle.std.specs.Prelude.{Bool, List, Some, false, true, ℕ, ◌≡◌, ◌⊎◌}
 use Rattle.swarm_objects.specs.Loops.Allocator.{port_duties}
+use Rattle.swarm_objects.specs.Loops.Reaper.{is_past}
 use Rattle.swarm_objects.specs.Rows.{Has, row_at, service_id, task_id}
 use Rattle.swarm_objects.specs.Tasks.Words.{is_beside}
+use Rattle.swarm_objects.specs.Usable.{IsUsable}
 use Rattle.swarm_objects.specs.World.{Tables}
 use Rattle.swarm_objects.specs.declared.rows.Change.{Change}
 use Rattle.swarm_objects.specs.declared.rows.Change.TheVariants as change
@@ -14,6 +16,7 @@ use Rattle.swarm_spans.specs.Services.Lines.{comes, creates, downs, job_creates,
 use Rattle.swarm_spans.specs.Services.Standings.{bounds, remains}
 use Rattle.swarm_spans.specs.Services.Steps.{HasBesideOf, HasItself, HasNumber, HasServiceOf, HasTasksOf}
 use Rattle.swarm_spans.specs.Spans.{CoversServices, CoversTasks, IsWider, full}
+use Rattle.swarm_spans.specs.TasksCovered.{at_time}
 use Rattle.swarm_spans.specs.declared.service_spans.ServiceSpans.{ServiceSpans}
 use Rattle.swarm_spans.specs.declared.span.Span.{Span}
 
@@ -33,7 +36,7 @@ pub record HasPlaces (t : Tables) (x : Task) (span : Span) : Type 0 where
   pub shown : (option_map remains (row_at task_id x.id t.tasks) ≡ Some (remains x))
       ⊎ (HasBesideOf span t (row_at task_id x.id t.tasks) × HasBesideOf span t (Some x) × HasItself span (Some x))
 
--- a task that is new: the span has it, and each task that stood beside it
+-- a task that is new: the span has it, and each task that stood beside it, where they are past
 pub record AddsNew (t : Tables) (x : Task) (span : Span) : Type 0 where
   pub beside : HasBesideOf span t (Some x)
   pub own : HasItself span (Some x)
@@ -57,15 +60,12 @@ pub record Touching {X : Type 0} (part : X → Span → Type 0) (all left : List
   pub wider : IsWider span first
   pub each : (x : X) → Has all x → part x span ⊎ Has left x
 
--- a task beside another, and one of any kind
-abbrev pub HasBeside : Task → Task → Span → Type 0
-HasBeside x z span = is_beside z x ≡ true → HasNumber span z.id
-
+-- a past task
 abbrev pub HasTask : Task → Span → Type 0
-HasTask z span = HasNumber span z.id
+HasTask z span = is_past z ≡ true → HasNumber span z.id
 
-pub record AddsBeside (x z : Task) (span : Span) : Type 0 where
-  pub beside : HasBeside x z span
+pub record AddsPast (z : Task) (span : Span) : Type 0 where
+  pub past : HasTask z span
 
 abbrev pub puts_node : Change → Bool
 puts_node (change.PutNode n) = true
@@ -100,3 +100,8 @@ pub record AreCovered (t : Tables) (spans : ServiceSpans) : Type 0 where
   pub ports : CoversServices port_duties t spans.ports
   pub updates : CoversServices updates t spans.updates
   pub trims : CoversTasks trims t spans.trims
+
+-- the ones cover what the others do, at any time
+abbrev pub ServiceTimeLaw : ServiceSpans → ServiceSpans → Type 0
+ServiceTimeLaw spans wide =
+    (t : Tables) (clock : ℕ) → IsUsable t → AreCovered t spans → AreCovered (at_time clock t) wide

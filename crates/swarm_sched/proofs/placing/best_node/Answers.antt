@@ -17,5 +17,6 @@ loop-node-init g c =
           (c.into_iter-node-iterator.ensures.into_iter_gives ∙ c.nodes-node-items.ensures)
           ∙ best_is t x;
       held = tt;
+      knows = c.requires.knows;
       own = c.new-branches.ensures ∙ ap (λ (keys : List Key). record { tables = t; service = x.service; keys = keys }) c.as_slice.ensures;
     }

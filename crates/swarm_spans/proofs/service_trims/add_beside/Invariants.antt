@@ -1,9 +1,9 @@
 use Rattle.std.specs.Prelude.{filter}
-use Rattle.swarm_objects.specs.Tasks.Words.{is_of}
-use Rattle.swarm_spans.specs.Services.Touches.{HasBeside, Touching}
+use Rattle.swarm_objects.specs.Tasks.Words.{is_at}
+use Rattle.swarm_spans.specs.Services.Touches.{HasTask, Touching}
 use Rattle.swarm_spans.proofs.service_trims.add_beside.Given as goal
 
 abbrev pub invariant-loop-task : goal.invariant-loop-task
 invariant-loop-task g l =
-    Touching (HasBeside l.one) (filter (is_of l.one.service) (g.R.Rows.tables l.rows).tasks) l.task-iterator
+    Touching HasTask (filter (is_at l.one.service l.one.place) (g.R.Rows.tables l.rows).tasks) l.task-iterator
     l.initial.span l.span

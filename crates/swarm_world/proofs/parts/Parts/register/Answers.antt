@@ -30,4 +30,4 @@ returns-clause-enters c = λ h is.
 pub returns-clause-marks : goal.returns-clause-marks
 returns-clause-marks c = λ usable.
     let t = tables_of c.begin.new.self.records in
-    same_spans c.touch_rows.new.self _ t refl refl (c.touch_rows.ensures.goes_on t usable)
+    same_spans c.touch_rows.new.self _ t refl refl refl (c.touch_rows.ensures.goes_on t usable)

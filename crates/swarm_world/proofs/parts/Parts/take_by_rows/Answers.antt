@@ -27,7 +27,7 @@ touch-requires-clause-usable c = usable_rows c.args.self.now.records (are_usable
 
 pub returns-clause-marks : goal.returns-clause-marks
 returns-clause-marks c = λ usable.
-    same_spans c.touch.new.self _ (tables_of c.commit.new.records) refl refl
+    same_spans c.touch.new.self _ (tables_of c.commit.new.records) refl refl refl
     (commit_marked c.args.version c.as_slice.result.now c.in-Ok.changes c.args.self.now c.requires.at
     c.commit.new.records c.commit.new.watches c.commit.result c.touch.new.self c.as_slice.ensures c.commit.ensures
     c.touch.ensures.stays c.touch.ensures.goes_on usable)

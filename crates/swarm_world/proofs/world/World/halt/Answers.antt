@@ -19,7 +19,7 @@ invariant_of-self c =
       legal = subst IsLegal (sym more) gone.legal;
       stands = subst (StandsFor c.halt.new.self) (sym gone.world ∙ ap replay (sym more)) now;
       marks =
-          c.all-self-inside.ensures c.halt.new.self (record {
+          c.touch_all.ensures c.halt.new.self (record {
             history = H ++ call_by c.args.by call.Halt ∷ [];
             legal = gone.legal;
             stands = subst (StandsFor c.halt.new.self) (sym gone.world) now;

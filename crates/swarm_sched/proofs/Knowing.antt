@@ -1,0 +1,375 @@
+-- What is remembered of nodes: a slot that is filled or emptied, and what changes of rows leave true.
+use Rattle.std.proofs.Common.{◌≡◌, ◌∙◌, ◌∷◌, ◌<◌, ◌⊎◌, ℕ, Bool, List, None, Option, Some, [], ap, arith, cond, eqb, false, get_or, inl, inr, length, not, refl, replicate, set, subst, suc, sym, true, zero}
+use Rattle.std.proofs.lemmas.Bool.Decides.{nat_tests}
+use Rattle.std.proofs.lemmas.List.{get_or-set_other, get_or-set_same, length-set}
+use Rattle.std.specs.Option.{option_eq}
+use Rattle.std.specs.Prelude.{IfSome, count_by, filter, sum_by, ◌%◌, ◌&&◌, ◌++◌}
+use Rattle.swarm_objects.proofs.Placing.{here_is, load_is}
+use Rattle.swarm_objects.proofs.RowLemmas.{Has-append_cases, Has-filter_cases, Has-map_cases, row_at-Some}
+use Rattle.swarm_objects.proofs.Tests.{both_are}
+use Rattle.swarm_objects.specs.ChangeLists.{apply_change, apply_changes}
+use Rattle.swarm_objects.specs.Nodes.BestNode.{load}
+use Rattle.swarm_objects.specs.Nodes.Filters.{here}
+use Rattle.swarm_objects.specs.Nodes.Holdings.{is_placed_on, task_cpu, task_mem, tasks_placed_on}
+use Rattle.swarm_objects.specs.Rows.{Has, drop_row, has_row, put_row, row_at, task_id}
+use Rattle.swarm_objects.specs.Same.{same_number}
+use Rattle.swarm_objects.specs.Tasks.New.{with_task}
+use Rattle.swarm_objects.specs.Tasks.Words.{is_live, is_of, is_on, is_placed}
+use Rattle.swarm_objects.specs.Usable.{IsUsable}
+use Rattle.swarm_objects.specs.World.{Tables}
+use Rattle.swarm_objects.specs.declared.rows.Change.TheVariants as change
+use Rattle.swarm_objects.specs.declared.rows.Change.{Change}
+use Rattle.swarm_objects.specs.declared.tasks.Task.{Task}
+use Rattle.swarm_sched.specs.Inside.Known.{AreFewer, Forgets, ForgetsAll, ForgetsChange, Forgetting, Knows, if_of, recalled}
+use Rattle.swarm_sched.specs.Inside.Totals.{AreTotals}
+use Rattle.swarm_sched.specs.declared.known.NodeTotals.{NodeTotals}
+use Rattle.swarm_sched.specs.declared.totals.Totals.{Totals}
+
+-- One slot.
+
+decide : (a b : ℕ) → (a ≡ b) ⊎ (a ≡ b → ⊥)
+decide a b = go (eqb a b) refl
+  where
+    go : (c : Bool) → eqb a b ≡ c → (a ≡ b) ⊎ (a ≡ b → ⊥)
+    go true is = inl (grind (arith, nat_tests, is))
+    go false is = inr (λ e. grind (arith, nat_tests, is, e))
+
+-- what a changed slot leaves of a node: what stands in it, or what was remembered
+slot-set : (all : List (Option NodeTotals)) (i : ℕ) (o : Option NodeTotals) (m : ℕ) → i < length all →
+    (recalled (set all i o) m ≡ if_of m o) ⊎ (recalled (set all i o) m ≡ recalled all m)
+slot-set all i o m lt =
+    let long : m % length (set all i o) ≡ m % length all = ap (λ n. m % n) (length-set all i o) in
+    let there = ap (λ j. if_of m (get_or (set all i o) j None)) long in
+    elim (decide (m % length all) i) [
+      | inl same ↦
+          inl (there ∙ ap (λ j. if_of m (get_or (set all i o) j None)) same ∙ ap (if_of m) (get_or-set_same all i o None lt))
+      | inr other ↦ inr (there ∙ ap (if_of m) (get_or-set_other all i (m % length all) o None other))
+    ]
+
+own-slot : (all : List (Option NodeTotals)) (i : ℕ) (o : Option NodeTotals) (m : ℕ) → i < length all → i ≡ m % length all →
+    recalled (set all i o) m ≡ if_of m o
+own-slot all i o m lt is =
+    ap (λ n. if_of m (get_or (set all i o) (m % n) None)) (length-set all i o)
+    ∙ ap (λ j. if_of m (get_or (set all i o) j None)) (sym is) ∙ ap (if_of m) (get_or-set_same all i o None lt)
+
+pub filled : (t : Tables) (all : List (Option NodeTotals)) (i : ℕ) (k : NodeTotals) → i < length all → Knows t all →
+    AreTotals t k.node k.service k.totals → Knows t (set all i (Some k))
+filled t all i k lt knows are = record { each = λ m. at m (slot-set all i (Some k) m lt) }
+  where
+    so : ℕ → NodeTotals → Type 0
+    so m j = AreTotals t m j.service j.totals
+
+    own : (m : ℕ) (b : Bool) → eqb k.node m ≡ b → IfSome (cond b (Some k) None) (so m)
+    own m true is = let same : k.node ≡ m = grind (arith, nat_tests, is) in subst (λ n. AreTotals t n k.service k.totals) same are
+    own m false is = tt
+
+    at : (m : ℕ) → (recalled (set all i (Some k)) m ≡ if_of m (Some k)) ⊎ (recalled (set all i (Some k)) m ≡ recalled all m) →
+        IfSome (recalled (set all i (Some k)) m) (so m)
+    at m (inl e) = subst (λ o. IfSome o (so m)) (sym e) (own m (eqb k.node m) refl)
+    at m (inr e) = subst (λ o. IfSome o (so m)) (sym e) (knows.each m)
+
+pub emptied : (all : List (Option NodeTotals)) (i : ℕ) → i < length all → AreFewer all (set all i None)
+emptied all i lt = record { each = λ m. slot-set all i None m lt }
+
+pub emptied_own : (all : List (Option NodeTotals)) (i node : ℕ) → i < length all → i ≡ node % length all →
+    recalled (set all i None) node ≡ None
+emptied_own all i node lt is = own-slot all i None node lt is
+
+-- where every slot is empty
+none-at : (n j : ℕ) → ◌≡◌ {A = Option NodeTotals} (get_or (replicate n None) j None) None
+none-at zero j = refl
+none-at (suc n) zero = refl
+none-at (suc n) (suc j) = none-at n j
+
+pub empty_knows : (t : Tables) (n : ℕ) → Knows t (replicate n None)
+empty_knows t n = record {
+  each = λ m.
+      subst (λ o. IfSome o (λ k. AreTotals t m k.service k.totals))
+      (sym (ap (if_of m) (none-at n (m % length (replicate n None))))) tt;
+}
+
+pub knows_none : (t : Tables) (all : List (Option NodeTotals)) → all ≡ [] → Knows t all
+knows_none t all none = subst (Knows t) (sym none) (record { each = λ m. tt })
+
+pub ruleset remember_steps = (filled, empty_knows, knows_none)
+
+-- What is remembered of fewer nodes.
+
+pub fewer_itself : (all : List (Option NodeTotals)) → AreFewer all all
+fewer_itself all = record { each = λ m. inr refl }
+
+pub fewer_yet : (a b c : List (Option NodeTotals)) → AreFewer a b → AreFewer b c → AreFewer a c
+fewer_yet a b c first second = record {
+  each = λ m.
+      elim (second.each m) [
+        | inl none ↦ inl none
+        | inr same ↦ elim (first.each m) [ inl none ↦ inl (same ∙ none) | inr is ↦ inr (same ∙ is) ]
+      ];
+}
+
+none-fewer : (a b : List (Option NodeTotals)) (m : ℕ) → AreFewer a b → recalled a m ≡ None → recalled b m ≡ None
+none-fewer a b m fewer none = elim (fewer.each m) [ inl e ↦ e | inr same ↦ same ∙ none ]
+
+forgets-fewer : (a b : List (Option NodeTotals)) (o : Option Task) → AreFewer a b → Forgets a o → Forgets b o
+forgets-fewer a b o fewer is = record { each = λ x node e on. none-fewer a b node fewer (is.each x node e on) }
+
+change-fewer : (t : Tables) (a b : List (Option NodeTotals)) (c : Change) → AreFewer a b → ForgetsChange t a c →
+    ForgetsChange t b c
+change-fewer t a b c fewer is = record {
+  put = λ x e.
+      (forgets-fewer a b (Some x) fewer (is.put x e).0, forgets-fewer a b (row_at task_id x.id t.tasks) fewer (is.put x e).1);
+  drop = λ id e. forgets-fewer a b (row_at task_id id t.tasks) fewer (is.drop id e);
+}
+
+-- The node of a task.
+
+on-is : (held : Option ℕ) (node : ℕ) → option_eq same_number held (Some node) ≡ true → held ≡ Some node
+on-is None node e = absurd cc
+on-is (Some n) node e = let same : n ≡ node = grind (arith, nat_tests, e) in ap (λ (k : ℕ). Some k) same
+
+same-task : (x y : Task) → Some x ≡ Some y → x ≡ y
+same-task x y e = cc
+
+pub node_gone : (all : List (Option NodeTotals)) (x : Task) (n : ℕ) → x.node ≡ Some n → recalled all n ≡ None →
+    Forgets all (Some x)
+node_gone all x n at gone = record {
+  each = λ y node e on.
+      let both : Some n ≡ Some node = sym at ∙ ap (λ (z : Task). z.node) (same-task x y e) ∙ on-is y.node node on in
+      let number : n ≡ node = cc in
+      subst (λ k. recalled all k ≡ None) number gone;
+}
+
+pub no_node_gone : (all : List (Option NodeTotals)) (x : Task) → x.node ≡ None → Forgets all (Some x)
+no_node_gone all x none = record {
+  each = λ y node e on.
+      let both : None ≡ Some node = sym none ∙ ap (λ (z : Task). z.node) (same-task x y e) ∙ on-is y.node node on in
+      absurd cc;
+}
+
+pub ruleset node_steps = (node_gone, no_node_gone, fewer_itself)
+
+pub former_none : (all : List (Option NodeTotals)) (t : Tables) (id : ℕ) → None ≡ row_at task_id id t.tasks →
+    Forgets all (row_at task_id id t.tasks)
+former_none all t id none = record { each = λ x node e on. let both : None ≡ Some x = none ∙ e in absurd cc }
+
+pub former_some : (all : List (Option NodeTotals)) (t : Tables) (id : ℕ) (x : Task) → Some x ≡ row_at task_id id t.tasks →
+    Forgets all (Some x) → Forgets all (row_at task_id id t.tasks)
+former_some all t id x is = subst (Forgets all) is
+
+pub ruleset former_steps = (former_none, former_some, fewer_itself)
+
+-- One change.
+
+pub put_gone : (t : Tables) (a b : List (Option NodeTotals)) (c : Change) (y : Task) → c ≡ change.PutTask y →
+    Forgets a (Some y) → AreFewer a b → Forgets b (row_at task_id y.id t.tasks) → ForgetsChange t b c
+put_gone t a b c y is now fewer before = record {
+  put = λ z e.
+      let one : change.PutTask y ≡ change.PutTask z = sym is ∙ e in
+      let same : y ≡ z = cc in
+      subst (λ (x : Task). Forgets b (Some x) × Forgets b (row_at task_id x.id t.tasks)) same
+      (forgets-fewer a b (Some y) fewer now, before);
+  drop = λ id e. let other : change.PutTask y ≡ change.DropTask id = sym is ∙ e in absurd cc;
+}
+
+pub drop_gone : (t : Tables) (all : List (Option NodeTotals)) (c : Change) (id : ℕ) → c ≡ change.DropTask id →
+    Forgets all (row_at task_id id t.tasks) → ForgetsChange t all c
+drop_gone t all c id is before = record {
+  put = λ z e. let other : change.DropTask id ≡ change.PutTask z = sym is ∙ e in absurd cc;
+  drop = λ k e.
+      let one : change.DropTask id ≡ change.DropTask k = sym is ∙ e in
+      let same : id ≡ k = cc in
+      subst (λ n. Forgets all (row_at task_id n t.tasks)) same before;
+}
+
+pub other_gone : (t : Tables) (all : List (Option NodeTotals)) (c : Change) → ((x : Task) → c ≡ change.PutTask x → ⊥) →
+    ((id : ℕ) → c ≡ change.DropTask id → ⊥) → ForgetsChange t all c
+other_gone t all c put drop = record { put = λ x e. absurd (put x e); drop = λ id e. absurd (drop id e) }
+
+pub ruleset change_steps = (put_gone, drop_gone, other_gone, fewer_itself, fewer_yet)
+
+-- All changes.
+
+pub forgetting_none : (t : Tables) (cs : List Change) (all : List (Option NodeTotals)) → Forgetting t cs cs all all
+forgetting_none t cs all = record { fewer = fewer_itself all; each = λ c h. inr h }
+
+pub forgetting_one : (t : Tables) (cs left rest : List Change) (before a b : List (Option NodeTotals)) (c : Change) →
+    Forgetting t cs left before a → left ≡ c ∷ rest → AreFewer a b → ForgetsChange t b c → Forgetting t cs rest before b
+forgetting_one t cs left rest before a b c so step fewer gone = record {
+  fewer = fewer_yet before a b so.fewer fewer;
+  each = λ x h.
+      elim (so.each x h) [
+        | inl done ↦ inl (change-fewer t a b x fewer done)
+        | inr there ↦ now x (subst (λ list. Has list x) step there)
+      ];
+}
+  where
+    now : (x : Change) → ((c ≡ x) ⊎ Has rest x) → ForgetsChange t b x ⊎ Has rest x
+    now x (inl same) = inl (subst (ForgetsChange t b) same gone)
+    now x (inr h) = inr h
+
+is-empty : {X : Type 0} (left : List X) → length left ≡ 0 → left ≡ []
+is-empty [] e = refl
+is-empty (x ∷ left) e = absurd (omega (arith, e))
+
+pub forgetting_all : (t : Tables) (cs left : List Change) (before after : List (Option NodeTotals)) →
+    Forgetting t cs left before after → length left ≡ 0 → ForgetsAll t after cs
+forgetting_all t cs left before after so none = record {
+  each = λ c h.
+      elim (so.each c h) [ inl gone ↦ gone | inr there ↦ absurd (subst (λ list. Has list c) (is-empty left none) there) ];
+}
+
+pub forgetting_fewer : (t : Tables) (cs left : List Change) (before after : List (Option NodeTotals)) →
+    Forgetting t cs left before after → AreFewer before after
+forgetting_fewer t cs left before after so = so.fewer
+
+pub ruleset all_steps = (forgetting_none, forgetting_one, forgetting_all, forgetting_fewer)
+
+-- What changes leave of the tasks that pass a test.
+
+-- the change puts none that passes, and none that it puts or drops passed
+record Misses (p : Task → Bool) (tasks : List Task) (c : Change) : Type 0 where
+  put : (x : Task) → c ≡ change.PutTask x → (p x ≡ false) × ((y : Task) → Has tasks y → y.id ≡ x.id → p y ≡ false)
+  drop : (id : ℕ) → c ≡ change.DropTask id → (y : Task) → Has tasks y → y.id ≡ id → p y ≡ false
+
+filter-put : (p : Task → Bool) (x : Task) (tasks : List Task) → p x ≡ false →
+    ((y : Task) → Has tasks y → y.id ≡ x.id → p y ≡ false) → filter p (put_row task_id x tasks) ≡ filter p tasks
+filter-put p x [] off none = refl
+filter-put p x (y ∷ tasks) off none = go (eqb y.id x.id) refl (filter-put p x tasks off (λ z h e. none z (inr h) e))
+  where
+    go : (b : Bool) → eqb y.id x.id ≡ b → filter p (put_row task_id x tasks) ≡ filter p tasks →
+        filter p (cond b x y ∷ put_row task_id x tasks) ≡ filter p (y ∷ tasks)
+    go true is rest =
+        let out : p y ≡ false = none y (inl refl) (grind (arith, nat_tests, is)) in
+        ap (λ c. cond c (x ∷ filter p (put_row task_id x tasks)) (filter p (put_row task_id x tasks))) off ∙ rest
+        ∙ sym (ap (λ c. cond c (y ∷ filter p tasks) (filter p tasks)) out)
+    go false is rest = ap (λ l. cond (p y) (y ∷ l) l) rest
+
+filter-last : (p : Task → Bool) (x : Task) (tasks : List Task) → p x ≡ false → filter p (tasks ++ x ∷ []) ≡ filter p tasks
+filter-last p x [] off = ap (λ c. cond c (x ∷ []) []) off
+filter-last p x (y ∷ tasks) off = ap (λ l. cond (p y) (y ∷ l) l) (filter-last p x tasks off)
+
+filter-drop : (p : Task → Bool) (id : ℕ) (tasks : List Task) → ((y : Task) → Has tasks y → y.id ≡ id → p y ≡ false) →
+    filter p (drop_row task_id id tasks) ≡ filter p tasks
+filter-drop p id [] none = refl
+filter-drop p id (y ∷ tasks) none = go (eqb y.id id) refl (filter-drop p id tasks (λ z h e. none z (inr h) e))
+  where
+    go : (b : Bool) → eqb y.id id ≡ b → filter p (drop_row task_id id tasks) ≡ filter p tasks →
+        filter p (cond (not b) (y ∷ drop_row task_id id tasks) (drop_row task_id id tasks)) ≡ filter p (y ∷ tasks)
+    go true is rest =
+        rest ∙ sym (ap (λ c. cond c (y ∷ filter p tasks) (filter p tasks)) (none y (inl refl) (grind (arith, nat_tests, is))))
+    go false is rest = ap (λ l. cond (p y) (y ∷ l) l) rest
+
+-- a task is there after the change that was there, or doesn't pass
+was-there : (p : Task → Bool) (t : Tables) (c : Change) → Misses p t.tasks c → (y : Task) → Has (apply_change t c).tasks y →
+    Has t.tasks y ⊎ (p y ≡ false)
+was-there p t (change.PutNode n) misses y h = inl h
+was-there p t (change.PutService s) misses y h = inl h
+was-there p t (change.PutTask x) misses y h = go (has_row task_id x.id t.tasks) h
+  where
+    put : (z : Task) (b : Bool) → Has t.tasks z → cond b x z ≡ y → Has t.tasks y ⊎ (p y ≡ false)
+    put z true h e = inr (subst (λ v. p v ≡ false) e (misses.put x refl).0)
+    put z false h e = inl (subst (Has t.tasks) e h)
+
+    last : Has t.tasks y ⊎ Has (x ∷ []) y → Has t.tasks y ⊎ (p y ≡ false)
+    last (inl h) = inl h
+    last (inr (inl e)) = inr (subst (λ v. p v ≡ false) e (misses.put x refl).0)
+    last (inr (inr h)) = absurd h
+
+    go : (b : Bool) → Has (cond b (record t { tasks = put_row task_id x t.tasks }) (with_task t x)).tasks y →
+        Has t.tasks y ⊎ (p y ≡ false)
+    go true h =
+        let from = Has-map_cases (λ z. cond (eqb z.id x.id) x z) t.tasks y h in put from.0 (eqb from.0.id x.id) from.1 from.2
+    go false h = last (Has-append_cases t.tasks (x ∷ []) y h)
+was-there p t (change.DropTask id) misses y h = inl (Has-filter_cases (λ z. not (eqb z.id id)) t.tasks y h).0
+was-there p t (change.Keep a) misses y h = inl h
+
+still-misses : (p : Task → Bool) (t : Tables) (c d : Change) → Misses p t.tasks c → Misses p t.tasks d →
+    Misses p (apply_change t c).tasks d
+still-misses p t c d first second = record {
+  put = λ x e. ((second.put x e).0, λ y h same. here y h ((second.put x e).1 y) same);
+  drop = λ id e y h same. here y h (second.drop id e y) same;
+}
+  where
+    here : {k : ℕ} (y : Task) → Has (apply_change t c).tasks y → (Has t.tasks y → y.id ≡ k → p y ≡ false) → y.id ≡ k →
+        p y ≡ false
+    here y h there same = elim (was-there p t c first y h) [ inl was ↦ there was same | inr off ↦ off ]
+
+change-leaves : (p : Task → Bool) (t : Tables) (c : Change) → Misses p t.tasks c →
+    filter p (apply_change t c).tasks ≡ filter p t.tasks
+change-leaves p t (change.PutNode n) misses = refl
+change-leaves p t (change.PutService s) misses = refl
+change-leaves p t (change.PutTask x) misses = go (has_row task_id x.id t.tasks)
+  where
+    go : (b : Bool) →
+        filter p (cond b (record t { tasks = put_row task_id x t.tasks }) (with_task t x)).tasks ≡ filter p t.tasks
+    go true = filter-put p x t.tasks (misses.put x refl).0 (misses.put x refl).1
+    go false = filter-last p x t.tasks (misses.put x refl).0
+change-leaves p t (change.DropTask id) misses = filter-drop p id t.tasks (misses.drop id refl)
+change-leaves p t (change.Keep a) misses = refl
+
+changes-leave : (p : Task → Bool) (cs : List Change) (t : Tables) → ((c : Change) → Has cs c → Misses p t.tasks c) →
+    filter p (apply_changes t cs).tasks ≡ filter p t.tasks
+changes-leave p [] t misses = refl
+changes-leave p (c ∷ cs) t misses =
+    changes-leave p cs (apply_change t c)
+    (λ d h. still-misses p t c d (misses c (inl refl)) (misses d (inr h)))
+    ∙ change-leaves p t c (misses c (inl refl))
+
+-- What is remembered after changes.
+
+totals-alike : (t u : Tables) (node service : ℕ) (s : Totals) → tasks_placed_on u node ≡ tasks_placed_on t node →
+    AreTotals t node service s → AreTotals u node service s
+totals-alike t u node service s same are = (
+  are.0 ∙ ap (sum_by task_cpu) (sym same),
+  are.1 ∙ ap (sum_by task_mem) (sym same),
+  are.2 ∙ sym (load_is t node) ∙ ap (count_by is_live) (sym same) ∙ load_is u node,
+  are.3 ∙ sym (here_is t node service) ∙ ap (count_by (λ x. is_of service x && is_live x)) (sym same) ∙ here_is u node service,
+)
+
+misses-known : (t : Tables) (all : List (Option NodeTotals)) (node : ℕ) (k : NodeTotals) (c : Change) → IsUsable t →
+    recalled all node ≡ Some k → ForgetsChange t all c → Misses (is_placed_on node) t.tasks c
+misses-known t all node k c usable known gone = record {
+  put = λ x e. (out (Some x) (gone.put x e).0 x refl, λ y h same. out (row_at task_id x.id t.tasks) (gone.put x e).1 y (at x.id y h same));
+  drop = λ id e y h same. out (row_at task_id id t.tasks) (gone.drop id e) y (at id y h same);
+}
+  where
+    at : (id : ℕ) (y : Task) → Has t.tasks y → y.id ≡ id → row_at task_id id t.tasks ≡ Some y
+    at id y h same =
+        subst (λ n. row_at task_id n t.tasks ≡ Some y) same (row_at-Some task_id 0 t.tasks y usable.sound.ordered.tasks h)
+
+    never : None ≡ Some k → ⊥
+    never e = cc
+
+    out : (o : Option Task) → Forgets all o → (y : Task) → o ≡ Some y → is_placed_on node y ≡ false
+    out o none y e = go (is_placed_on node y) refl
+      where
+        go : (b : Bool) → is_placed_on node y ≡ b → b ≡ false
+        go true is =
+            absurd (never (sym (none.each y node e (both_are (is_placed y) (is_on node y) is).1) ∙ known))
+        go false is = refl
+
+pub fewer_knows : (t : Tables) (before after : List (Option NodeTotals)) → Knows t before → AreFewer before after →
+    Knows t after
+fewer_knows t before after knows fewer = record {
+  each = λ m.
+      elim (fewer.each m) [
+        | inl none ↦ subst (λ o. IfSome o (λ k. AreTotals t m k.service k.totals)) (sym none) tt
+        | inr same ↦ subst (λ o. IfSome o (λ k. AreTotals t m k.service k.totals)) (sym same) (knows.each m)
+      ];
+}
+
+pub changed_knows : (t : Tables) (cs : List Change) (all : List (Option NodeTotals)) → IsUsable t → Knows t all →
+    ForgetsAll t all cs → Knows (apply_changes t cs) all
+changed_knows t cs all usable knows gone = record { each = λ m. go m (recalled all m) refl (knows.each m) }
+  where
+    u : Tables
+    u = apply_changes t cs
+
+    go : (m : ℕ) (o : Option NodeTotals) → recalled all m ≡ o → IfSome o (λ k. AreTotals t m k.service k.totals) →
+        IfSome o (λ k. AreTotals u m k.service k.totals)
+    go m None is so = tt
+    go m (Some k) is so =
+        totals-alike t u m k.service k.totals
+        (changes-leave (is_placed_on m) cs t (λ c h. misses-known t all m k c usable is (gone.each c h))) so
+
+pub ruleset changed_steps = (fewer_knows, changed_knows)

@@ -1,0 +1,12 @@
+use Rattle.swarm_world.proofs.Marked.{all_are_marked}
+use Rattle.swarm_world.proofs.marks.Marks.touch_all.Goals as goal
+
+pub returns : goal.returns
+returns c =
+    all_are_marked (record {
+      tasks = c.full-self.result;
+      services = c.full-self-2.result;
+      agents = c.full-self-3.result;
+      totals = c.forget_all.new.self;
+    }) c.full-self.ensures.covers c.full-self-2.ensures.covers c.forget_all.ensures c.full-self-3.ensures.duties
+    c.full-self-3.ensures.tells

@@ -1,0 +1,7 @@
+use Rattle.std.proofs.Common.{refl}
+use Rattle.swarm_world.proofs.Ticking.{timed}
+use Rattle.swarm_world.proofs.marks.Marks.touch_time.Goals as goal
+
+pub returns-clause-rows : goal.returns-clause-rows
+returns-clause-rows c =
+    timed c.args.self.now _ c.with_time-self.ensures.goes_on c.with_time-self-2.ensures.goes_on refl
