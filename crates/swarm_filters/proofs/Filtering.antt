@@ -1,39 +1,35 @@
--- Nodes that pass two tests, one after the other.
-use Rattle.std.proofs.Common.{◌≡◌, ℕ, List, [], ◌∷◌, None, refl, sym, ap, ◌∙◌}
-use Rattle.std.specs.Prelude.{count_by, filter}
-use Rattle.swarm_filters.specs.Tested.{is_counted, is_open}
+-- Nodes that pass two tests, and how many of the tested ones each filter refuses.
+use Rattle.std.proofs.Common.{◌≡◌, ◌<◌, ℕ, Bool, List, [], None, Some, arith, refl, sym, true, ap}
+use Rattle.std.proofs.lemmas.Bool.Decides.{nat_tests}
+use Rattle.std.specs.Prelude.{count_by, filter, nat_lt, not}
+use Rattle.swarm_filters.proofs.Tallies.{IsTally, ends}
+use Rattle.swarm_filters.specs.Tested.{is_open}
 use Rattle.swarm_objects.proofs.Filters.{count_both}
+use Rattle.swarm_objects.proofs.Tests.{find_has, of-all}
 use Rattle.swarm_objects.specs.Nodes.BestNode.{best_node, node_cmp}
-use Rattle.swarm_objects.specs.Nodes.Filters.{admits, is_refused_by, is_tested_on, refusal_counts, tested_nodes}
+use Rattle.swarm_objects.specs.Nodes.Filters.{admits, is_tested_on, passes, tested_nodes}
+use Rattle.swarm_objects.specs.Nodes.Filters.{filter_numbers, is_refused_by, refusal_counts, refused_by}
 use Rattle.swarm_objects.specs.Rows.{least_by}
 use Rattle.swarm_objects.specs.World.{Tables}
 use Rattle.swarm_objects.specs.declared.nodes.Node.{Node}
 use Rattle.swarm_objects.specs.declared.tasks.Task.{Task}
 use Rattle.swarm_objects.proofs.Applied.{filter_both}
 
-counted : (t : Tables) (x : Task) (k : ℕ) →
-    count_by (is_counted t x k) t.nodes ≡ count_by (is_refused_by t x k) (tested_nodes t x)
-unfolding is_counted
-counted t x k = count_both (λ (n : Node). is_tested_on x.place n.id) (is_refused_by t x k) t.nodes
+-- a filter's number is below the length of the counts
+pub is_number : (t : Tables) (x : Task) (n : Node) (k : ℕ) → Some k ≡ refused_by t x n → k < 6
+is_number t x n k is =
+    let has = (find_has (λ k. not (passes t x n k)) filter_numbers k (sym is)).0 in
+    let few : nat_lt k 6 ≡ true = of-all (λ k. nat_lt k 6) filter_numbers k refl has in
+    grind (arith, nat_tests)
 
 -- the counts of the six filters
-pub six_counts : (t : Tables) (x : Task) (a b c d e f : ℕ) → a ≡ count_by (is_counted t x 0) t.nodes →
-    b ≡ count_by (is_counted t x 1) t.nodes → c ≡ count_by (is_counted t x 2) t.nodes →
-    d ≡ count_by (is_counted t x 3) t.nodes → e ≡ count_by (is_counted t x 4) t.nodes →
-    f ≡ count_by (is_counted t x 5) t.nodes → a ∷ b ∷ c ∷ d ∷ e ∷ f ∷ [] ≡ refusal_counts t x
-six_counts t x a b c d e f is_a is_b is_c is_d is_e is_f =
-    both a (count 0) (b ∷ c ∷ d ∷ e ∷ f ∷ []) _ (is_a ∙ counted t x 0)
-    (both b (count 1) (c ∷ d ∷ e ∷ f ∷ []) _ (is_b ∙ counted t x 1)
-    (both c (count 2) (d ∷ e ∷ f ∷ []) _ (is_c ∙ counted t x 2)
-    (both d (count 3) (e ∷ f ∷ []) _ (is_d ∙ counted t x 3)
-    (both e (count 4) (f ∷ []) _ (is_e ∙ counted t x 4)
-    (both f (count 5) [] _ (is_f ∙ counted t x 5) refl)))))
-  where
-    count : ℕ → ℕ
-    count k = count_by (is_refused_by t x k) (tested_nodes t x)
-
-    both : (m n : ℕ) (ms ns : List ℕ) → m ≡ n → ms ≡ ns → m ∷ ms ≡ n ∷ ns
-    both m n ms ns first rest = ap (λ k. k ∷ ms) first ∙ ap (λ ks. n ∷ ks) rest
+pub counts_are : (t : Tables) (x : Task) (counts : List ℕ) (left : List Node) → left ≡ [] →
+    IsTally (λ n. is_tested_on x.place n.id) (refused_by t x) t.nodes counts left → counts ≡ refusal_counts t x
+counts_are t x counts left none tally =
+    let tested : Node → Bool = λ n. is_tested_on x.place n.id in
+    ends tested (refused_by t x) t.nodes counts left
+    (λ k. count_by (is_refused_by t x k) (tested_nodes t x)) (λ k. count_both tested (is_refused_by t x k) t.nodes)
+    none tally
 
 pub best_is : (t : Tables) (x : Task) → least_by (node_cmp t x) None (filter (is_open t x) t.nodes) ≡ best_node t x
 unfolding is_open

@@ -11,4 +11,5 @@ pub mod Constraints
 pub mod KeyTexts
 pub mod Written
 pub mod Examples
+pub mod Tallies
 pub mod Filtering

@@ -1,6 +1,6 @@
 // Which filter refuses a task a node.
-ghost use Rattle.std.specs.Prelude.{◌≡◌, count_by, find, not, ℕ};
-ghost use Rattle.swarm_filters.specs.Tested.{is_counted, is_open};
+ghost use Rattle.std.specs.Prelude.{◌≡◌, find, not, ℕ};
+ghost use Rattle.swarm_filters.specs.Tested.{is_open};
 ghost use Rattle.swarm_objects.specs.Nodes.Filters.{is_tested_on, passes, refusal_counts, refused_by};
 ghost use Rattle.swarm_objects.specs.Usable.{IsUsable};
 
@@ -80,46 +80,21 @@ pub fn is_open<R: Rows>(rows: &R, task: &Task, node: &Node) -> bool
     is_open_by(rows, &Scans::new(rows), task, node)
 }
 
-// The node is tested, and the filter with this number refuses it the task.
-#[tactic(auto, unfolding(crate::specs::Tested::is_counted))]
-fn is_counted<R: Rows, L: Loads>(rows: &R, loads: &L, task: &Task, filter: u32, node: &Node) -> bool
-    requires usable { IsUsable (R.tables rows.now) }
-    requires same { L.tables loads.now ≡ R.tables rows.now }
-    ensures { result ≡ is_counted (R.tables rows.now) task.now filter node.now }
-{
-    is_tested_on(task.place, node.id) && first_refusal_by(rows, loads, node, task) == Some(filter)
-}
-
-// How many of the tested nodes the filter with this number refuses the task.
-#[tactic(auto, using(swarm_objects::proofs::Placing::refusal_steps))]
-fn refusals<R: Rows, L: Loads>(rows: &R, loads: &L, task: &Task, filter: u32) -> u64
-    requires usable { IsUsable (R.tables rows.now) }
-    requires same { L.tables loads.now ≡ R.tables rows.now }
-    ensures { let t = R.tables rows.now in result ≡ count_by (is_counted t task.now filter) t.nodes }
-{
-    let mut count = 0;
-    for node in nodes(rows) {
-        if is_counted(rows, loads, task, filter, node) {
-            count += 1;
-        }
-    }
-    count
-}
-
-/// As `counts`, where it is known what the tasks on each node come to.
+/// As `counts`, where it is known what the tasks on each node come to. Each tested node is asked once.
 pub fn counts_by<R: Rows, L: Loads>(rows: &R, loads: &L, task: &Task) -> [u64; 6]
     requires usable { IsUsable (R.tables rows.now) }
     requires same { L.tables loads.now ≡ R.tables rows.now }
     ensures { result ≡ refusal_counts (R.tables rows.now) task.now }
 {
-    [
-        refusals(rows, loads, task, 0),
-        refusals(rows, loads, task, 1),
-        refusals(rows, loads, task, 2),
-        refusals(rows, loads, task, 3),
-        refusals(rows, loads, task, 4),
-        refusals(rows, loads, task, 5),
-    ]
+    let mut counts = [0; 6];
+    for node in nodes(rows) {
+        if is_tested_on(task.place, node.id)
+            && let Some(filter) = first_refusal_by(rows, loads, node, task)
+        {
+            counts[filter as usize] += 1;
+        }
+    }
+    counts
 }
 
 /// For each filter, in order, how many of the tested nodes it refuses the task.

@@ -1,2 +1,3 @@
-mod Crowds
+mod Choosing
+mod Counting
 mod Steps

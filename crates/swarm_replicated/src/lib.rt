@@ -3,6 +3,7 @@
 #![tactic(auto)]
 
 mod changing;
+mod crowds;
 mod order;
 mod slots;
 

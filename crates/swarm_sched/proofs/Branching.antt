@@ -1,4 +1,5 @@
 -- A service's tasks of one branch: counted task by task, and the same for each node of the branch.
+use Rattle.std.proofs.Math.Seq.{take-length}
 use Rattle.std.proofs.Common.{◌≡◌, ◌∙◌, ◌+◌, ◌<◌, ℕ, Bool, List, None, Option, Some, [], ◌∷◌, ◌⊎◌, ap, arith, cond, eqb, false, get_or, inl, inr, length, refl, set, slice_index_or, subst, suc, sym, take, true, zero}
 use Rattle.std.proofs.lemmas.Bool.Decides.{nat_tests}
 use Rattle.std.proofs.lemmas.List.Sums.{sum_by-cons}
@@ -27,7 +28,7 @@ use Rattle.swarm_objects.specs.declared.nodes.Node.{Node}
 use Rattle.swarm_objects.specs.declared.tasks.Task.{Task}
 use Rattle.swarm_objects.specs.declared.templates.Key.TheVariants as key
 use Rattle.swarm_objects.specs.declared.templates.Key.{Key}
-use Rattle.swarm_sched.specs.Inside.Branches.{AreKnown, HasText, IsKnown, IsLoad, IsToldByText, Preferences, is_of_branch, load_at}
+use Rattle.swarm_sched.specs.Inside.Branches.{AreKnown, HasText, IsKnown, IsToldByText, Preferences, is_of_branch, load_at}
 use Rattle.swarm_sched.specs.declared.branches.Known.{Known}
 
 -- Task by task.
@@ -130,7 +131,7 @@ pub ruleset count_steps = (count_by_yes, count_by_no, branch_is, few_tasks, few_
 
 -- For each node of the branch.
 
-agree-alike : (keys : List Key) (a b m : Node) → agrees keys a b ≡ true → agrees keys a m ≡ agrees keys b m
+pub agree-alike : (keys : List Key) (a b m : Node) → agrees keys a b ≡ true → agrees keys a m ≡ agrees keys b m
 agree-alike [] a b m e = refl
 agree-alike (k ∷ keys) a b m e =
     let both = both_are (bytes_eq (key_value b k) (key_value a k)) (agrees keys a b) e in
@@ -144,7 +145,7 @@ branch-alike t service keys a b e =
 
 -- What is remembered.
 
-has-set : {X : Type 0} (xs : List X) (i : ℕ) (v x : X) → Has (set xs i v) x → Has xs x ⊎ (v ≡ x)
+pub has-set : {X : Type 0} (xs : List X) (i : ℕ) (v x : X) → Has (set xs i v) x → Has xs x ⊎ (v ≡ x)
 has-set [] i v x h = absurd h
 has-set (y ∷ xs) zero v x (inl e) = inr e
 has-set (y ∷ xs) zero v x (inr h) = inl (inr h)
@@ -160,7 +161,7 @@ known-more p all i k known is = record { each = λ o h. one o (has-set all i (So
     one None (inr new) = absurd cc
     one (Some j) (inr new) = let same : k ≡ j = cc in subst (IsKnown p) same is
 
-at_place : {X : Type 0} (xs : List X) (i : ℕ) (d : X) → i < length xs → Has xs (get_or xs i d)
+pub at_place : {X : Type 0} (xs : List X) (i : ℕ) (d : X) → i < length xs → Has xs (get_or xs i d)
 at_place [] i d lt = absurd (omega arith)
 at_place (x ∷ xs) zero d lt = inl refl
 at_place (x ∷ xs) (suc i) d lt = inr (at_place xs i d (omega arith))
@@ -175,6 +176,12 @@ pub remembered_is : (p : Preferences) (depth : ℕ) (k : Known) (n : Node) → I
 remembered_is p depth k n is deep alike =
     is.load ∙ ap (λ d. load_at p d k.node.now) deep
     ∙ branch-alike p.tables p.service (take depth p.keys) k.node.now n alike
+
+pub all_keys : (p : Preferences) (depth : ℕ) (n : Node) → depth ≡ length p.keys →
+    branch_load p.tables p.service p.keys n ≡ load_at p depth n
+all_keys p depth n is =
+    ap (λ keys. branch_load p.tables p.service keys n)
+    (sym (take-length p.keys) ∙ ap (λ k. take k p.keys) (sym is))
 
 -- Branches that are told by a text.
 

@@ -8,8 +8,6 @@ use Rattle.swarm_objects.proofs.Placing.{here_is, load_is}
 use Rattle.swarm_objects.proofs.RowLemmas.{Has-append_cases, Has-filter_cases, Has-map_cases, row_at-Some}
 use Rattle.swarm_objects.proofs.Tests.{both_are}
 use Rattle.swarm_objects.specs.ChangeLists.{apply_change, apply_changes}
-use Rattle.swarm_objects.specs.Nodes.BestNode.{load}
-use Rattle.swarm_objects.specs.Nodes.Filters.{here}
 use Rattle.swarm_objects.specs.Nodes.Holdings.{is_placed_on, task_cpu, task_mem, tasks_placed_on}
 use Rattle.swarm_objects.specs.Rows.{Has, drop_row, has_row, put_row, row_at, task_id}
 use Rattle.swarm_objects.specs.Same.{same_number}
@@ -317,7 +315,7 @@ changes-leave p (c ∷ cs) t misses =
 
 -- What is remembered after changes.
 
-totals-alike : (t u : Tables) (node service : ℕ) (s : Totals) → tasks_placed_on u node ≡ tasks_placed_on t node →
+pub totals-alike : (t u : Tables) (node service : ℕ) (s : Totals) → tasks_placed_on u node ≡ tasks_placed_on t node →
     AreTotals t node service s → AreTotals u node service s
 totals-alike t u node service s same are = (
   are.0 ∙ ap (sum_by task_cpu) (sym same),
@@ -373,3 +371,10 @@ changed_knows t cs all usable knows gone = record { each = λ m. go m (recalled 
         (changes-leave (is_placed_on m) cs t (λ c h. misses-known t all m k c usable is (gone.each c h))) so
 
 pub ruleset changed_steps = (fewer_knows, changed_knows)
+
+-- what is remembered of a node is so
+pub recalled_are : (t : Tables) (all : List (Option NodeTotals)) (node : ℕ) (k : NodeTotals) → Knows t all →
+    Some k ≡ recalled all node → AreTotals t node k.service k.totals
+recalled_are t all node k knows is = subst (λ o. IfSome o (λ j. AreTotals t node j.service j.totals)) (sym is) (knows.each node)
+
+pub ruleset recall_steps = (recalled_are)

@@ -1,4 +1,8 @@
 -- Words of private contracts.
 pub mod Branches
+pub mod ClassLoads
+pub mod Classes
 pub mod Known
+pub mod KnownNodes
+pub mod Placing
 pub mod Totals

@@ -145,15 +145,13 @@ impl<'a, R: Rows> Branches<'a, R> {
         None
     }
 
-    // Counts the tasks in the node's branch, and remembers them.
-    fn counted(&mut self, depth: usize, node: &'a Node) -> u64
-        requires { depth ≤ length self.old.keys }
-        ensures load { result ≡ load_at self.old depth node.now }
-        ensures same { self.new ≡ self.old }
+    // Remembers so many tasks in the node's branch.
+    fn remember(&mut self, depth: usize, node: &'a Node, load: u64)
+        requires deep { depth ≤ length self.old.keys }
+        requires load { load ≡ load_at self.old depth node.now }
+        ensures { self.new ≡ self.old }
     {
-        let keys = &self.keys[..depth];
-        let load = branch_load(self.rows, self.service, keys, node);
-        let text = last_text(keys, node);
+        let text = last_text(&self.keys[..depth], node);
         let next = self.next;
         let all = &mut self.known[..];
         all[next] = Some(Known {
@@ -163,6 +161,26 @@ impl<'a, R: Rows> Branches<'a, R> {
             load,
         });
         self.next = (next + 1) % WIDTH;
+    }
+
+    /// Remembers so many tasks in the node's branch by all preferences.
+    #[tactic(auto, using(crate::proofs::Branching::all_keys))]
+    pub fn tell(&mut self, node: &'a Node, load: u64)
+        requires { let p = self.old in load ≡ branch_load p.tables p.service p.keys node.now }
+        ensures { self.new ≡ self.old }
+    {
+        let depth = self.keys.len();
+        self.remember(depth, node, load);
+    }
+
+    // Counts the tasks in the node's branch, and remembers them.
+    fn counted(&mut self, depth: usize, node: &'a Node) -> u64
+        requires { depth ≤ length self.old.keys }
+        ensures load { result ≡ load_at self.old depth node.now }
+        ensures same { self.new ≡ self.old }
+    {
+        let load = branch_load(self.rows, self.service, &self.keys[..depth], node);
+        self.remember(depth, node, load);
         load
     }
 

@@ -11,6 +11,8 @@ ghost use Rattle.swarm_sched.specs.Inside.Totals.{AreTotals};
 use crate::totals::{Totals, count_up};
 use std::alloc::Global;
 use std::marker::Model;
+use swarm_objects::loads::Loads;
+use swarm_objects::placed::{load, reserved_cpu, reserved_mem};
 use swarm_objects::{Change, Id, Rows, Task};
 
 // More than a cluster has nodes.
@@ -248,6 +250,64 @@ impl KnownTotals {
         match self.recall(node) {
             Some(known) => known.totals.load,
             None => self.totals(rows, node, service).load,
+        }
+    }
+}
+
+/// What is remembered of nodes, and scans of the tasks of those of which nothing is. Contracts see the tables that are read.
+#[derive(Drop)]
+pub struct KnownLoads<'a, R: Rows> {
+    rows: &'a R,
+    known: &'a KnownTotals,
+}
+
+impl<'a, R: Rows> Model for KnownLoads<'a, R> {
+    ghost use Rattle.swarm_objects.specs.World.{Tables};
+    ghost use Rattle.swarm_objects.specs.Usable.{IsUsable};
+    ghost use Rattle.swarm_sched.specs.Inside.Known.{Knows};
+
+    ghost Value = { Tables };
+
+    ghost view = { λ k. R.tables k.rows.now };
+
+    ghost invariant = { λ k. IsUsable (R.tables k.rows.now) × Knows (R.tables k.rows.now) k.known.now };
+}
+
+impl<'a, R: Rows> KnownLoads<'a, R> {
+    /// What is known of these rows.
+    pub fn new(rows: &'a R, known: &'a KnownTotals) -> KnownLoads<'a, R>
+        requires usable { IsUsable (R.tables rows.now) }
+        requires knows { Knows (R.tables rows.now) known.now }
+        ensures { result ≡ R.tables rows.now }
+    {
+        KnownLoads { rows, known }
+    }
+}
+
+impl<'a, R: Rows> Loads for KnownLoads<'a, R> {
+    ghost tables = { λ t. t };
+
+    #[tactic(auto, using(crate::proofs::Knowing::recall_steps))]
+    fn load(&self, node: Id) -> u64 {
+        match self.known.recall(node) {
+            Some(known) => known.totals.load,
+            None => load(self.rows, node),
+        }
+    }
+
+    #[tactic(auto, using(crate::proofs::Knowing::recall_steps))]
+    fn cpu(&self, node: Id) -> u128 {
+        match self.known.recall(node) {
+            Some(known) => known.totals.cpu,
+            None => reserved_cpu(self.rows, node),
+        }
+    }
+
+    #[tactic(auto, using(crate::proofs::Knowing::recall_steps))]
+    fn mem(&self, node: Id) -> u128 {
+        match self.known.recall(node) {
+            Some(known) => known.totals.mem,
+            None => reserved_mem(self.rows, node),
         }
     }
 }

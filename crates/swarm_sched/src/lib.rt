@@ -3,9 +3,12 @@
 
 mod branches;
 mod changing;
+mod class_loads;
+mod classes;
 mod filters;
 mod keys;
 mod known;
+mod known_nodes;
 mod placing;
 mod totals;
 
@@ -14,13 +17,15 @@ ghost use Rattle.swarm_objects.specs.Loops.Scheduler.{is_to_drop, is_to_place, p
 ghost use Rattle.swarm_objects.specs.Rows.{first_of};
 ghost use Rattle.swarm_objects.specs.Usable.{IsUsable};
 ghost use Rattle.swarm_sched.specs.Inside.Known.{Knows};
+ghost use Rattle.swarm_sched.specs.Inside.KnownNodes.{KnowsNodes};
 
+use crate::known::{KnownLoads, KnownTotals};
 pub use changing::changes;
 pub use filters::Filters;
 pub use keys::{agrees, value_cmp};
-pub use known::KnownTotals;
+pub use known_nodes::KnownNodes;
 pub use placing::{best_node, best_node_by};
-use swarm_filters::counts;
+use swarm_filters::counts_by;
 use swarm_objects::walks::tasks;
 use swarm_objects::{Duty, Note, Rows, Task};
 
@@ -39,11 +44,13 @@ pub fn is_to_place(task: &Task) -> bool
 }
 
 // The note of a task that no node admits is to say why, unless it does.
-fn explanation<R: Rows>(rows: &R, task: &Task) -> Option<Duty>
-    requires { IsUsable (R.tables rows.now) }
+fn explanation<R: Rows>(rows: &R, known: &KnownTotals, task: &Task) -> Option<Duty>
+    requires usable { IsUsable (R.tables rows.now) }
+    requires knows { Knows (R.tables rows.now) known.now }
     ensures { result ≡ first_of (placing (R.tables rows.now) task.now None) }
 {
-    if Note::Filters(counts(rows, task)) == task.note {
+    let loads = KnownLoads::new(rows, known);
+    if Note::Filters(counts_by(rows, &loads, task)) == task.note {
         None
     } else {
         Some(Duty::Explain(task.id))
@@ -51,11 +58,11 @@ fn explanation<R: Rows>(rows: &R, task: &Task) -> Option<Duty>
 }
 
 /// What there is to do about the task.
-pub fn schedule<R: Rows>(rows: &R, known: &mut KnownTotals, task: &Task) -> Option<Duty>
+pub fn schedule<R: Rows>(rows: &R, known: &mut KnownNodes, task: &Task) -> Option<Duty>
     requires usable { IsUsable (R.tables rows.now) }
-    requires knows { Knows (R.tables rows.now) known.old }
+    requires knows { KnowsNodes (R.tables rows.now) known.old }
     ensures first { result ≡ first_of (schedule (R.tables rows.now) task.now) }
-    ensures knows { Knows (R.tables rows.now) known.new }
+    ensures knows { KnowsNodes (R.tables rows.now) known.new }
 {
     if is_to_drop(task) {
         return Some(Duty::Drop(task.id));
@@ -65,7 +72,7 @@ pub fn schedule<R: Rows>(rows: &R, known: &mut KnownTotals, task: &Task) -> Opti
     }
     match best_node(rows, known, task) {
         Some(node) => Some(Duty::Place(task.id, node.id)),
-        None => explanation(rows, task),
+        None => explanation(rows, &known.totals, task),
     }
 }
 
@@ -74,7 +81,7 @@ pub fn least<R: Rows>(rows: &R) -> Option<Duty>
     requires { IsUsable (R.tables rows.now) }
     ensures { result ≡ first_of (scheduler (R.tables rows.now)) }
 {
-    let mut known = KnownTotals::none();
+    let mut known = KnownNodes::none();
     for task in tasks(rows) {
         if let Some(duty) = schedule(rows, &mut known, task) {
             return Some(duty);

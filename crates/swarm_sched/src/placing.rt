@@ -1,19 +1,26 @@
 // The best node for a task.
-ghost use Rattle.std.specs.Prelude.{◌≡◌, ◌↔◌, IfSome, IsTrue, Some, if◌then◌else◌, is_some};
 ghost use Rattle.std.specs.Option.{option_copied, option_map};
 ghost use Rattle.std.specs.Ordering.{nat_cmp, ordering_then};
+ghost use Rattle.std.specs.Prelude.{◌≡◌, ◌↔◌, ◌⊎◌, ◌<◌, IfSome, IsTrue, None, Some, get_or, is_some, length, set};
 ghost use Rattle.std.specs.declared.cmp.Ordering.TheVariants.{Less};
-ghost use Rattle.swarm_objects.specs.Nodes.BestNode.{best_node, node_cmp};
-ghost use Rattle.swarm_objects.specs.Rows.{keep_least, node_id};
+ghost use Rattle.swarm_filters.specs.Tested.{is_open};
+ghost use Rattle.swarm_objects.specs.Nodes.BestNode.{best_node};
+ghost use Rattle.swarm_objects.specs.Rows.{node_id, row_at};
 ghost use Rattle.swarm_objects.specs.Usable.{IsUsable};
 ghost use Rattle.swarm_sched.specs.Inside.Branches.{preferences};
+ghost use Rattle.swarm_sched.specs.Inside.Classes.{AreSorted, IsOrder};
 ghost use Rattle.swarm_sched.specs.Inside.Known.{Knows};
+ghost use Rattle.swarm_sched.specs.Inside.KnownNodes.{KnowsNodes};
+ghost use Rattle.swarm_sched.specs.Inside.Placing.{comes_first};
 ghost use Rattle.swarm_sched.specs.Inside.Totals.{AreTotals};
 ghost use Rattle.swarm_spread.specs.Counts.{IsFor, Stands};
 
 use crate::branches::Branches;
+use crate::class_loads::branches_of;
+use crate::classes::{CLASSES, ClassedNode};
 use crate::filters::Filters;
 use crate::known::KnownTotals;
+use crate::known_nodes::KnownNodes;
 use crate::totals::{OneNode, Totals};
 use std::cmp::Ordering;
 use swarm_filters::is_open_by;
@@ -23,70 +30,115 @@ use swarm_objects::{Id, Node, Rows, Task};
 use swarm_spread::SpreadTree;
 
 // Which of two nodes comes first, by the placement preferences and then by what their tasks come to.
-fn node_cmp(spread: Ordering, a: &Node, b: &Node, one: Totals, other: Totals) -> Ordering
+fn node_cmp(spread: Ordering, a: Id, b: Id, one: Totals, other: Totals) -> Ordering
     ensures { result ≡ ordering_then spread (ordering_then (nat_cmp one.here other.here)
-        (ordering_then (nat_cmp one.load other.load) (nat_cmp a.now.id b.now.id))) }
+        (ordering_then (nat_cmp one.load other.load) (nat_cmp a b))) }
 {
     spread
         .then(one.here.cmp(&other.here))
         .then(one.load.cmp(&other.load))
-        .then(a.id.cmp(&b.id))
+        .then(a.cmp(&b))
 }
 
 // Whether a node with so many tasks may come before one that has none of the service's: only by fewer of all services, or by
 // its id.
-fn may_come_first(load: u64, node: &Node, best: &Node, held: Totals) -> bool
-    ensures { IsTrue result ↔
-        (ordering_then (nat_cmp load held.load) (nat_cmp node.now.id best.now.id) ≡ Less) }
+fn may_come_first(load: u64, node: Id, best: Id, held: Totals) -> bool
+    ensures { IsTrue result ↔ (ordering_then (nat_cmp load held.load) (nat_cmp node best) ≡ Less) }
 {
-    load.cmp(&held.load).then(node.id.cmp(&best.id)) == Ordering::Less
+    load.cmp(&held.load).then(node.cmp(&best)) == Ordering::Less
 }
 
 // What the node's tasks come to, where it comes before the best one so far, or is the first. They are counted only where
-// neither the placement preferences nor the tasks of all services decide it.
-fn if_better<'a, R: Rows>(
-    branches: &mut Branches<'a, R>,
+// neither the placement preferences, by which it compares so, nor the tasks of all services decide it.
+fn if_better<R: Rows>(
     known: &mut KnownTotals,
     rows: &R,
-    task: &Task,
-    best: Option<&'a Node>,
+    service: Id,
+    spread: Ordering,
+    best: Option<&Node>,
     held: Totals,
-    node: &'a Node,
+    node: Id,
 ) -> Option<Totals>
     requires usable { IsUsable (R.tables rows.now) }
-    requires own { branches.old ≡ preferences (R.tables rows.now) task.now }
     requires knows { Knows (R.tables rows.now) known.old }
-    requires held { IfSome best (λ b. AreTotals (R.tables rows.now) b.now.id task.now.service held) }
-    ensures totals { IfSome result (AreTotals (R.tables rows.now) node.now.id task.now.service) }
-    ensures order { let order = node_cmp (R.tables rows.now) task.now in
-        keep_least order (option_copied best.entry) node.now
-        ≡ (if is_some result then Some node.now else option_copied best.entry) }
-    ensures same { branches.new ≡ branches.old }
+    requires held { IfSome best (λ b. AreTotals (R.tables rows.now) b.now.id service held) }
+    ensures totals { IfSome result (AreTotals (R.tables rows.now) node service) }
+    ensures order { is_some result
+        ≡ comes_first (R.tables rows.now) service spread node (option_copied best.entry) }
     ensures knows { Knows (R.tables rows.now) known.new }
 {
     let Some(best) = best else {
-        return Some(known.totals(rows, node.id, task.service));
+        return Some(known.totals(rows, node, service));
     };
-    let spread = branches.spread_cmp(node, best);
     if spread == Ordering::Greater {
         return None;
     }
     if spread == Ordering::Equal && held.here == 0 {
-        let load = known.load(rows, node.id, task.service);
-        if !may_come_first(load, node, best, held) {
+        let load = known.load(rows, node, service);
+        if !may_come_first(load, node, best.id, held) {
             return None;
         }
     }
-    let totals = known.totals(rows, node.id, task.service);
-    if node_cmp(spread, node, best, totals, held) == Ordering::Less {
+    let totals = known.totals(rows, node, service);
+    if node_cmp(spread, node, best.id, totals, held) == Ordering::Less {
         return Some(totals);
     }
     None
 }
 
-/// The best of the nodes that admit the task; None exactly where none does. What is known of the nodes' tasks isn't counted
-/// again.
-pub fn best_node<'a, R: Rows>(rows: &'a R, known: &mut KnownTotals, task: &Task) -> Option<&'a Node>
+// How the node compares with the best one so far by the placement preferences.
+fn spread_order<'a, R: Rows>(
+    branches: &mut Branches<'a, R>,
+    best: Option<&'a Node>,
+    node: &'a Node,
+) -> Ordering
+    ensures order { IsOrder branches.old result node.now (option_copied best.entry) }
+    ensures same { branches.new ≡ branches.old }
+{
+    match best {
+        Some(best) => branches.spread_cmp(node, best),
+        None => Ordering::Less,
+    }
+}
+
+// The same, remembered for the node's class.
+fn class_order<'a, R: Rows>(
+    branches: &mut Branches<'a, R>,
+    orders: &mut [Option<Ordering>],
+    rows: &'a R,
+    best: Option<&'a Node>,
+    entry: ClassedNode,
+) -> Ordering
+    requires { entry.class < length orders.old }
+    ensures order { (get_or orders.old entry.class None ≡ Some result)
+        ⊎ IfSome (row_at node_id entry.id (R.tables rows.now).nodes)
+        (λ n. IsOrder branches.old result n (option_copied best.entry)) }
+    ensures orders { orders.new ≡ set orders.old entry.class (Some result) }
+    ensures same { branches.new ≡ branches.old }
+{
+    if let Some(order) = orders[entry.class] {
+        return order;
+    }
+    let order = match rows.node(entry.id) {
+        Some(node) => spread_order(branches, best, node),
+        None => Ordering::Less,
+    };
+    orders[entry.class] = Some(order);
+    order
+}
+
+// The node admits the task, where it is tested. What its tasks come to is known.
+fn is_open_with<R: Rows>(rows: &R, task: &Task, node: &Node, totals: Totals) -> bool
+    requires usable { IsUsable (R.tables rows.now) }
+    requires totals { AreTotals (R.tables rows.now) node.now.id task.now.service totals }
+    ensures { result ≡ is_open (R.tables rows.now) task.now node.now }
+{
+    let loads = OneNode::new(rows, node.id, task.service, totals);
+    is_open_by(rows, &loads, task, node)
+}
+
+// The best of all nodes, one by one.
+fn best_of_all<'a, R: Rows>(rows: &'a R, known: &mut KnownTotals, task: &Task) -> Option<&'a Node>
     requires usable { IsUsable (R.tables rows.now) }
     requires knows { Knows (R.tables rows.now) known.old }
     ensures best { option_copied result ≡ best_node (R.tables rows.now) task.now }
@@ -96,16 +148,66 @@ pub fn best_node<'a, R: Rows>(rows: &'a R, known: &mut KnownTotals, task: &Task)
     let mut best = None;
     let mut held = Totals::NONE;
     for node in nodes(rows) {
-        let Some(totals) = if_better(&mut branches, known, rows, task, best, held, node) else {
+        let spread = spread_order(&mut branches, best, node);
+        let Some(totals) = if_better(known, rows, task.service, spread, best, held, node.id) else {
             continue;
         };
-        let loads = OneNode::new(rows, node.id, task.service, totals);
-        if is_open_by(rows, &loads, task, node) {
+        if is_open_with(rows, task, node, totals) {
             best = Some(node);
             held = totals;
         }
     }
     best
+}
+
+// The same, where the nodes are sorted. The row of a node that its class decides isn't looked at.
+fn best_of_classes<'a, R: Rows>(
+    rows: &'a R,
+    known: &mut KnownTotals,
+    sorted: &[ClassedNode],
+    task: &Task,
+) -> Option<&'a Node>
+    requires usable { IsUsable (R.tables rows.now) }
+    requires knows { Knows (R.tables rows.now) known.old }
+    requires sorted { AreSorted (R.tables rows.now).nodes task.now.template.spread sorted.now }
+    ensures best { option_copied result ≡ best_node (R.tables rows.now) task.now }
+    ensures knows { Knows (R.tables rows.now) known.new }
+{
+    let mut branches = branches_of(rows, task, sorted);
+    let mut orders = [None; CLASSES];
+    let mut best = None;
+    let mut held = Totals::NONE;
+    for entry in sorted {
+        let spread = class_order(&mut branches, &mut orders, rows, best, *entry);
+        let Some(totals) = if_better(known, rows, task.service, spread, best, held, entry.id) else {
+            continue;
+        };
+        let Some(node) = rows.node(entry.id) else {
+            continue;
+        };
+        if is_open_with(rows, task, node, totals) {
+            best = Some(node);
+            held = totals;
+            orders = [None; CLASSES];
+        }
+    }
+    best
+}
+
+/// The best of the nodes that admit the task; None exactly where none does. What is known of the nodes' tasks isn't
+/// counted again.
+pub fn best_node<'a, R: Rows>(rows: &'a R, known: &mut KnownNodes, task: &Task) -> Option<&'a Node>
+    requires usable { IsUsable (R.tables rows.now) }
+    requires knows { KnowsNodes (R.tables rows.now) known.old }
+    ensures best { option_copied result ≡ best_node (R.tables rows.now) task.now }
+    ensures knows { KnowsNodes (R.tables rows.now) known.new }
+{
+    let keys = &task.template.spread;
+    known.classes.ask(rows, keys);
+    match known.classes.nodes_for(keys) {
+        Some(sorted) => best_of_classes(rows, &mut known.totals, sorted, task),
+        None => best_of_all(rows, &mut known.totals, task),
+    }
 }
 
 /// Its id, by a tree that counts for the task, and where it is known what the tasks on each node come to.

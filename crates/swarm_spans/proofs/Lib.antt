@@ -1,5 +1,6 @@
 pub mod Alike
 pub mod Blocked
+pub mod Coming
 pub mod Firsts
 pub mod Grown
 pub mod InSpans

@@ -19,6 +19,10 @@ empty = record { after = 2 ^ 64 - 1; high = 0 }
 abbrev pub full : Span
 full = record { after = 0; high = 2 ^ 64 - 1 }
 
+-- each number from this one on
+abbrev pub onwards : ℕ → Span
+onwards id = record { after = id - 1; high = 2 ^ 64 - 1 }
+
 abbrev pub with_id : Span → ℕ → Span
 with_id span id = record { after = min span.after (id - 1); high = max span.high id }
 

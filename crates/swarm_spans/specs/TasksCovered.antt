@@ -1,10 +1,12 @@
 -- All spans of the lines over single tasks and over nodes, and what they cover.
-use Rattle.std.specs.Prelude.{List, ℕ, ◌≡◌, ◌⊎◌}
+use Rattle.std.specs.Prelude.{List, ℕ, ◌<◌, ◌≡◌, ◌≤◌, ◌⊎◌}
 use Rattle.swarm_objects.specs.Loops.Scheduler.{schedule}
-use Rattle.swarm_objects.specs.Rows.{row_at, session_node}
+use Rattle.swarm_objects.specs.Rows.{Has, row_at, service_id, session_node}
 use Rattle.swarm_objects.specs.Usable.{IsUsable}
 use Rattle.swarm_objects.specs.World.{Tables}
+use Rattle.swarm_objects.specs.declared.services.Service.{Service}
 use Rattle.swarm_objects.specs.declared.sessions.NodeSession.{NodeSession}
+use Rattle.swarm_objects.specs.declared.tasks.Task.{Task}
 use Rattle.swarm_spans.specs.Lines.{addresses, deletes, expires, goes, notes, olds, orphans, raises, rejects, restarts, to_allocate, to_schedule, to_wait}
 use Rattle.swarm_spans.specs.Spans.{CoversNodes, CoversTasks}
 use Rattle.swarm_spans.specs.declared.task_spans.TaskSpans.{TaskSpans}
@@ -47,3 +49,20 @@ at_time clock t = record t { clock = clock }
 abbrev pub TimeLaw : TaskSpans → TaskSpans → Type 0
 TimeLaw spans wide =
     (t : Tables) (clock : ℕ) → IsUsable t → AreTasksCovered t spans → AreTasksCovered (at_time clock t) wide
+
+-- with these services, of which some may be new
+abbrev pub with_services : ℕ → List Service → Tables → Tables
+with_services next_id services t = record t { next_id = next_id; services = services }
+
+-- each service is as it was, but for new ones from this id on, of which there is no task yet
+pub record HasNewServices (first next_id : ℕ) (t : Tables) (services : List Service) : Type 0 where
+  pub others : (id : ℕ)
+      → (row_at service_id id services ≡ row_at service_id id t.services) ⊎ ((first ≤ id) × (id < next_id))
+  pub tasks : (x : Task) → Has t.tasks x → x.service < first
+
+-- the ones cover what the others do, where services come
+abbrev pub ServicesLaw : TaskSpans → TaskSpans → Type 0
+ServicesLaw spans wide =
+    (first : ℕ) (t : Tables) (next_id : ℕ) (services : List Service) → IsUsable t
+    → HasNewServices first next_id t services → AreTasksCovered t spans
+    → AreTasksCovered (with_services next_id services t) wide

@@ -4,12 +4,12 @@ ghost use Rattle.std.specs.List.{list_any};
 ghost use Rattle.swarm_objects.specs.ChangeLists.{apply_changes};
 ghost use Rattle.swarm_objects.specs.Usable.{IsUsable};
 ghost use Rattle.swarm_objects.specs.World.{Tables};
-ghost use Rattle.swarm_spans.specs.Services.Touches.{AreCovered, Joins, JoinsForNodes, JoinsForPorts, ServiceTimeLaw, puts_node, puts_service};
+ghost use Rattle.swarm_spans.specs.Services.Touches.{AreCovered, Joins, JoinsForNodes, JoinsForPorts, NewServicesLaw, ServiceTimeLaw, puts_node, puts_service};
 
 use crate::service_touches::{Places, Updates, add_shifted};
 use crate::service_trims::add_remains;
 use crate::span::Span;
-use swarm_objects::{Change, Rows};
+use swarm_objects::{Change, Id, Rows};
 
 /// A span for each line over services, and for the line over old tasks.
 #[derive(Clone, Copy, Drop)]
@@ -137,6 +137,23 @@ impl ServiceSpans {
         ServiceSpans {
             updates: Span::full(),
             ..self
+        }
+    }
+
+    /// With services that come from this id on, and nothing else changes. Their ports may leave others fewer numbers.
+    pub fn with_services(self, first: Id) -> ServiceSpans
+        ensures goes_on { NewServicesLaw first self result }
+    {
+        let new = Span::onwards(first);
+        ServiceSpans {
+            downs: joined(self.downs, new),
+            creates: joined(self.creates, new),
+            leaves: joined(self.leaves, new),
+            comes: joined(self.comes, new),
+            job_creates: joined(self.job_creates, new),
+            ports: Span::full(),
+            updates: joined(self.updates, new),
+            trims: self.trims,
         }
     }
 }

@@ -2,16 +2,16 @@
 ghost use Rattle.std.specs.Prelude.{◌≡◌, ◌↔◌, IsTrue};
 ghost use Rattle.swarm_objects.specs.ChangeLists.{apply_changes};
 ghost use Rattle.swarm_objects.specs.Rows.{row_at, task_id};
-ghost use Rattle.swarm_objects.specs.Services.Runs.{has_open_run};
+ghost use Rattle.swarm_objects.specs.Services.Runs.{counts_as_failure, has_open_run};
 ghost use Rattle.swarm_objects.specs.World.{Tables};
 ghost use Rattle.swarm_objects.specs.declared.tasks.Task.{Task as TaskRow};
-ghost use Rattle.swarm_spans.specs.Services.Standings.{Progress, Standing, is_updated, progress, standing, stands_alike};
+ghost use Rattle.swarm_spans.specs.Services.Standings.{Progress, Standing, goes_alike, is_updated, progress, standing, stands_alike};
 ghost use Rattle.swarm_spans.specs.Services.Steps.{HasServiceOf, HasShifted};
 ghost use Rattle.swarm_spans.specs.Services.Touches.{HasPut, HasTouched};
 ghost use Rattle.swarm_spans.specs.Spans.{IsWider};
 
 use crate::span::Span;
-use swarm_objects::{Change, Id, Rows, RunStatus, Same, Service, Task, Template};
+use swarm_objects::{Change, Id, Rows, RunStatus, Same, Service, Task, TaskState, Template};
 
 /// What a line over services sees of a service's task.
 pub trait Sight {
@@ -28,7 +28,7 @@ pub trait Sight {
 /// Which places are held: no line but that of updates sees more.
 pub struct Places;
 
-/// Which places are dirty, and all of a task whose service has an update under way.
+/// Which places are dirty, and of a task whose service has an update under way since when it runs or has failed.
 pub struct Updates;
 
 // The two stand alike in their service's places.
@@ -81,14 +81,37 @@ fn has_template(task: &Task, template: &Template) -> bool
     task.template.same(template)
 }
 
+fn counts_as_failure(state: TaskState) -> bool
+    ensures { result ≡ counts_as_failure state }
+{
+    matches!(
+        state,
+        TaskState::Rejected | TaskState::Complete | TaskState::Failed
+    )
+}
+
+// An update reads the same of both. It may say no of two that run and failed alike.
+fn goes_alike(one: &Task, two: &Task) -> bool
+    ensures { result ≡ goes_alike one.now two.now }
+{
+    one.born == two.born
+        && one.created == two.created
+        && one.is_below_running() == two.is_below_running()
+        && one.is_running() == two.is_running()
+        && counts_as_failure(one.state) == counts_as_failure(two.state)
+        && (one.since == two.since || !(two.is_running() || counts_as_failure(two.state)))
+}
+
 impl Sight for Updates {
     ghost Seen = { Progress };
 
     ghost see = { λ t x. progress t x };
 
-    #[tactic(auto, using(crate::proofs::Services::Tests::go_so))]
+    #[tactic(auto, using(crate::proofs::Services::Tests::go_steps))]
     fn is_same<R: Rows>(rows: &R, old: &Task, new: &Task) -> bool {
-        stands_alike(old, new) && !is_updated(rows, new) && has_template(old, &new.template)
+        stands_alike(old, new)
+            && has_template(old, &new.template)
+            && (!is_updated(rows, new) || goes_alike(old, new))
     }
 }
 

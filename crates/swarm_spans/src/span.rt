@@ -1,6 +1,6 @@
 // Numbers from one to another.
 ghost use Rattle.std.specs.Prelude.{◌≡◌, ◌==◌, ◌-◌, ◌^◌};
-ghost use Rattle.swarm_spans.specs.Spans.{beyond, empty, full, IsWider, with_id};
+ghost use Rattle.swarm_spans.specs.Spans.{beyond, empty, full, IsWider, onwards, with_id};
 
 use swarm_objects::Id;
 
@@ -29,6 +29,16 @@ impl Span {
     {
         Span {
             after: 0,
+            high: u64::MAX,
+        }
+    }
+
+    /// Each number from this one on.
+    pub fn onwards(id: Id) -> Span
+        ensures { result ≡ onwards id }
+    {
+        Span {
+            after: id.saturating_sub(1),
             high: u64::MAX,
         }
     }

@@ -11,7 +11,7 @@ ghost use Rattle.swarm_spans.specs.Kept.{AlikeFor};
 ghost use Rattle.swarm_spans.specs.Lines.{AlikeCounting, AlikeThere, is_to_schedule, raises};
 ghost use Rattle.swarm_spans.specs.Moved.{moves};
 ghost use Rattle.swarm_spans.specs.Spans.{IsWider};
-ghost use Rattle.swarm_spans.specs.TasksCovered.{AreTasksCovered, SessionLaw, TimeLaw};
+ghost use Rattle.swarm_spans.specs.TasksCovered.{AreTasksCovered, ServicesLaw, SessionLaw, TimeLaw};
 ghost use Rattle.swarm_spans.specs.Touched.{TouchesAll, TouchesAllReady};
 
 use crate::blocking::{touch_blocked, touch_moved};
@@ -212,6 +212,22 @@ impl TaskSpans {
             orphans: every,
             raises,
             schedules,
+            ..self
+        }
+    }
+
+    /// With what services that come concern, and nothing else changes: tasks that wait for port numbers, of which there are
+    /// fewer to give out.
+    pub fn with_services(self) -> TaskSpans
+        ensures goes_on { ServicesLaw self result }
+    {
+        let mut addresses = self.addresses;
+        addresses.join(self.to_allocate);
+        let mut notes = self.notes;
+        notes.join(self.to_allocate);
+        TaskSpans {
+            addresses,
+            notes,
             ..self
         }
     }

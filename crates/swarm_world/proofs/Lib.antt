@@ -13,6 +13,7 @@ pub mod AsksIn
 pub mod Beginning
 pub mod BesideOps
 pub mod Choosing
+pub mod Coming
 pub mod Committing
 pub mod Dropping
 pub mod Entering

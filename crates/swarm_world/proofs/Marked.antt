@@ -13,8 +13,7 @@ use Rattle.swarm_objects.specs.Rows.{RisesFrom, agent_node}
 use Rattle.swarm_objects.specs.Usable.{IsUsable}
 use Rattle.swarm_objects.specs.World.{Tables}
 use Rattle.swarm_objects.specs.declared.agents.NodeAgent.{NodeAgent}
-use Rattle.swarm_sched.specs.Inside.Known.{Knows}
-use Rattle.swarm_sched.specs.declared.known.NodeTotals.{NodeTotals}
+use Rattle.swarm_sched.specs.Inside.KnownNodes.{KnowsNodes}
 use Rattle.swarm_spans.specs.Services.Touches.{AreCovered}
 use Rattle.swarm_spans.specs.Spans.{Covers, full, has_duty, is_in}
 use Rattle.swarm_spans.specs.TasksCovered.{AreTasksCovered}
@@ -70,34 +69,30 @@ agents_full p spans duties tells is =
           (full_covers agent_node (wants_message w) high p.agents (agents-between p is) small);
     }
 
--- where nothing is remembered
-knows-none : (t : Tables) (all : List (Option NodeTotals)) → all ≡ [] → Knows t all
-knows-none t all none = subst (Knows t) (sym none) (record { each = λ n. tt })
-
 pub all_are_marked : (m : Marks) → ((t : Tables) → IsUsable t → AreTasksCovered t m.tasks)
-    → ((t : Tables) → IsUsable t → AreCovered t m.services) → m.totals ≡ [] → m.agents.duties ≡ full → m.agents.tells ≡ full
+    → ((t : Tables) → IsUsable t → AreCovered t m.services) → ((t : Tables) → KnowsNodes t m.nodes) → m.agents.duties ≡ full → m.agents.tells ≡ full
     → (p : Parts) → HasHistory p → IsMarked m p
-all_are_marked m tasks services totals duties tells p is =
+all_are_marked m tasks services nodes duties tells p is =
     let usable = usable_rows p.records (are_usable p is) in
     record {
       rows = record {
         tasks = tasks (tables_of p.records) usable;
         services = services (tables_of p.records) usable;
-        totals = knows-none (tables_of p.records) m.totals totals;
+        nodes = nodes (tables_of p.records);
       };
       agents = agents_full p m.agents duties tells is;
     }
 
 -- the same spans, where nothing is remembered
 pub marked_apart : (m n : Marks) (p : Parts) → n.tasks ≡ m.tasks → n.services ≡ m.services → n.agents ≡ m.agents
-    → n.totals ≡ [] → IsMarked m p → IsMarked n p
-marked_apart m n p tasks services agents totals are =
+    → ((t : Tables) → KnowsNodes t n.nodes) → IsMarked m p → IsMarked n p
+marked_apart m n p tasks services agents nodes are =
     let t = tables_of p.records in
     record {
       rows = record {
         tasks = subst (AreTasksCovered t) (sym tasks) are.rows.tasks;
         services = subst (AreCovered t) (sym services) are.rows.services;
-        totals = knows-none t n.totals totals;
+        nodes = nodes t;
       };
       agents = subst (CoversAgents p) (sym agents) are.agents;
     }

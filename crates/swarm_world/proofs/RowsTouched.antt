@@ -14,7 +14,8 @@ use Rattle.swarm_objects.specs.declared.rows.Change.{Change}
 use Rattle.swarm_objects.specs.declared.sessions.NodeSession.{NodeSession}
 use Rattle.swarm_objects.specs.declared.tasks.Task.{Task}
 use Rattle.swarm_sessions.specs.OnRecord.{OnRecord, tables_with}
-use Rattle.swarm_sched.specs.Inside.Known.{Knows}
+use Rattle.swarm_sched.proofs.KnownAlike.{knows_alike}
+use Rattle.swarm_sched.specs.Inside.KnownNodes.{KnowsNodes}
 use Rattle.swarm_spans.proofs.Services.GoesOn.{come_goes_on, create_goes_on, down_goes_on, leave_goes_on, next_goes_on, port_goes_on}
 use Rattle.swarm_spans.proofs.Services.Trimmed.{trim_goes_on}
 use Rattle.swarm_spans.proofs.Services.Updated.{update_goes_on}
@@ -40,10 +41,10 @@ pub same_rows : (m : Marks) (r s : Records) → s ≡ r → AreMarked m (tables_
 same_rows m r s same = subst (λ (x : Records). AreMarked m (tables_of x)) (sym same)
 
 -- where the spans over the rows, and what is remembered, are the same
-pub same_spans : (m n : Marks) (t : Tables) → n.tasks ≡ m.tasks → n.services ≡ m.services → n.totals ≡ m.totals
+pub same_spans : (m n : Marks) (t : Tables) → n.tasks ≡ m.tasks → n.services ≡ m.services → n.nodes ≡ m.nodes
     → AreMarked m t → AreMarked n t
-same_spans m n t tasks services totals marked = record {
-  totals = subst (Knows t) (sym totals) marked.totals;
+same_spans m n t tasks services nodes marked = record {
+  nodes = subst (KnowsNodes t) (sym nodes) marked.nodes;
   tasks = subst (AreTasksCovered t) (sym tasks) marked.tasks;
   services = subst (AreCovered t) (sym services) marked.services;
 }
@@ -94,10 +95,10 @@ others-have node f t keeps = record { others = λ n. go n (eqb node n) refl }
 -- after its beat
 pub beat_marked : (node now heartbeat id : ℕ) (before after : Marks) (r : Records) (s : OnRecord) → AreUsable r
     → AreMarked before (tables_of r) → SessionLaw node before.tasks after.tasks → after.services ≡ before.services
-    → after.totals ≡ before.totals
+    → after.nodes ≡ before.nodes
     → s.rows ≡ (after_beat (tables_with r.sessions.rows now heartbeat id) node).sessions
     → AreMarked after (tables_of (record { store = r.store; sessions = s }))
-beat_marked node now heartbeat id before after r s are marked law services totals rows =
+beat_marked node now heartbeat id before after r s are marked law services nodes rows =
     let t = tables_of r in
     let f = beaten (tables_with r.sessions.rows now heartbeat id) in
     let beats = change_row session_node node f r.sessions.rows in
@@ -107,7 +108,9 @@ beat_marked node now heartbeat id before after r s are marked law services total
       tasks = law t t.next_id beats usable (others-have node f t (λ x. refl)) marked.tasks;
       services = subst (AreCovered (record t { sessions = beats })) (sym services)
           (services-still t beats before.services usable marked.services);
-      totals = record { each = λ n. (subst (Knows t) (sym totals) marked.totals).each n };
+      nodes =
+          knows_alike t (record t { sessions = beats }) after.nodes refl refl
+          (subst (KnowsNodes t) (sym nodes) marked.nodes);
     })
 
 -- Changes of rows that were touched before.

@@ -13,8 +13,8 @@ use Rattle.swarm_objects.specs.declared.calls.Entry.{Entry}
 use Rattle.swarm_objects.specs.declared.calls.What.TheVariants as what
 use Rattle.swarm_objects.specs.declared.replies.Refusal.TheVariants as refusal
 use Rattle.swarm_objects.specs.declared.replies.Reply.TheVariants as reply
-use Rattle.swarm_sched.specs.Inside.Known.{Knows}
-use Rattle.swarm_sched.specs.declared.known.NodeTotals.{NodeTotals}
+use Rattle.swarm_sched.proofs.KnownAlike.{knows_alike}
+use Rattle.swarm_sched.specs.Inside.KnownNodes.{KnowsNodes}
 use Rattle.swarm_spans.specs.Services.Touches.{ServiceTimeLaw}
 use Rattle.swarm_spans.specs.Spans.{full}
 use Rattle.swarm_spans.specs.TasksCovered.{TimeLaw, at_time}
@@ -29,12 +29,12 @@ use Rattle.swarm_world.specs.declared.parts.Parts.{Parts}
 
 -- the spans over the rows
 pub timed : (before after : Marks) → TimeLaw before.tasks after.tasks → ServiceTimeLaw before.services after.services
-    → after.totals ≡ before.totals → (t : Tables) (clock : ℕ) → IsUsable t → AreMarked before t
+    → after.nodes ≡ before.nodes → (t : Tables) (clock : ℕ) → IsUsable t → AreMarked before t
     → AreMarked after (at_time clock t)
-timed before after tasks services totals t clock usable marked = record {
+timed before after tasks services nodes t clock usable marked = record {
   tasks = tasks t clock usable marked.tasks;
   services = services t clock usable marked.services;
-  totals = record { each = λ n. (subst (Knows t) (sym totals) marked.totals).each n };
+  nodes = knows_alike t (at_time clock t) after.nodes refl refl (subst (KnowsNodes t) (sym nodes) marked.nodes);
 }
 
 -- the tables after a tick, of whatever length

@@ -1,5 +1,6 @@
 // Where a duty of the control loops over the rows may be: for each line of duties the span of the rows that may have one.
 ghost use Rattle.std.specs.Prelude.{◌≡◌, ◌++◌, List as Seq, [], false, flat_map, ℕ};
+ghost use Rattle.std.specs.List.{list_all};
 ghost use Rattle.swarm_model.specs.History.{IsLegal, replay};
 ghost use Rattle.swarm_objects.specs.declared.calls.Entry.{Entry};
 ghost use Rattle.swarm_objects.specs.ChangeLists.{apply_changes};
@@ -9,12 +10,14 @@ ghost use Rattle.swarm_objects.specs.Loops.Allocator.{port_duties};
 ghost use Rattle.swarm_objects.specs.Rows.{first_of};
 ghost use Rattle.swarm_objects.specs.Usable.{IsUsable};
 ghost use Rattle.swarm_objects.specs.World.{Tables};
+ghost use Rattle.swarm_sched.specs.Inside.KnownNodes.{KnowsNodes};
 ghost use Rattle.swarm_spans.specs.Lines.{addresses, deletes, expires, goes, notes, olds, orphans, raises, rejects, restarts};
 ghost use Rattle.swarm_spans.specs.Services.Lines.{comes, creates, downs, job_creates, leaves, trims, updates};
+ghost use Rattle.swarm_spans.specs.Services.Touches.{NewServicesLaw};
 ghost use Rattle.swarm_spans.specs.Spans.{CoversNodes, CoversServices, CoversTasks, full};
-ghost use Rattle.swarm_spans.specs.TasksCovered.{SessionLaw, at_time};
+ghost use Rattle.swarm_spans.specs.TasksCovered.{ServicesLaw, SessionLaw, at_time};
 ghost use Rattle.swarm_world.specs.Inside.Kept.{IsFirst};
-ghost use Rattle.swarm_world.specs.Inside.Marks.{AreMarked, IsAfterCall, IsMarked};
+ghost use Rattle.swarm_world.specs.Inside.Marks.{AreMarked, IsAfterCall, IsMarked, makes_service};
 ghost use Rattle.swarm_world.specs.Inside.Parts.{HasHistory, StandsFor};
 ghost use Rattle.swarm_world.specs.Inside.Records.{tables_of};
 ghost use Rattle.swarm_world.specs.declared.parts.Parts.{Parts as Whole};
@@ -31,20 +34,20 @@ use crate::records::Records;
 use crate::scheduling::first_scheduled;
 use std::alloc::Global;
 use swarm_agent::theorems::times_that_no_step_looks_at;
-use swarm_objects::{Call, Change, Duty, Id, Role, Rows};
-use swarm_sched::KnownTotals;
+use swarm_objects::{Call, Change, Duty, Id, Op, Role, Rows};
+use swarm_sched::KnownNodes;
 use swarm_spans::{
     ServiceSpans, Span, TaskSpans, first_of_nodes, first_of_services, first_of_tasks, narrowed,
 };
 
 /// For each line of duties a span that has each row with a duty of the line, and the spans of the agents' loop. And what is
-/// remembered of the tasks on nodes.
+/// remembered of the nodes.
 #[derive(Drop)]
 pub struct Marks {
     pub tasks: TaskSpans,
     pub services: ServiceSpans,
     pub agents: AgentSpans,
-    pub totals: KnownTotals,
+    pub nodes: KnownNodes,
 }
 
 #[tactic(auto, using(crate::proofs::Marking::first_steps))]
@@ -179,32 +182,46 @@ fn reaper<R: Rows>(rows: &R, deletes_in: &mut Span, trims_in: &mut Span) -> Opti
     first_of_tasks::<Trims, R>(rows, trims_in)
 }
 
+// The operation makes a service.
+fn makes_service(op: &Op) -> bool
+    ensures { result ≡ makes_service op.now }
+{
+    matches!(op, Op::CreateService(_, _))
+}
+
+// Each of the operations makes a service.
+fn make_services(ops: &[Op]) -> bool
+    ensures { result ≡ list_all makes_service ops.now }
+{
+    ops.iter().all(makes_service)
+}
+
 impl Marks {
     // Every row may have a duty.
-    fn with_totals(totals: KnownTotals) -> Marks
-        requires { totals ≡ [] }
+    fn with_nodes(nodes: KnownNodes) -> Marks
+        requires { (t : Tables) → KnowsNodes t nodes }
         ensures { (p : Whole) → HasHistory p → IsMarked result p }
     {
         Marks {
             tasks: TaskSpans::full(),
             services: ServiceSpans::full(),
             agents: AgentSpans::full(),
-            totals,
+            nodes,
         }
     }
 
-    /// Every row may have a duty. Totals are remembered where memory is there for them.
+    /// Every row may have a duty. Nothing is remembered of the nodes so far.
     pub fn new(alloc: Global) -> Marks
         ensures { (p : Whole) → HasHistory p → IsMarked result p }
     {
-        Marks::with_totals(KnownTotals::new(alloc))
+        Marks::with_nodes(KnownNodes::new(alloc))
     }
 
-    /// Every row may have a duty. It takes no memory, and no totals will be remembered.
+    /// Every row may have a duty. It takes no memory, and nothing will be remembered of the nodes.
     pub fn all() -> Marks
         ensures { (p : Whole) → HasHistory p → IsMarked result p }
     {
-        Marks::with_totals(KnownTotals::none())
+        Marks::with_nodes(KnownNodes::none())
     }
 
     /// The same spans for one look. It takes no memory.
@@ -215,7 +232,7 @@ impl Marks {
             tasks: self.tasks,
             services: self.services,
             agents: self.agents,
-            totals: KnownTotals::none(),
+            nodes: KnownNodes::none(),
         }
     }
 
@@ -226,7 +243,7 @@ impl Marks {
         self.tasks = TaskSpans::full();
         self.services = ServiceSpans::full();
         self.agents = AgentSpans::full();
-        self.totals.forget_all();
+        self.nodes.forget_all();
     }
 
     // Where the spans of tasks that wait have no end, they end with the last that waits. By them a touch, a tick or a beat
@@ -269,7 +286,7 @@ impl Marks {
         ensures agents { self.new.agents ≡ self.old.agents }
     {
         self.pass_waiting(records);
-        self.totals.forget_changed(records, changes);
+        self.nodes.forget_changed(records, changes);
         self.tasks = self.tasks.touched(records, changes);
         self.services = self.services.touched(records, changes);
     }
@@ -281,7 +298,7 @@ impl Marks {
     {
         self.tasks = TaskSpans::full();
         self.services = ServiceSpans::full();
-        self.totals.forget_all();
+        self.nodes.forget_all();
     }
 
     /// With what may have a duty as time goes by.
@@ -295,13 +312,39 @@ impl Marks {
         self.agents = AgentSpans::full();
     }
 
-    /// With what the call may touch, whether it changes something or not.
-    pub fn touch_call(&mut self, call: &Call)
-        ensures { (h : Seq Entry) (p q : Whole) → IsLegal h → StandsFor p (replay h) → IsMarked self.old p → HasHistory q →
-            IsAfterCall h call.now q → IsMarked self.new q }
+    // With services that come from this id on. Nothing that is remembered of nodes changes, and nothing that agents owe.
+    fn touch_services(&mut self, first: Id)
+        ensures tasks { ServicesLaw self.old.tasks self.new.tasks }
+        ensures services { NewServicesLaw first self.old.services self.new.services }
+        ensures agents { self.new.agents ≡ self.old.agents }
+        ensures nodes { self.new.nodes ≡ self.old.nodes }
+    {
+        self.tasks = self.tasks.with_services();
+        self.services = self.services.with_services(first);
+    }
+
+    // With what the operations may touch, whether they are done or not.
+    fn touch_ops(&mut self, parts: &Parts, ops: &[Op])
+        ensures { (h : Seq Entry) (q : Whole) → IsLegal h → StandsFor parts.now (replay h) → IsMarked self.old parts.now →
+            HasHistory q → IsAfterCall h (Call.Txn ops.now) q → IsMarked self.new q }
+    {
+        if make_services(ops) {
+            self.touch_services(parts.records.next_id());
+        } else {
+            self.touch_all();
+        }
+    }
+
+    /// With what the call may touch of the world that these parts are, whether it changes something or not.
+    pub fn touch_call(&mut self, parts: &Parts, call: &Call)
+        ensures { (h : Seq Entry) (q : Whole) → IsLegal h → StandsFor parts.now (replay h) → IsMarked self.old parts.now →
+            HasHistory q → IsAfterCall h call.now q → IsMarked self.new q }
     {
         match call {
             Call::Tick(_) => self.touch_time(),
+            Call::Txn(ops) => self.touch_ops(parts, ops.as_slice()),
+            // these read, or are about watchers
+            Call::View(_) | Call::Settle(_) | Call::WatchPoll(_) | Call::WatchFinish(_) => {}
             _ => self.touch_all(),
         }
     }
@@ -310,7 +353,7 @@ impl Marks {
     pub fn touch_session(&mut self, node: Id)
         ensures goes_on { SessionLaw node self.old.tasks self.new.tasks }
         ensures services { self.new.services ≡ self.old.services }
-        ensures totals { self.new.totals ≡ self.old.totals }
+        ensures nodes { self.new.nodes ≡ self.old.nodes }
         ensures agents { self.new.agents ≡ self.old.agents }
     {
         self.tasks = self.tasks.with_session(node);
@@ -346,15 +389,14 @@ impl Marks {
                 &mut self.tasks.addresses,
                 &mut self.tasks.notes,
             ),
-            Role::Scheduler => {
-                first_scheduled(rows, &mut self.totals, &mut self.tasks.schedules)
-            }
+            Role::Scheduler => { first_scheduled(rows, &mut self.nodes, &mut self.tasks.schedules) }
             Role::Reaper => reaper(rows, &mut self.tasks.deletes, &mut self.services.trims),
             Role::Agents => unreachable!(),
         }
     }
 
-    /// The first duty of the control loop. Rows before it, which have none, leave their spans. It takes no memory.
+    /// The first duty of the control loop. Rows before it, which have none, leave their spans. Memory is taken only for what is
+    /// remembered of the nodes; where it is wanting, less is remembered, and the answer is the same.
     pub fn find(&mut self, parts: &Parts, role: Role) -> Option<Duty>
         requires at { HasHistory parts.now }
         requires marks { IsMarked self.old parts.now }

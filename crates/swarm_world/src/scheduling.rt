@@ -1,27 +1,27 @@
-// The scheduler's line of duties, with what is remembered of the tasks on nodes.
+// The scheduler's line of duties, with what is remembered of the nodes.
 ghost use Rattle.std.specs.Prelude.{◌≡◌, flat_map};
 ghost use Rattle.swarm_objects.specs.Loops.Scheduler.{schedule};
 ghost use Rattle.swarm_objects.specs.Rows.{first_of};
 ghost use Rattle.swarm_objects.specs.Usable.{IsUsable};
-ghost use Rattle.swarm_sched.specs.Inside.Known.{Knows};
+ghost use Rattle.swarm_sched.specs.Inside.KnownNodes.{KnowsNodes};
 ghost use Rattle.swarm_spans.specs.Spans.{CoversTasks};
 
 use swarm_objects::{Duty, Rows};
-use swarm_sched::{KnownTotals, schedule};
+use swarm_sched::{KnownNodes, schedule};
 use swarm_spans::{Span, next_task_in};
 
 /// The scheduler's first duty, by its span. Tasks before it, which have none, leave the span.
 #[tactic(auto, using(swarm_spans::proofs::Firsts::tasks))]
-pub fn first_scheduled<R: Rows>(rows: &R, totals: &mut KnownTotals, span: &mut Span) -> Option<Duty>
+pub fn first_scheduled<R: Rows>(rows: &R, known: &mut KnownNodes, span: &mut Span) -> Option<Duty>
     requires usable { IsUsable (R.tables rows.now) }
-    requires knows { Knows (R.tables rows.now) totals.old }
+    requires knows { KnowsNodes (R.tables rows.now) known.old }
     requires covers { CoversTasks schedule (R.tables rows.now) span.old }
     ensures first { let t = R.tables rows.now in result ≡ first_of (flat_map (schedule t) t.tasks) }
-    ensures knows { Knows (R.tables rows.now) totals.new }
+    ensures knows { KnowsNodes (R.tables rows.now) known.new }
     ensures covers { CoversTasks schedule (R.tables rows.now) span.new }
 {
     while let Some(task) = next_task_in(rows, *span) {
-        if let Some(duty) = schedule(rows, totals, task) {
+        if let Some(duty) = schedule(rows, known, task) {
             return Some(duty);
         }
         span.pass(task.id);

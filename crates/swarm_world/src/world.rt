@@ -103,7 +103,7 @@ impl World {
             return Reply::Refused(Refusal::NoMemory);
         };
         let version = self.history.len() as u64 + 1;
-        self.marks.touch_call(&call);
+        self.marks.touch_call(&self.parts, &call);
         self.known = None;
         let Ok(reply) = self.parts.enter(version, &call) else {
             return Reply::Refused(Refusal::NoMemory);

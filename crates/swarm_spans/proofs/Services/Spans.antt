@@ -76,7 +76,7 @@ each-full t usable s h =
     in-full s.id (number_above service_id 0 t.services s usable.sound.ordered.services h)
     (near s.id t.next_id (is-below service_id t.next_id t.services s usable.sound.below.services h) usable.next_id)
 
-services-full : (line : Tables → Service → List Duty) (t : Tables) → IsUsable t → CoversServices line t full
+pub services-full : (line : Tables → Service → List Duty) (t : Tables) → IsUsable t → CoversServices line t full
 services-full line t usable = record { has = λ s h passes. each-full t usable s h }
 
 pub tasks-full : (line : Tables → Task → List Duty) (t : Tables) → IsUsable t → CoversTasks line t full
@@ -141,7 +141,7 @@ time_goes_on spans updating every t clock usable are =
 
 -- A wider span covers too.
 
-wider-covers : (line : Tables → Service → List Duty) (t : Tables) (span wide : Span) → IsWider wide span
+pub wider-covers : (line : Tables → Service → List Duty) (t : Tables) (span wide : Span) → IsWider wide span
     → CoversServices line t span → CoversServices line t wide
 wider-covers line t span wide w c = record { has = λ x h e. w.has x.id (c.has x h e) }
 
@@ -183,7 +183,7 @@ ports-cover t cs one span usable joins c =
 
 -- After the changes.
 
-rising : (t u : Tables) → IsUsable t → IsUsable u → AreRising t u
+pub rising : (t u : Tables) → IsUsable t → IsUsable u → AreRising t u
 rising t u before after = record {
   before = before.sound.ordered.tasks;
   after = after.sound.ordered.tasks;

@@ -16,7 +16,7 @@ use Rattle.swarm_spans.specs.Services.Lines.{comes, creates, downs, job_creates,
 use Rattle.swarm_spans.specs.Services.Standings.{bounds, remains}
 use Rattle.swarm_spans.specs.Services.Steps.{HasBesideOf, HasItself, HasNumber, HasServiceOf, HasTasksOf}
 use Rattle.swarm_spans.specs.Spans.{CoversServices, CoversTasks, IsWider, full}
-use Rattle.swarm_spans.specs.TasksCovered.{at_time}
+use Rattle.swarm_spans.specs.TasksCovered.{HasNewServices, at_time, with_services}
 use Rattle.swarm_spans.specs.declared.service_spans.ServiceSpans.{ServiceSpans}
 use Rattle.swarm_spans.specs.declared.span.Span.{Span}
 
@@ -105,3 +105,9 @@ pub record AreCovered (t : Tables) (spans : ServiceSpans) : Type 0 where
 abbrev pub ServiceTimeLaw : ServiceSpans → ServiceSpans → Type 0
 ServiceTimeLaw spans wide =
     (t : Tables) (clock : ℕ) → IsUsable t → AreCovered t spans → AreCovered (at_time clock t) wide
+
+-- the ones cover what the others do, where services come from this id on
+abbrev pub NewServicesLaw : ℕ → ServiceSpans → ServiceSpans → Type 0
+NewServicesLaw first spans wide =
+    (t : Tables) (next_id : ℕ) (services : List Service) → IsUsable t → IsUsable (with_services next_id services t)
+    → HasNewServices first next_id t services → AreCovered t spans → AreCovered (with_services next_id services t) wide

@@ -1,11 +1,13 @@
 -- What the spans of a world cover.
-use Rattle.std.specs.Prelude.{List, ◌⊎◌}
+use Rattle.std.specs.Prelude.{Bool, List, false, true, ◌⊎◌}
 use Rattle.swarm_model.specs.History.{replay, step}
 use Rattle.swarm_objects.specs.World.{Tables}
 use Rattle.swarm_objects.specs.declared.calls.Call.{Call}
 use Rattle.swarm_objects.specs.declared.calls.Entry.{Entry}
+use Rattle.swarm_objects.specs.declared.calls.Op.TheVariants as op
+use Rattle.swarm_objects.specs.declared.calls.Op.{Op}
 use Rattle.swarm_objects.specs.declared.calls.What.TheVariants as what
-use Rattle.swarm_sched.specs.Inside.Known.{Knows}
+use Rattle.swarm_sched.specs.Inside.KnownNodes.{KnowsNodes}
 use Rattle.swarm_spans.specs.Services.Touches.{AreCovered}
 use Rattle.swarm_spans.specs.TasksCovered.{AreTasksCovered}
 use Rattle.swarm_world.specs.Inside.Parts.{StandsFor}
@@ -18,7 +20,7 @@ use Rattle.swarm_world.specs.declared.parts.Parts.{Parts}
 pub record AreMarked (m : Marks) (t : Tables) : Type 0 where
   pub tasks : AreTasksCovered t m.tasks
   pub services : AreCovered t m.services
-  pub totals : Knows t m.totals
+  pub nodes : KnowsNodes t m.nodes
 
 -- and each node of an agent in those of the agents' loop
 pub record IsMarked (m : Marks) (p : Parts) : Type 0 where
@@ -28,3 +30,7 @@ pub record IsMarked (m : Marks) (p : Parts) : Type 0 where
 -- they stand for the world after the call; or for the one before it, where memory was wanting
 abbrev pub IsAfterCall : List Entry → Call → Parts → Type 0
 IsAfterCall h c p = StandsFor p (step (replay h) (what.Call c)).after ⊎ StandsFor p (replay h)
+
+abbrev pub makes_service : Op → Bool
+makes_service (op.CreateService name d) = true
+makes_service _ = false

@@ -1,13 +1,13 @@
 use Rattle.std.specs.Prelude.{◌-◌}
 use Rattle.swarm_objects.specs.Loops.Scheduler.{schedule}
-use Rattle.swarm_sched.specs.Inside.Known.{Knows}
+use Rattle.swarm_sched.specs.Inside.KnownNodes.{KnowsNodes}
 use Rattle.swarm_spans.specs.Spans.{CoversTasks}
 use Rattle.swarm_world.proofs.scheduling.first_scheduled.Given as goal
 
 abbrev pub invariant-loop-task : goal.invariant-loop-task
 invariant-loop-task g l = record {
   covers : CoversTasks schedule (g.R.Rows.tables l.rows) l.span;
-  knows : Knows (g.R.Rows.tables l.rows) l.totals;
+  knows : KnowsNodes (g.R.Rows.tables l.rows) l.known;
 }
 
 abbrev pub decreases-loop-task : goal.decreases-loop-task

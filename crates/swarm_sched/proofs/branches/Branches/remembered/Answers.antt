@@ -1,4 +1,4 @@
-use Rattle.std.proofs.Common.{subst, sym, take, ◌∙◌, ◌≡◌}
+use Rattle.std.proofs.Common.{subst, take, ◌≡◌}
 use Rattle.swarm_sched.proofs.Branching.{known_at, remembered_is}
 use Rattle.swarm_sched.proofs.branches.Branches.remembered.Goals as goal
 use Rattle.swarm_sched.specs.Inside.Branches.{HasText, Preferences, load_at}

@@ -1,10 +1,17 @@
-use Rattle.std.proofs.Common.{subst}
+use Rattle.std.proofs.Common.{subst, sym}
+use Rattle.swarm_objects.specs.declared.calls.Call.TheVariants as call
 use Rattle.swarm_world.proofs.Ticking.{tick_marked}
 use Rattle.swarm_world.proofs.marks.Marks.touch_call.Goals as goal
 use Rattle.swarm_world.specs.Inside.Marks.{IsAfterCall}
 
 pub returns-in-Tick : goal.returns-in-Tick
-returns-in-Tick c = λ h p q legal stands marked is after.
+returns-in-Tick c = λ h q legal stands marked is after.
     tick_marked c.args.self.now c.touch_time.new.self c.in-Tick.field-0 c.touch_time.ensures.rows
-    c.touch_time.ensures.duties c.touch_time.ensures.tells h p q legal stands marked is
+    c.touch_time.ensures.duties c.touch_time.ensures.tells h c.args.parts.now q legal stands marked is
     (subst (λ call. IsAfterCall h call q) c.in-Tick.is after)
+
+pub returns-in-Txn : goal.returns-in-Txn
+returns-in-Txn c = λ h q legal stands marked is after.
+    c.touch_ops.ensures h q legal stands marked is
+    (subst (λ ops. IsAfterCall h (call.Txn ops) q) (sym c.as_slice.ensures)
+    (subst (λ call. IsAfterCall h call q) c.in-Txn.is after))

@@ -1,0 +1,3 @@
+-- Words of private contracts.
+pub mod Candidates
+pub mod Crowds

@@ -1,0 +1,192 @@
+-- Tasks counted class by class: task by task, and that a class is a branch.
+use Rattle.std.proofs.Common.{◌≡◌, ◌∙◌, ◌+◌, ◌<◌, ◌≤◌, ◌∷◌, ◌⊎◌, ℕ, Bool, List, None, Option, Some, [], ap, arith, cond, eqb, false, get_or, inl, inr, length, map, refl, replicate, set, subst, sym, true}
+use Rattle.std.proofs.lemmas.Bool.Decides.{nat_tests}
+use Rattle.std.proofs.lemmas.List.{get_or-replicate, get_or-set_other, get_or-set_same, length-set}
+use Rattle.std.specs.List.{list_any}
+use Rattle.std.specs.Option.{option_eq}
+use Rattle.std.specs.Prelude.{count_by, filter, is_some, ◌&&◌, ◌^◌, ◌||◌}
+use Rattle.swarm_objects.proofs.Few.{few_among}
+use Rattle.swarm_objects.proofs.RowLemmas.{Has-from_row_at}
+use Rattle.swarm_objects.proofs.Tests.{same_test}
+use Rattle.swarm_objects.proofs.WalkLemmas.{count_by_no, count_by_yes}
+use Rattle.swarm_objects.specs.Nodes.BestNode.{agrees, branch_load}
+use Rattle.swarm_objects.specs.Rows.{is_row_and, is_some_and, node_id, row_at}
+use Rattle.swarm_objects.specs.Same.{same_number}
+use Rattle.swarm_objects.specs.Tasks.Words.{is_live, is_of, is_placed}
+use Rattle.swarm_objects.specs.Usable.{IsUsable}
+use Rattle.swarm_objects.specs.World.{Tables}
+use Rattle.swarm_objects.specs.declared.nodes.Node.{Node}
+use Rattle.swarm_objects.specs.declared.tasks.Task.{Task}
+use Rattle.swarm_objects.specs.declared.templates.Key.{Key}
+use Rattle.swarm_sched.proofs.Branching.{at_place, branch_is}
+use Rattle.swarm_sched.specs.Inside.Branches.{Preferences, is_of_branch}
+use Rattle.swarm_sched.specs.Inside.ClassLoads.{AreCounting, AreLoads, class_of_node, class_or_none, is_of_class, task_class}
+use Rattle.swarm_sched.specs.Inside.Classes.{AreFew, AreSorted, IsEntry, entry_id}
+use Rattle.swarm_sched.specs.declared.classes.ClassedNode.{ClassedNode}
+
+-- A task's class is one of so many.
+
+pub entry_few : (sorted : List ClassedNode) (node : ℕ) (c : ClassedNode) → AreFew sorted →
+    Some c ≡ row_at entry_id node sorted → c.class < 16
+entry_few sorted node c few is = few c (Has-from_row_at entry_id node sorted c (sym is)).0
+
+-- Task by task.
+
+pub counting_none : (sorted : List ClassedNode) (tasks left : List Task) → left ≡ tasks →
+    AreCounting sorted tasks left (replicate 16 0)
+counting_none sorted tasks left all = record {
+  each = λ k lt. omega (arith, get_or-replicate {A = ℕ} 16 k 0 0 lt, ap (count_by (is_of_class sorted k)) all);
+  fits = λ k lt. omega (arith, get_or-replicate {A = ℕ} 16 k 0 0 lt, ap length all);
+  all = refl;
+}
+
+pub counting_past : (sorted : List ClassedNode) (tasks from left : List Task) (loads : List ℕ) (x : Task) →
+    AreCounting sorted tasks from loads → from ≡ x ∷ left → None ≡ task_class sorted x →
+    AreCounting sorted tasks left loads
+counting_past sorted tasks from left loads x so step none =
+    let at : AreCounting sorted tasks (x ∷ left) loads = subst (λ l. AreCounting sorted tasks l loads) step so in
+    record {
+      each = λ k lt.
+          omega (
+            arith,
+            at.each k lt,
+            count_by_no (is_of_class sorted k) x left (ap (λ o. option_eq same_number o (Some k)) (sym none)),
+          );
+      fits = λ k lt. omega (arith, at.fits k lt);
+      all = at.all;
+    }
+
+decide : (a b : ℕ) → (a ≡ b) ⊎ (a ≡ b → ⊥)
+decide a b = go (eqb a b) refl
+  where
+    go : (c : Bool) → eqb a b ≡ c → (a ≡ b) ⊎ (a ≡ b → ⊥)
+    go true is = inl (grind (arith, nat_tests, is))
+    go false is = inr (λ e. grind (arith, nat_tests, is, e))
+
+pub counting_one : (sorted : List ClassedNode) (tasks from left : List Task) (loads : List ℕ) (x : Task) (class : ℕ) →
+    AreCounting sorted tasks from loads → from ≡ x ∷ left → Some class ≡ task_class sorted x → class < 16 →
+    AreCounting sorted tasks left (set loads class (get_or loads class 0 + 1))
+counting_one sorted tasks from left loads x class so step is small =
+    let at : AreCounting sorted tasks (x ∷ left) loads = subst (λ l. AreCounting sorted tasks l loads) step so in
+    record {
+      each = λ k lt. each at k lt (decide k class);
+      fits = λ k lt. fits at k lt (decide k class);
+      all = length-set loads class (get_or loads class 0 + 1) ∙ at.all;
+    }
+  where
+    after : List ℕ
+    after = set loads class (get_or loads class 0 + 1)
+
+    own : (at : AreCounting sorted tasks (x ∷ left) loads) → (k : ℕ) → k ≡ class →
+        get_or after k 0 ≡ get_or loads k 0 + 1
+    own at k same =
+        ap (λ j. get_or after j 0) same
+        ∙ get_or-set_same loads class (get_or loads class 0 + 1) 0 (omega (arith, small, at.all))
+        ∙ ap (λ j. get_or loads j 0 + 1) (sym same)
+
+    other : (k : ℕ) → (k ≡ class → ⊥) → get_or after k 0 ≡ get_or loads k 0
+    other k differs = get_or-set_other loads class k (get_or loads class 0 + 1) 0 differs
+
+    test : (k : ℕ) → is_of_class sorted k x ≡ eqb class k
+    test k = ap (λ o. option_eq same_number o (Some k)) (sym is)
+
+    each : AreCounting sorted tasks (x ∷ left) loads → (k : ℕ) → k < 16 → (k ≡ class) ⊎ (k ≡ class → ⊥) →
+        get_or after k 0 + count_by (is_of_class sorted k) left ≡ count_by (is_of_class sorted k) tasks
+    each at k lt (inl same) =
+        let counts : eqb class k ≡ true = grind (arith, nat_tests, same) in
+        omega (arith, at.each k lt, own at k same, count_by_yes (is_of_class sorted k) x left (test k ∙ counts))
+    each at k lt (inr differs) =
+        let counts : eqb class k ≡ false = apart (eqb class k) refl in
+        omega (arith, at.each k lt, other k differs, count_by_no (is_of_class sorted k) x left (test k ∙ counts))
+      where
+        apart : (b : Bool) → eqb class k ≡ b → b ≡ false
+        apart true e = let same : k ≡ class = grind (arith, nat_tests, e) in absurd (differs same)
+        apart false e = refl
+
+    fits : AreCounting sorted tasks (x ∷ left) loads → (k : ℕ) → k < 16 → (k ≡ class) ⊎ (k ≡ class → ⊥) →
+        get_or after k 0 + length left ≤ length tasks
+    fits at k lt (inl same) = omega (arith, at.fits k lt, own at k same)
+    fits at k lt (inr differs) = omega (arith, at.fits k lt, other k differs)
+
+pub counting_fits : (t : Tables) (service : ℕ) (sorted : List ClassedNode) (from left : List Task) (loads : List ℕ)
+    (x : Task)
+    (class : ℕ) → IsUsable t → AreCounting sorted (filter (is_of service) t.tasks) from loads → from ≡ x ∷ left →
+    class < 16 → get_or loads class 0 + 1 < 2 ^ 64
+counting_fits t service sorted from left loads x class usable so step small =
+    omega (arith, so.fits class small, ap length step, few_among t (is_of service) usable)
+
+pub counting_all : (sorted : List ClassedNode) (tasks left : List Task) (loads : List ℕ) →
+    AreCounting sorted tasks left loads → left ≡ [] → AreLoads sorted tasks loads
+counting_all sorted tasks left loads so none = record {
+  each = λ k lt. omega (arith, so.each k lt, ap (count_by (is_of_class sorted k)) none);
+  all = so.all;
+}
+
+-- A class is a branch.
+
+named : {X : Type 0} (key : X → ℕ) (k : ℕ) (rows : List X) →
+    is_some (row_at key k rows) ≡ list_any (λ i. eqb i k) (map key rows)
+named key k [] = refl
+named key k (x ∷ rows) = go (eqb (key x) k) (named key k rows)
+  where
+    go : (b : Bool) → is_some (row_at key k rows) ≡ list_any (λ i. eqb i k) (map key rows) →
+        is_some (cond b (Some x) (row_at key k rows)) ≡ (b || list_any (λ i. eqb i k) (map key rows))
+    go true rest = refl
+    go false rest = rest
+
+class-branch : (t : Tables) (keys : List Key) (sorted : List ClassedNode) (c : ClassedNode) (n : Node) (x : Task) →
+    AreSorted t.nodes keys sorted → (keys ≡ [] → ⊥) → IsEntry t.nodes sorted c n →
+    is_of_class sorted c.class x ≡ is_of_branch t keys n x
+class-branch t keys sorted c n x are some entry = go (is_live x) (is_placed x) x.node
+  where
+    both : (node : ℕ) (r : Option ClassedNode) → row_at entry_id node sorted ≡ r → (s : Option Node) →
+        row_at node_id node t.nodes ≡ s → is_some r ≡ is_some s →
+        option_eq same_number (class_or_none r) (Some c.class) ≡ is_some_and (agrees keys n) s
+    both node None at None on same = refl
+    both node None at (Some m) on same = let differ : false ≡ true = same in absurd cc
+    both node (Some e) at None on same = let differ : true ≡ false = same in absurd cc
+    both node (Some e) at (Some m) on same =
+        let first = Has-from_row_at entry_id node sorted e at in
+        let second = Has-from_row_at node_id node t.nodes m on in
+        let own : IsEntry t.nodes sorted e m =
+        record { there = first.0; row = second.0; same = second.1 ∙ sym first.1 } in
+        same_test (eqb e.class c.class) (agrees keys n m)
+        (λ one. let class : c.class ≡ e.class = grind (arith, nat_tests, one) in are.alike c e n m entry own class)
+        (λ alike. let class : c.class ≡ e.class = are.apart some c e n m entry own alike in grind
+        (arith, nat_tests, class))
+
+    go : (a b : Bool) (o : Option ℕ) →
+        option_eq same_number (cond (a && b) (class_of_node sorted o) None) (Some c.class)
+        ≡ (a && b && is_some_and (is_row_and node_id (agrees keys n) t.nodes) o)
+    go false b o = refl
+    go true false o = refl
+    go true true None = refl
+    go true true (Some node) =
+        both node (row_at entry_id node sorted) refl (row_at node_id node t.nodes) refl
+        (named entry_id node sorted ∙ ap (list_any (λ i. eqb i node)) are.ids ∙ sym (named node_id node t.nodes))
+
+told_load : (t : Tables) (service : ℕ) (keys : List Key) (sorted : List ClassedNode) (loads : List ℕ) (c : ClassedNode)
+    (n : Node) → IsUsable t → AreSorted t.nodes keys sorted → (keys ≡ [] → ⊥) →
+    AreLoads sorted (filter (is_of service) t.tasks) loads → IsEntry t.nodes sorted c n →
+    get_or loads c.class 0 ≡ branch_load t service keys n
+told_load t service keys sorted loads c n usable are some so entry =
+    so.each c.class (are.few c entry.there)
+    ∙ (λ i. count_by (λ x. class-branch t keys sorted c n x are some entry i) (filter (is_of service) t.tasks))
+    ∙ branch_is t service keys n usable.sound.ordered.nodes
+
+-- the same at the row of an entry, for the preferences that branches are counted by
+pub told_at : (t : Tables) (p : Preferences) (sorted : List ClassedNode) (loads : List ℕ) (i : ℕ) (d : ClassedNode)
+    (n : Node) →
+    IsUsable t → p.tables ≡ t → AreSorted t.nodes p.keys sorted → (p.keys ≡ [] → ⊥) →
+    AreLoads sorted (filter (is_of p.service) t.tasks) loads → i < length sorted →
+    row_at node_id (get_or sorted i d).id t.nodes ≡ Some n →
+    get_or loads (get_or sorted i d).class 0 ≡ branch_load p.tables p.service p.keys n
+told_at t p sorted loads i d n usable same are some so lt row =
+    let at = Has-from_row_at node_id (get_or sorted i d).id t.nodes n row in
+    told_load t p.service p.keys sorted loads (get_or sorted i d) n usable are some so
+    (record { there = at_place sorted i d lt; row = at.0; same = at.1 })
+    ∙ ap (λ u. branch_load u p.service p.keys n) (sym same)
+
+pub place_few : (nodes : List Node) (keys : List Key) (sorted : List ClassedNode) (i : ℕ) (d : ClassedNode) →
+    AreSorted nodes keys sorted → i < length sorted → (get_or sorted i d).class < 16
+place_few nodes keys sorted i d are lt = are.few (get_or sorted i d) (at_place sorted i d lt)

@@ -1,0 +1,8 @@
+use Rattle.std.proofs.Common.{length, ◌≡◌}
+use Rattle.swarm_sched.proofs.class_loads.count_classes.Given as goal
+
+abbrev pub invariant-loop-entry : goal.invariant-loop-entry
+invariant-loop-entry g l = record {
+  same : l.branches ≡ l.initial.branches;
+  all : length l.is_told ≡ 16;
+}

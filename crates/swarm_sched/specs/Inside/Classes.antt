@@ -1,0 +1,101 @@
+-- Nodes sorted by their values for placement preferences.
+use Rattle.std.specs.Borrow.{Bor}
+use Rattle.std.specs.Prelude.{Bool, IfSome, List, None, Option, Some, [], false, get_or, length, map, true, ℕ, ◌++◌, ◌<◌, ◌≡◌, ◌≤◌, ◌⊎◌}
+use Rattle.std.specs.declared.cmp.Ordering.{Ordering}
+use Rattle.swarm_objects.specs.Nodes.BestNode.{agrees, spread_cmp}
+use Rattle.swarm_objects.specs.Rows.{Has, node_id}
+use Rattle.swarm_objects.specs.World.{Tables}
+use Rattle.swarm_objects.specs.declared.nodes.Node.{Node}
+use Rattle.swarm_objects.specs.declared.rows.Change.TheVariants as change
+use Rattle.swarm_objects.specs.declared.rows.Change.{Change}
+use Rattle.swarm_objects.specs.declared.templates.Key.{Key}
+use Rattle.swarm_sched.specs.Inside.Branches.{Preferences}
+use Rattle.swarm_sched.specs.declared.classes.Asked.{Asked}
+use Rattle.swarm_sched.specs.declared.classes.ClassedNode.{ClassedNode}
+use Rattle.swarm_sched.specs.declared.classes.Sorting.TheVariants as sorting
+use Rattle.swarm_sched.specs.declared.classes.Sorting.{Sorting}
+
+-- preferences, and the nodes sorted by them
+pub record Classes : Type 0 where
+  pub keys : List Key
+  pub nodes : List ClassedNode
+
+abbrev pub sorted_by : List Key → Sorting → Option Classes
+sorted_by keys sorting.NotYet = None
+sorted_by keys (sorting.Done nodes) = Some (record { keys = keys; nodes = nodes })
+sorted_by keys sorting.InVain = None
+
+abbrev pub classes : Asked → Option Classes
+classes a = sorted_by a.keys a.sorting
+
+abbrev pub shown : Option Asked → Option Classes
+shown None = None
+shown (Some a) = classes a
+
+abbrev pub entry_id : ClassedNode → ℕ
+entry_id c = c.id
+
+-- the entry of the node
+pub record IsEntry (nodes : List Node) (sorted : List ClassedNode) (c : ClassedNode) (n : Node) : Type 0 where
+  pub there : Has sorted c
+  pub row : Has nodes n
+  pub same : n.id ≡ c.id
+
+-- each class is one of so many
+abbrev pub AreFew : List ClassedNode → Type 0
+AreFew sorted = (c : ClassedNode) → Has sorted c → c.class < 16
+
+-- these are the nodes, in order, and those of one class have the same values for the keys; where there are keys, no
+-- others have them
+pub record AreSorted (nodes : List Node) (keys : List Key) (sorted : List ClassedNode) : Type 0 where
+  pub ids : map entry_id sorted ≡ map node_id nodes
+  pub few : AreFew sorted
+  pub alike : (c d : ClassedNode) (n m : Node) → IsEntry nodes sorted c n → IsEntry nodes sorted d m →
+      c.class ≡ d.class → agrees keys n m ≡ true
+  pub apart : (keys ≡ [] → ⊥) → (c d : ClassedNode) (n m : Node) → IsEntry nodes sorted c n → IsEntry nodes sorted d m →
+      agrees keys n m ≡ true → c.class ≡ d.class
+
+-- so are those that are kept
+abbrev pub AreClasses : Tables → Option Classes → Type 0
+AreClasses t o = IfSome o (λ k. AreSorted t.nodes k.keys k.nodes)
+
+-- what is sorted by these keys is sorted by those
+abbrev pub IsServed : List Key → List Key → Type 0
+IsServed by keys = (keys ≡ by) ⊎ (keys ≡ [])
+
+-- the node agrees with the first one of its class, and with none of those before
+pub record IsOf (keys : List Key) (heads : List (Bor Node)) (class : ℕ) (n : Node) : Type 0 where
+  pub there : class < length heads
+  pub alike : (head : Bor Node) → agrees keys (get_or heads class head).now n ≡ true
+  pub first : (k : ℕ) (head : Bor Node) → k < class → agrees keys (get_or heads k head).now n ≡ false
+
+-- what is of a class stays so
+pub record IsMore (keys : List Key) (before after : List (Bor Node)) : Type 0 where
+  pub each : (class : ℕ) (n : Node) → IsOf keys before class n → IsOf keys after class n
+
+-- the nodes that are sorted so far, where these are left
+pub record AreSorting (nodes : List Node) (keys : List Key) (heads : List (Bor Node)) (sorted : List ClassedNode)
+    (left : List Node) : Type 0 where
+  pub ids : map entry_id sorted ++ map node_id left ≡ map node_id nodes
+  pub among : (n : Node) → Has left n → Has nodes n
+  pub few : length heads ≤ 16
+  pub small : AreFew sorted
+  pub each : (c : ClassedNode) (n : Node) → IsEntry nodes sorted c n → IsOf keys heads c.class n
+
+-- a node is put
+abbrev pub puts_node : Change → Bool
+puts_node (change.PutNode n) = true
+puts_node (change.PutService s) = false
+puts_node (change.PutTask x) = false
+puts_node (change.DropTask id) = false
+puts_node (change.Keep a) = false
+
+-- so the node compares with the best one by the preferences
+abbrev pub IsOrder : Preferences → Ordering → Node → Option Node → Type 0
+IsOrder p o n best = IfSome best (λ b. o ≡ spread_cmp p.tables p.service [] p.keys n b)
+
+-- so do all nodes of each class for which it is known
+pub record AreOrders (p : Preferences) (sorted : List ClassedNode) (orders : List (Option Ordering)) (best : Option Node) :
+    Type 0 where
+  pub each : (c : ClassedNode) (n : Node) → IsEntry p.tables.nodes sorted c n →
+      IfSome (get_or orders c.class None) (λ o. IsOrder p o n best)

@@ -1,0 +1,28 @@
+-- Which nodes come before the best one so far, and how far the sorted ones are gone through.
+use Rattle.std.specs.Ordering.{is_lt, nat_cmp, ordering_then}
+use Rattle.std.specs.Prelude.{Bool, List, None, Option, Some, drop, filter, length, true, ℕ, ◌≡◌}
+use Rattle.std.specs.declared.cmp.Ordering.{Ordering}
+use Rattle.swarm_filters.specs.Tested.{is_open}
+use Rattle.swarm_objects.specs.Nodes.BestNode.{best_node, load, node_cmp}
+use Rattle.swarm_objects.specs.Nodes.Filters.{here}
+use Rattle.swarm_objects.specs.Rows.{least_by}
+use Rattle.swarm_objects.specs.World.{Tables}
+use Rattle.swarm_objects.specs.declared.nodes.Node.{Node}
+use Rattle.swarm_objects.specs.declared.tasks.Task.{Task}
+use Rattle.swarm_sched.specs.Inside.Branches.{preferences}
+use Rattle.swarm_sched.specs.Inside.Classes.{AreOrders}
+use Rattle.swarm_sched.specs.declared.classes.ClassedNode.{ClassedNode}
+
+-- the node with this id comes before the best one so far, with which it compares so by the placement preferences
+abbrev pub comes_first : Tables → ℕ → Ordering → ℕ → Option Node → Bool
+comes_first t service spread node None = true
+comes_first t service spread node (Some b) =
+    is_lt (ordering_then spread (ordering_then (nat_cmp (here t node service) (here t b.id service))
+    (ordering_then (nat_cmp (load t node) (load t b.id)) (nat_cmp node b.id))))
+
+-- the nodes from this place on decide, and what is known of the classes is so
+pub record IsSearched (t : Tables) (x : Task) (sorted : List ClassedNode) (orders : List (Option Ordering))
+    (best : Option Node) (i : ℕ) : Type 0 where
+  pub left : least_by (node_cmp t x) best (filter (is_open t x) (drop i t.nodes)) ≡ best_node t x
+  pub known : AreOrders (preferences t x) sorted orders best
+  pub all : length orders ≡ 16

@@ -1,0 +1,231 @@
+// The nodes by their values for placement preferences, as far as they are remembered from one placement to the next.
+ghost use Rattle.std.specs.List.{list_any, position};
+ghost use Rattle.std.specs.Prelude.{◌≡◌, ◌≤◌, IfSome, IsTrue, None, [], length};
+ghost use Rattle.swarm_objects.specs.ChangeLists.{apply_changes};
+ghost use Rattle.swarm_objects.specs.Nodes.BestNode.{agrees};
+ghost use Rattle.swarm_objects.specs.Usable.{IsUsable};
+ghost use Rattle.swarm_objects.specs.World.{Tables};
+ghost use Rattle.swarm_sched.specs.Inside.Classes.{AreClasses, AreSorted, IsMore, IsOf, IsServed, classes, puts_node};
+
+use crate::keys::agrees;
+use std::alloc::Global;
+use std::marker::Model;
+use swarm_objects::walks::nodes;
+use swarm_objects::{Change, Duplicate, Id, Key, List, Node, Rows, Same};
+
+/// The most classes into which nodes are sorted.
+pub const CLASSES: usize = 16;
+
+/// A node, and the class that it is of.
+#[derive(Clone, Copy)]
+pub struct ClassedNode {
+    pub id: Id,
+    pub class: usize,
+}
+
+// Whether the nodes are sorted.
+#[derive(Drop)]
+enum Sorting {
+    NotYet,
+    // all of them by rising id; those of one class have the same values
+    Done(List<ClassedNode>),
+    // there are too many classes, or memory was wanting
+    InVain,
+}
+
+// The preferences that were asked for last.
+#[derive(Drop)]
+struct Asked {
+    keys: List<Key>,
+    sorting: Sorting,
+}
+
+/// The nodes, sorted into classes by the placement preferences that were asked for last. Contracts see these preferences
+/// and the nodes, or none where they aren't sorted.
+#[derive(Drop)]
+pub struct NodeClasses {
+    // None where none will be sorted
+    alloc: Option<Global>,
+    asked: Option<Asked>,
+}
+
+impl Model for NodeClasses {
+    ghost use Rattle.std.specs.Prelude.{Option};
+    ghost use Rattle.swarm_sched.specs.Inside.Classes.{Classes, shown};
+
+    ghost Value = { Option Classes };
+
+    ghost view = { λ c. shown c.asked };
+}
+
+// The first of the heads that the node agrees with.
+fn class_among(keys: &[Key], heads: &[&Node], node: &Node) -> Option<usize>
+    ensures { result ≡ position (λ head. agrees keys.now head.now node.now) heads.now }
+{
+    heads.iter().position(|head| agrees(keys, *head, node))
+}
+
+// The class of the node, by the first node of each. Where it is of none, one more begins with it, unless there are too
+// many or memory is wanting.
+fn class_of<'a>(keys: &[Key], heads: &mut List<&'a Node>, node: &'a Node) -> Option<usize>
+    requires { length heads.old ≤ 16 }
+    ensures class { IfSome result (λ class. IsOf keys.now heads.new class node.now) }
+    ensures more { IsMore keys.now heads.old heads.new }
+    ensures few { length heads.new ≤ 16 }
+{
+    if let Some(class) = class_among(keys, heads.as_slice(), node) {
+        return Some(class);
+    }
+    let class = heads.len();
+    if class == CLASSES {
+        return None;
+    }
+    match heads.push(node) {
+        Ok(()) => Some(class),
+        Err(_) => None,
+    }
+}
+
+// All nodes with their classes by these keys, unless there are too many or memory is wanting.
+fn sorted_nodes<R: Rows>(alloc: Global, rows: &R, keys: &[Key]) -> Option<List<ClassedNode>>
+    requires { IsUsable (R.tables rows.now) }
+    ensures { IfSome result (AreSorted (R.tables rows.now).nodes keys.now) }
+{
+    let mut heads = List::new(alloc);
+    let mut sorted = List::new(alloc);
+    for node in nodes(rows) {
+        let class = class_of(keys, &mut heads, node)?;
+        let Ok(()) = sorted.push(ClassedNode { id: node.id, class }) else {
+            return None;
+        };
+    }
+    Some(sorted)
+}
+
+impl Asked {
+    // The nodes of a class have the same values for these keys too. Where there are none, so have any nodes.
+    fn is_for(&self, keys: &List<Key>) -> bool
+        ensures { IsTrue result → IsServed self.now.keys keys.now }
+    {
+        keys.is_empty() || keys.same(&self.keys)
+    }
+
+    // The nodes by these keys, where they are sorted.
+    fn nodes_for(&self, keys: &List<Key>) -> Option<&[ClassedNode]>
+        ensures { (t : Tables) → AreClasses t (classes self.now)
+            → IfSome result (λ sorted. AreSorted t.nodes keys.now sorted.now) }
+    {
+        if !self.is_for(keys) {
+            return None;
+        }
+        match &self.sorting {
+            Sorting::Done(sorted) => Some(sorted.as_slice()),
+            Sorting::NotYet | Sorting::InVain => None,
+        }
+    }
+
+    // Sorts the nodes, unless that was tried before.
+    fn sort<R: Rows>(&mut self, alloc: Global, rows: &R)
+        requires usable { IsUsable (R.tables rows.now) }
+        requires knows { AreClasses (R.tables rows.now) (classes self.old) }
+        ensures { AreClasses (R.tables rows.now) (classes self.new) }
+    {
+        if let Sorting::NotYet = self.sorting {
+            self.sorting = match sorted_nodes(alloc, rows, self.keys.as_slice()) {
+                Some(sorted) => Sorting::Done(sorted),
+                None => Sorting::InVain,
+            };
+        }
+    }
+}
+
+// The preferences are asked for first. Nothing is sorted yet.
+fn first_asked(alloc: Global, keys: &List<Key>) -> Option<Asked>
+    ensures { IfSome result (λ asked. classes asked ≡ None) }
+{
+    let keys = keys.duplicate(alloc).ok()?;
+    Some(Asked {
+        keys,
+        sorting: Sorting::NotYet,
+    })
+}
+
+// The change puts a node.
+fn puts_node(change: &Change) -> bool
+    ensures { result ≡ puts_node change.now }
+{
+    matches!(change, Change::PutNode(_))
+}
+
+// One of the changes does.
+fn any_puts_node(changes: &[Change]) -> bool
+    ensures { result ≡ list_any puts_node changes.now }
+{
+    changes.iter().any(puts_node)
+}
+
+impl NodeClasses {
+    /// Nothing is sorted, and nothing will be. It takes no memory.
+    pub fn none() -> NodeClasses
+        ensures { result ≡ None }
+    {
+        NodeClasses {
+            alloc: None,
+            asked: None,
+        }
+    }
+
+    /// Nothing is sorted so far.
+    pub fn new(alloc: Global) -> NodeClasses
+        ensures { result ≡ None }
+    {
+        NodeClasses {
+            alloc: Some(alloc),
+            asked: None,
+        }
+    }
+
+    /// Forgets all.
+    pub fn forget(&mut self)
+        ensures { self.new ≡ None }
+    {
+        self.asked = None;
+    }
+
+    /// Forgets all where these changes put a node.
+    pub fn forget_changed(&mut self, changes: &[Change])
+        ensures stays { (t : Tables) → AreClasses t self.old → AreClasses t self.new }
+        ensures goes_on { (t : Tables) → AreClasses t self.old → AreClasses (apply_changes t changes.now) self.new }
+    {
+        if any_puts_node(changes) {
+            self.forget();
+        }
+    }
+
+    /// Sorts the nodes by the preferences, where they are asked for again. Where others were asked for before, these
+    /// are only noted: to sort costs more than to place one task.
+    pub fn ask<R: Rows>(&mut self, rows: &R, keys: &List<Key>)
+        requires usable { IsUsable (R.tables rows.now) }
+        requires knows { AreClasses (R.tables rows.now) self.old }
+        ensures { AreClasses (R.tables rows.now) self.new }
+    {
+        let Some(alloc) = self.alloc else {
+            return;
+        };
+        match &mut self.asked {
+            Some(asked) if asked.is_for(keys) => asked.sort(alloc, rows),
+            _ => self.asked = first_asked(alloc, keys),
+        }
+    }
+
+    /// The nodes by these preferences, where they are sorted.
+    pub fn nodes_for(&self, keys: &List<Key>) -> Option<&[ClassedNode]>
+        ensures { (t : Tables) → AreClasses t self.now
+            → IfSome result (λ sorted. AreSorted t.nodes keys.now sorted.now) }
+    {
+        match &self.asked {
+            Some(asked) => asked.nodes_for(keys),
+            None => None,
+        }
+    }
+}

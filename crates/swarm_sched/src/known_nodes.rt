@@ -1,0 +1,58 @@
+// What is remembered of nodes from one placement to the next.
+ghost use Rattle.swarm_objects.specs.ChangeLists.{apply_changes};
+ghost use Rattle.swarm_objects.specs.Usable.{IsUsable};
+ghost use Rattle.swarm_objects.specs.World.{Tables};
+ghost use Rattle.swarm_sched.specs.Inside.KnownNodes.{KnowsNodes};
+
+use crate::classes::NodeClasses;
+use crate::known::KnownTotals;
+use std::alloc::Global;
+use swarm_objects::{Change, Rows};
+
+/// What the tasks on nodes come to, and the nodes sorted by placement preferences.
+#[derive(Drop)]
+pub struct KnownNodes {
+    pub(crate) totals: KnownTotals,
+    pub(crate) classes: NodeClasses,
+}
+
+impl KnownNodes {
+    /// Nothing is remembered, and nothing will be. It takes no memory.
+    pub fn none() -> KnownNodes
+        ensures { (t : Tables) → KnowsNodes t result }
+    {
+        KnownNodes {
+            totals: KnownTotals::none(),
+            classes: NodeClasses::none(),
+        }
+    }
+
+    /// Nothing is remembered so far. What there is no memory for never will be.
+    pub fn new(alloc: Global) -> KnownNodes
+        ensures { (t : Tables) → KnowsNodes t result }
+    {
+        KnownNodes {
+            totals: KnownTotals::new(alloc),
+            classes: NodeClasses::new(alloc),
+        }
+    }
+
+    /// Forgets what these changes of the rows make untrue. It is asked before they are made.
+    pub fn forget_changed<R: Rows>(&mut self, rows: &R, changes: &[Change])
+        requires usable { IsUsable (R.tables rows.now) }
+        requires knows { KnowsNodes (R.tables rows.now) self.old }
+        ensures stays { KnowsNodes (R.tables rows.now) self.new }
+        ensures goes_on { KnowsNodes (apply_changes (R.tables rows.now) changes.now) self.new }
+    {
+        self.totals.forget_changed(rows, changes);
+        self.classes.forget_changed(changes);
+    }
+
+    /// Forgets all.
+    pub fn forget_all(&mut self)
+        ensures { (t : Tables) → KnowsNodes t self.new }
+    {
+        self.totals.forget_all();
+        self.classes.forget();
+    }
+}
