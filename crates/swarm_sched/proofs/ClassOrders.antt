@@ -26,10 +26,9 @@ use Rattle.swarm_objects.specs.declared.templates.Key.{Key}
 use Rattle.swarm_sched.proofs.Branching.{branch-alike, at_place}
 use Rattle.swarm_sched.specs.Inside.Branches.{Preferences, preferences}
 use Rattle.swarm_sched.specs.Inside.Classes.{AreOrders, AreSorted, IsEntry, IsOrder, entry_id}
-use Rattle.swarm_sched.specs.Inside.Placing.{IsSearched, comes_first}
-use Rattle.swarm_sched.specs.Inside.Totals.{AreTotals}
+use Rattle.swarm_sched.specs.Inside.Placing.{IsNodeLoad, IsSearched, comes_first}
 use Rattle.swarm_sched.specs.declared.classes.ClassedNode.{ClassedNode}
-use Rattle.swarm_sched.specs.declared.totals.Totals.{Totals}
+use Rattle.swarm_sched.specs.declared.placing.NodeLoad.{NodeLoad}
 
 -- Nodes of one class compare so with any other.
 
@@ -242,6 +241,10 @@ at_entry t x p sorted orders more best i d o usable own are so lt found is = rec
         (subst (λ r. (get_or orders c.class None ≡ Some o) ⊎ IfSome (row_at node_id c.id t.nodes)
         (λ m. IsOrder r o m best)) own found)
 
+-- the row is the entry's
+pub row_id : (nodes : List Node) (id : ℕ) (n : Node) → row_at node_id id nodes ≡ Some n → id ≡ n.id
+row_id nodes id n is = sym (Has-from_row_at node_id id nodes n is).1
+
 -- at the first entry
 pub searched_none : (t : Tables) (x : Task) (sorted : List ClassedNode) →
     least_by (node_cmp t x) None (filter (is_open t x) t.nodes) ≡ best_node t x →
@@ -264,7 +267,7 @@ searched_past t x sorted orders more best i c o at so later = record {
 }
 
 -- behind one whose node isn't open
-pub searched_shut : (t : Tables) (x : Task) (sorted : List ClassedNode) (orders more : List (Option Ordering))
+searched_shut : (t : Tables) (x : Task) (sorted : List ClassedNode) (orders more : List (Option Ordering))
     (best : Option Node)
     (i : ℕ) (c : ClassedNode) (o : Ordering) (m : Node) → AtEntry t x sorted more best i c o →
     IsSearched t x sorted orders best i → row_at node_id c.id t.nodes ≡ Some m → is_open t x m ≡ false →
@@ -282,14 +285,14 @@ searched_shut t x sorted orders more best i c o m at so row shut = record {
 pub searched_best : (t : Tables) (x : Task) (sorted : List ClassedNode) (orders more : List (Option Ordering))
     (best : Option Node)
     (i : ℕ) (c : ClassedNode) (o : Ordering) (m : Node) → AtEntry t x sorted more best i c o →
-    IsSearched t x sorted orders best i → comes_first t x.service o c.id best ≡ true →
-    row_at node_id c.id t.nodes ≡ Some m →
-    is_open t x m ≡ true → IsSearched t x sorted (replicate 16 None) (Some m) (i + 1)
-searched_best t x sorted orders more best i c o m at so first row opens = record {
+    IsSearched t x sorted orders best i → row_at node_id c.id t.nodes ≡ Some m →
+    (is_open t x m && comes_first t x.service o m.id best) ≡ true →
+    IsSearched t x sorted (replicate 16 None) (Some m) (i + 1)
+searched_best t x sorted orders more best i c o m at so row better = record {
   left =
       ap (λ n. least_by (node_cmp t x) (Some n) (filter (is_open t x) (drop (i + 1) t.nodes))) (sym node)
       ∙ comes t x (is_open t x) o best at.node (drop (i + 1) t.nodes) at.order
-      (ap (λ k. comes_first t x.service o k best) at.same ∙ first) (ap (is_open t x) node ∙ opens)
+      (ap (λ n. comes_first t x.service o n.id best) node ∙ parts.1) (ap (is_open t x) node ∙ parts.0)
       ∙ ap (λ l. least_by (node_cmp t x) best (filter (is_open t x) l)) (sym at.rest) ∙ so.left;
   known = orders_none (preferences t x) sorted 16 (Some m);
   all = refl;
@@ -298,16 +301,30 @@ searched_best t x sorted orders more best i c o m at so first row opens = record
     node : at.node ≡ m
     node = same_row (sym at.row ∙ row)
 
+    parts : (is_open t x m ≡ true) × (comes_first t x.service o m.id best ≡ true)
+    parts = both_are (is_open t x m) (comes_first t x.service o m.id best) better
+
+-- behind one whose node isn't open, or doesn't come first
+pub searched_worse : (t : Tables) (x : Task) (sorted : List ClassedNode) (orders more : List (Option Ordering))
+    (best : Option Node)
+    (i : ℕ) (c : ClassedNode) (o : Ordering) (m : Node) → AtEntry t x sorted more best i c o →
+    IsSearched t x sorted orders best i → row_at node_id c.id t.nodes ≡ Some m →
+    (is_open t x m && comes_first t x.service o m.id best) ≡ false → IsSearched t x sorted more best (i + 1)
+searched_worse t x sorted orders more best i c o m at so row worse = go (is_open t x m) refl
+  where
+    go : (b : Bool) → is_open t x m ≡ b → IsSearched t x sorted more best (i + 1)
+    go true opens =
+        searched_past t x sorted orders more best i c o at so
+        (ap (λ k. comes_first t x.service o k best) (row_id t.nodes c.id m row)
+        ∙ sym (ap (λ b. b && comes_first t x.service o m.id best) opens) ∙ worse)
+    go false shut = searched_shut t x sorted orders more best i c o m at so row shut
+
 -- each entry has a row
 pub none_there : (t : Tables) (x : Task) (sorted : List ClassedNode) (orders : List (Option Ordering))
     (best : Option Node) (i : ℕ)
     (c : ClassedNode) (o : Ordering) → {A : Type 0} → AtEntry t x sorted orders best i c o →
     row_at node_id c.id t.nodes ≡ None → A
 none_there t x sorted orders best i c o at none = let both : Some at.node ≡ None = sym at.row ∙ none in absurd cc
-
--- the row is the entry's
-pub row_id : (nodes : List Node) (id : ℕ) (n : Node) → row_at node_id id nodes ≡ Some n → id ≡ n.id
-row_id nodes id n is = sym (Has-from_row_at node_id id nodes n is).1
 
 -- the same of what both ways leave
 pub searched_so : (t : Tables) (x : Task) (sorted : List ClassedNode) (orders after : List (Option Ordering))
@@ -318,9 +335,9 @@ searched_so t x sorted orders after best new i same one so =
     subst (λ list. IsSearched t x sorted list (option_copied new) i) (sym same)
     (subst (λ b. IsSearched t x sorted orders (option_copied b) i) (sym one) so)
 
-pub held_so : (t : Tables) (service : ℕ) (best new : Option (Bor Node)) (held after : Totals) → new ≡ best →
+pub held_so : (t : Tables) (service : ℕ) (best new : Option (Bor Node)) (held after : NodeLoad) → new ≡ best →
     after ≡ held →
-    IfSome best (λ b. AreTotals t b.now.id service held) → IfSome new (λ b. AreTotals t b.now.id service after)
+    IfSome best (λ b. IsNodeLoad t b.now.id service held) → IfSome new (λ b. IsNodeLoad t b.now.id service after)
 held_so t service best new held after one same so =
-    subst (λ h. IfSome new (λ b. AreTotals t b.now.id service h)) (sym same)
-    (subst (λ o. IfSome o (λ b. AreTotals t b.now.id service held)) (sym one) so)
+    subst (λ h. IfSome new (λ b. IsNodeLoad t b.now.id service h)) (sym same)
+    (subst (λ o. IfSome o (λ b. IsNodeLoad t b.now.id service held)) (sym one) so)

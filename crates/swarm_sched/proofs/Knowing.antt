@@ -18,10 +18,8 @@ use Rattle.swarm_objects.specs.World.{Tables}
 use Rattle.swarm_objects.specs.declared.rows.Change.TheVariants as change
 use Rattle.swarm_objects.specs.declared.rows.Change.{Change}
 use Rattle.swarm_objects.specs.declared.tasks.Task.{Task}
-use Rattle.swarm_sched.specs.Inside.Known.{AreFewer, Forgets, ForgetsAll, ForgetsChange, Forgetting, Knows, if_of, recalled}
-use Rattle.swarm_sched.specs.Inside.Totals.{AreTotals}
+use Rattle.swarm_sched.specs.Inside.Known.{AreCounted, AreFewer, Forgets, ForgetsAll, ForgetsChange, Forgetting, Knows, if_of, recalled}
 use Rattle.swarm_sched.specs.declared.known.NodeTotals.{NodeTotals}
-use Rattle.swarm_sched.specs.declared.totals.Totals.{Totals}
 
 -- One slot.
 
@@ -51,20 +49,17 @@ own-slot all i o m lt is =
     ∙ ap (λ j. if_of m (get_or (set all i o) j None)) (sym is) ∙ ap (if_of m) (get_or-set_same all i o None lt)
 
 pub filled : (t : Tables) (all : List (Option NodeTotals)) (i : ℕ) (k : NodeTotals) → i < length all → Knows t all →
-    AreTotals t k.node k.service k.totals → Knows t (set all i (Some k))
+    AreCounted t k.node k → Knows t (set all i (Some k))
 filled t all i k lt knows are = record { each = λ m. at m (slot-set all i (Some k) m lt) }
   where
-    so : ℕ → NodeTotals → Type 0
-    so m j = AreTotals t m j.service j.totals
-
-    own : (m : ℕ) (b : Bool) → eqb k.node m ≡ b → IfSome (cond b (Some k) None) (so m)
-    own m true is = let same : k.node ≡ m = grind (arith, nat_tests, is) in subst (λ n. AreTotals t n k.service k.totals) same are
+    own : (m : ℕ) (b : Bool) → eqb k.node m ≡ b → IfSome (cond b (Some k) None) (AreCounted t m)
+    own m true is = let same : k.node ≡ m = grind (arith, nat_tests, is) in subst (λ n. AreCounted t n k) same are
     own m false is = tt
 
     at : (m : ℕ) → (recalled (set all i (Some k)) m ≡ if_of m (Some k)) ⊎ (recalled (set all i (Some k)) m ≡ recalled all m) →
-        IfSome (recalled (set all i (Some k)) m) (so m)
-    at m (inl e) = subst (λ o. IfSome o (so m)) (sym e) (own m (eqb k.node m) refl)
-    at m (inr e) = subst (λ o. IfSome o (so m)) (sym e) (knows.each m)
+        IfSome (recalled (set all i (Some k)) m) (AreCounted t m)
+    at m (inl e) = subst (λ o. IfSome o (AreCounted t m)) (sym e) (own m (eqb k.node m) refl)
+    at m (inr e) = subst (λ o. IfSome o (AreCounted t m)) (sym e) (knows.each m)
 
 pub emptied : (all : List (Option NodeTotals)) (i : ℕ) → i < length all → AreFewer all (set all i None)
 emptied all i lt = record { each = λ m. slot-set all i None m lt }
@@ -82,7 +77,7 @@ none-at (suc n) (suc j) = none-at n j
 pub empty_knows : (t : Tables) (n : ℕ) → Knows t (replicate n None)
 empty_knows t n = record {
   each = λ m.
-      subst (λ o. IfSome o (λ k. AreTotals t m k.service k.totals))
+      subst (λ o. IfSome o (AreCounted t m))
       (sym (ap (if_of m) (none-at n (m % length (replicate n None))))) tt;
 }
 
@@ -315,13 +310,16 @@ changes-leave p (c ∷ cs) t misses =
 
 -- What is remembered after changes.
 
-pub totals-alike : (t u : Tables) (node service : ℕ) (s : Totals) → tasks_placed_on u node ≡ tasks_placed_on t node →
-    AreTotals t node service s → AreTotals u node service s
-totals-alike t u node service s same are = (
-  are.0 ∙ ap (sum_by task_cpu) (sym same),
-  are.1 ∙ ap (sum_by task_mem) (sym same),
-  are.2 ∙ sym (load_is t node) ∙ ap (count_by is_live) (sym same) ∙ load_is u node,
-  are.3 ∙ sym (here_is t node service) ∙ ap (count_by (λ x. is_of service x && is_live x)) (sym same) ∙ here_is u node service,
+pub counted-alike : (t u : Tables) (node : ℕ) (k : NodeTotals) → tasks_placed_on u node ≡ tasks_placed_on t node →
+    AreCounted t node k → AreCounted u node k
+counted-alike t u node k same are = (
+  are.0 ∙ sym (here_is t node k.service) ∙ ap (count_by (λ x. is_of k.service x && is_live x)) (sym same)
+      ∙ here_is u node k.service,
+  (
+    are.1.0 ∙ ap (sum_by task_cpu) (sym same),
+    are.1.1 ∙ ap (sum_by task_mem) (sym same),
+    are.1.2 ∙ sym (load_is t node) ∙ ap (count_by is_live) (sym same) ∙ load_is u node,
+  ),
 )
 
 misses-known : (t : Tables) (all : List (Option NodeTotals)) (node : ℕ) (k : NodeTotals) (c : Change) → IsUsable t →
@@ -351,8 +349,8 @@ pub fewer_knows : (t : Tables) (before after : List (Option NodeTotals)) → Kno
 fewer_knows t before after knows fewer = record {
   each = λ m.
       elim (fewer.each m) [
-        | inl none ↦ subst (λ o. IfSome o (λ k. AreTotals t m k.service k.totals)) (sym none) tt
-        | inr same ↦ subst (λ o. IfSome o (λ k. AreTotals t m k.service k.totals)) (sym same) (knows.each m)
+        | inl none ↦ subst (λ o. IfSome o (AreCounted t m)) (sym none) tt
+        | inr same ↦ subst (λ o. IfSome o (AreCounted t m)) (sym same) (knows.each m)
       ];
 }
 
@@ -363,18 +361,18 @@ changed_knows t cs all usable knows gone = record { each = λ m. go m (recalled 
     u : Tables
     u = apply_changes t cs
 
-    go : (m : ℕ) (o : Option NodeTotals) → recalled all m ≡ o → IfSome o (λ k. AreTotals t m k.service k.totals) →
-        IfSome o (λ k. AreTotals u m k.service k.totals)
+    go : (m : ℕ) (o : Option NodeTotals) → recalled all m ≡ o → IfSome o (AreCounted t m) →
+        IfSome o (AreCounted u m)
     go m None is so = tt
     go m (Some k) is so =
-        totals-alike t u m k.service k.totals
+        counted-alike t u m k
         (changes-leave (is_placed_on m) cs t (λ c h. misses-known t all m k c usable is (gone.each c h))) so
 
 pub ruleset changed_steps = (fewer_knows, changed_knows)
 
 -- what is remembered of a node is so
 pub recalled_are : (t : Tables) (all : List (Option NodeTotals)) (node : ℕ) (k : NodeTotals) → Knows t all →
-    Some k ≡ recalled all node → AreTotals t node k.service k.totals
-recalled_are t all node k knows is = subst (λ o. IfSome o (λ j. AreTotals t node j.service j.totals)) (sym is) (knows.each node)
+    Some k ≡ recalled all node → AreCounted t node k
+recalled_are t all node k knows is = subst (λ o. IfSome o (AreCounted t node)) (sym is) (knows.each node)
 
 pub ruleset recall_steps = (recalled_are)

@@ -4,20 +4,19 @@ use Rattle.std.specs.Prelude.{IfSome, filter}
 use Rattle.swarm_objects.specs.Nodes.Holdings.{is_placed_on}
 use Rattle.swarm_objects.specs.World.{Tables}
 use Rattle.swarm_sched.proofs.Classing.{classes-alike}
-use Rattle.swarm_sched.proofs.Knowing.{totals-alike}
-use Rattle.swarm_sched.specs.Inside.Known.{Knows, recalled}
+use Rattle.swarm_sched.proofs.Knowing.{counted-alike}
+use Rattle.swarm_sched.specs.Inside.Known.{AreCounted, Knows, recalled}
 use Rattle.swarm_sched.specs.Inside.KnownNodes.{KnowsNodes}
-use Rattle.swarm_sched.specs.Inside.Totals.{AreTotals}
 use Rattle.swarm_sched.specs.declared.known.NodeTotals.{NodeTotals}
 use Rattle.swarm_sched.specs.declared.known_nodes.KnownNodes.{KnownNodes}
 
 totals-so : (t u : Tables) (all : List (Option NodeTotals)) → u.tasks ≡ t.tasks → Knows t all → Knows u all
 totals-so t u all same knows = record { each = λ node. so node (recalled all node) (knows.each node) }
   where
-    so : (node : ℕ) (o : Option NodeTotals) → IfSome o (λ k. AreTotals t node k.service k.totals) →
-        IfSome o (λ k. AreTotals u node k.service k.totals)
+    so : (node : ℕ) (o : Option NodeTotals) → IfSome o (AreCounted t node) →
+        IfSome o (AreCounted u node)
     so node None is = tt
-    so node (Some k) is = totals-alike t u node k.service k.totals (ap (filter (is_placed_on node)) same) is
+    so node (Some k) is = counted-alike t u node k (ap (filter (is_placed_on node)) same) is
 
 pub knows_alike : (t u : Tables) (k : KnownNodes) → u.tasks ≡ t.tasks → u.nodes ≡ t.nodes → KnowsNodes t k →
     KnowsNodes u k

@@ -1,29 +1,30 @@
 // What the tasks on nodes come to, as far as it is remembered from one placement to the next.
 ghost use Rattle.std.specs.Prelude.{◌≡◌, [], None, Some};
 ghost use Rattle.swarm_objects.specs.ChangeLists.{apply_changes};
-ghost use Rattle.swarm_objects.specs.Nodes.BestNode.{load};
+ghost use Rattle.swarm_objects.specs.Nodes.Filters.{here};
 ghost use Rattle.swarm_objects.specs.Rows.{row_at, task_id};
 ghost use Rattle.swarm_objects.specs.Usable.{IsUsable};
 ghost use Rattle.swarm_objects.specs.World.{Tables};
-ghost use Rattle.swarm_sched.specs.Inside.Known.{AreFewer, Forgets, ForgetsAll, ForgetsChange, Knows, if_of, recalled};
+ghost use Rattle.swarm_sched.specs.Inside.Known.{AreCounted, AreFewer, Forgets, ForgetsAll, ForgetsChange, Knows, if_of, recalled};
 ghost use Rattle.swarm_sched.specs.Inside.Totals.{AreTotals};
 
 use crate::totals::{Totals, count_up};
 use std::alloc::Global;
 use std::marker::Model;
 use swarm_objects::loads::Loads;
-use swarm_objects::placed::{load, reserved_cpu, reserved_mem};
+use swarm_objects::placed::{here, load, reserved_cpu, reserved_mem};
 use swarm_objects::{Change, Id, Rows, Task};
 
 // More than a cluster has nodes.
 const SLOTS: usize = 1024;
 
-/// A node's totals, for a service.
+/// A node's totals, and how many of its live tasks are of the service that asked last.
 #[derive(Clone, Copy)]
 pub struct NodeTotals {
     node: Id,
-    service: Id,
     totals: Totals,
+    service: Id,
+    here: u64,
 }
 
 /// The totals of nodes that were asked for last. Each node has one slot, by the rest of its id; of nodes with the same slot the
@@ -114,7 +115,7 @@ impl KnownTotals {
     // Puts them in the node's slot, where there is one.
     #[tactic(auto, using(crate::proofs::Knowing::remember_steps))]
     fn put(&mut self, known: NodeTotals)
-        ensures { (t : Tables) → Knows t self.old → AreTotals t known.node known.service known.totals → Knows t self.new }
+        ensures { (t : Tables) → Knows t self.old → AreCounted t known.node known → Knows t self.new }
     {
         let Some(slots) = &mut self.slots else {
             return;
@@ -128,7 +129,7 @@ impl KnownTotals {
 
     // Remembers them, where there is memory.
     fn remember(&mut self, known: NodeTotals)
-        ensures { (t : Tables) → Knows t self.old → AreTotals t known.node known.service known.totals → Knows t self.new }
+        ensures { (t : Tables) → Knows t self.old → AreCounted t known.node known → Knows t self.new }
     {
         self.refresh();
         self.put(known);
@@ -218,39 +219,58 @@ impl KnownTotals {
         self.is_fresh = false;
     }
 
-    /// The node's totals, for a task of the service. They are counted where they aren't remembered.
-    pub fn totals<R: Rows>(&mut self, rows: &R, node: Id, service: Id) -> Totals
+    // What is remembered of the node, be it for another service, or else what is counted for this one.
+    fn counted<R: Rows>(&mut self, rows: &R, node: Id, service: Id) -> NodeTotals
         requires usable { IsUsable (R.tables rows.now) }
         requires knows { Knows (R.tables rows.now) self.old }
-        ensures totals { AreTotals (R.tables rows.now) node service result }
+        ensures counted { AreCounted (R.tables rows.now) node result }
         ensures knows { Knows (R.tables rows.now) self.new }
     {
         if let Some(known) = self.recall(node) {
-            if known.service == service {
-                return known.totals;
-            }
+            return known;
         }
-        let totals = count_up(rows, node, service);
-        self.remember(NodeTotals {
+        let (totals, here) = count_up(rows, node, service);
+        let counted = NodeTotals {
             node,
-            service,
             totals,
-        });
-        totals
+            service,
+            here,
+        };
+        self.remember(counted);
+        counted
     }
 
-    /// How many live tasks of all services are on the node. They are counted where they aren't remembered, and then
-    /// the service's own with them.
-    pub fn load<R: Rows>(&mut self, rows: &R, node: Id, service: Id) -> u64
+    /// The node's totals. They are counted where they aren't remembered, and by the same walk the service's own tasks, which
+    /// may be asked for next.
+    pub fn totals<R: Rows>(&mut self, rows: &R, node: Id, service: Id) -> Totals
         requires usable { IsUsable (R.tables rows.now) }
         requires knows { Knows (R.tables rows.now) self.old }
-        ensures load { result ≡ load (R.tables rows.now) node }
+        ensures totals { AreTotals (R.tables rows.now) node result }
         ensures knows { Knows (R.tables rows.now) self.new }
     {
-        match self.recall(node) {
-            Some(known) => known.totals.load,
-            None => self.totals(rows, node, service).load,
+        self.counted(rows, node, service).totals
+    }
+
+    /// How many of the node's live tasks are the service's. They are counted where they aren't remembered, as those of the
+    /// service that asked last are.
+    pub fn here<R: Rows>(&mut self, rows: &R, node: Id, service: Id) -> u64
+        requires usable { IsUsable (R.tables rows.now) }
+        requires knows { Knows (R.tables rows.now) self.old }
+        ensures here { result ≡ here (R.tables rows.now) node service }
+        ensures knows { Knows (R.tables rows.now) self.new }
+    {
+        let known = self.counted(rows, node, service);
+        if known.service == service {
+            return known.here;
         }
+        let here = here(rows, node, service);
+        self.remember(NodeTotals {
+            node,
+            totals: known.totals,
+            service,
+            here,
+        });
+        here
     }
 }
 

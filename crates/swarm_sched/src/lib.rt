@@ -1,4 +1,4 @@
-// The scheduler's duties over any rows: the first, and what each changes. The best node is found by scans.
+// The scheduler's duties over any rows: the first, and what each changes. What is remembered of nodes need not be found by scans again.
 #![tactic(auto)]
 
 mod branches;

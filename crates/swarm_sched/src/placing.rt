@@ -1,7 +1,7 @@
 // The best node for a task.
 ghost use Rattle.std.specs.Option.{option_copied, option_map};
 ghost use Rattle.std.specs.Ordering.{nat_cmp, ordering_then};
-ghost use Rattle.std.specs.Prelude.{◌≡◌, ◌↔◌, ◌⊎◌, ◌<◌, IfSome, IsTrue, None, Some, get_or, is_some, length, set};
+ghost use Rattle.std.specs.Prelude.{◌≡◌, ◌↔◌, ◌⊎◌, ◌<◌, ◌&&◌, IfSome, IsTrue, None, Some, false, get_or, is_some, length, set};
 ghost use Rattle.std.specs.declared.cmp.Ordering.TheVariants.{Less};
 ghost use Rattle.swarm_filters.specs.Tested.{is_open};
 ghost use Rattle.swarm_objects.specs.Nodes.BestNode.{best_node};
@@ -11,7 +11,7 @@ ghost use Rattle.swarm_sched.specs.Inside.Branches.{preferences};
 ghost use Rattle.swarm_sched.specs.Inside.Classes.{AreSorted, IsOrder};
 ghost use Rattle.swarm_sched.specs.Inside.Known.{Knows};
 ghost use Rattle.swarm_sched.specs.Inside.KnownNodes.{KnowsNodes};
-ghost use Rattle.swarm_sched.specs.Inside.Placing.{comes_first};
+ghost use Rattle.swarm_sched.specs.Inside.Placing.{IsNodeLoad, comes_first};
 ghost use Rattle.swarm_sched.specs.Inside.Totals.{AreTotals};
 ghost use Rattle.swarm_spread.specs.Counts.{IsFor, Stands};
 
@@ -29,8 +29,19 @@ use swarm_objects::walks::nodes;
 use swarm_objects::{Id, Node, Rows, Task};
 use swarm_spread::SpreadTree;
 
-// Which of two nodes comes first, by the placement preferences and then by what their tasks come to.
-fn node_cmp(spread: Ordering, a: Id, b: Id, one: Totals, other: Totals) -> Ordering
+// How many live tasks are on a node: of all services, and of the task's own.
+#[derive(Clone, Copy)]
+struct NodeLoad {
+    load: u64,
+    here: u64,
+}
+
+impl NodeLoad {
+    const NONE: NodeLoad = NodeLoad { load: 0, here: 0 };
+}
+
+// Which of two nodes comes first, by the placement preferences and then by their live tasks.
+fn node_cmp(spread: Ordering, a: Id, b: Id, one: NodeLoad, other: NodeLoad) -> Ordering
     ensures { result ≡ ordering_then spread (ordering_then (nat_cmp one.here other.here)
         (ordering_then (nat_cmp one.load other.load) (nat_cmp a b))) }
 {
@@ -42,48 +53,41 @@ fn node_cmp(spread: Ordering, a: Id, b: Id, one: Totals, other: Totals) -> Order
 
 // Whether a node with so many tasks may come before one that has none of the service's: only by fewer of all services, or by
 // its id.
-fn may_come_first(load: u64, node: Id, best: Id, held: Totals) -> bool
+fn may_come_first(load: u64, node: Id, best: Id, held: NodeLoad) -> bool
     ensures { IsTrue result ↔ (ordering_then (nat_cmp load held.load) (nat_cmp node best) ≡ Less) }
 {
     load.cmp(&held.load).then(node.cmp(&best)) == Ordering::Less
 }
 
-// What the node's tasks come to, where it comes before the best one so far, or is the first. They are counted only where
-// neither the placement preferences, by which it compares so, nor the tasks of all services decide it.
-fn if_better<R: Rows>(
+// Whether the node may come before the best one so far, or be the first. The placement preferences, by which it compares
+// so, may rule it out, and the tasks of all services where the best one has none of the service's own.
+fn is_rival<R: Rows>(
     known: &mut KnownTotals,
     rows: &R,
     service: Id,
     spread: Ordering,
     best: Option<&Node>,
-    held: Totals,
+    held: NodeLoad,
     node: Id,
-) -> Option<Totals>
+) -> bool
     requires usable { IsUsable (R.tables rows.now) }
     requires knows { Knows (R.tables rows.now) known.old }
-    requires held { IfSome best (λ b. AreTotals (R.tables rows.now) b.now.id service held) }
-    ensures totals { IfSome result (AreTotals (R.tables rows.now) node service) }
-    ensures order { is_some result
-        ≡ comes_first (R.tables rows.now) service spread node (option_copied best.entry) }
+    requires held { IfSome best (λ b. IsNodeLoad (R.tables rows.now) b.now.id service held) }
+    ensures ruled_out { result ≡ false →
+        comes_first (R.tables rows.now) service spread node (option_copied best.entry) ≡ false }
     ensures knows { Knows (R.tables rows.now) known.new }
 {
     let Some(best) = best else {
-        return Some(known.totals(rows, node, service));
+        return true;
     };
-    if spread == Ordering::Greater {
-        return None;
-    }
-    if spread == Ordering::Equal && held.here == 0 {
-        let load = known.load(rows, node, service);
-        if !may_come_first(load, node, best.id, held) {
-            return None;
+    match spread {
+        Ordering::Less => true,
+        Ordering::Greater => false,
+        Ordering::Equal => {
+            held.here > 0
+                || may_come_first(known.totals(rows, node, service).load, node, best.id, held)
         }
     }
-    let totals = known.totals(rows, node, service);
-    if node_cmp(spread, node, best.id, totals, held) == Ordering::Less {
-        return Some(totals);
-    }
-    None
 }
 
 // How the node compares with the best one so far by the placement preferences.
@@ -130,11 +134,47 @@ fn class_order<'a, R: Rows>(
 // The node admits the task, where it is tested. What its tasks come to is known.
 fn is_open_with<R: Rows>(rows: &R, task: &Task, node: &Node, totals: Totals) -> bool
     requires usable { IsUsable (R.tables rows.now) }
-    requires totals { AreTotals (R.tables rows.now) node.now.id task.now.service totals }
+    requires totals { AreTotals (R.tables rows.now) node.now.id totals }
     ensures { result ≡ is_open (R.tables rows.now) task.now node.now }
 {
-    let loads = OneNode::new(rows, node.id, task.service, totals);
+    let loads = OneNode::new(rows, node.id, totals);
     is_open_by(rows, &loads, task, node)
+}
+
+// The node's live tasks, where it admits the task, and comes before the best one so far or is the first. The service's
+// own are asked for last: they alone are counted for each service anew.
+fn if_better<R: Rows>(
+    known: &mut KnownTotals,
+    rows: &R,
+    task: &Task,
+    spread: Ordering,
+    best: Option<&Node>,
+    held: NodeLoad,
+    node: &Node,
+) -> Option<NodeLoad>
+    requires usable { IsUsable (R.tables rows.now) }
+    requires knows { Knows (R.tables rows.now) known.old }
+    requires held { IfSome best (λ b. IsNodeLoad (R.tables rows.now) b.now.id task.now.service held) }
+    ensures load { IfSome result (IsNodeLoad (R.tables rows.now) node.now.id task.now.service) }
+    ensures better { is_some result ≡ (is_open (R.tables rows.now) task.now node.now
+        && comes_first (R.tables rows.now) task.now.service spread node.now.id (option_copied best.entry)) }
+    ensures knows { Knows (R.tables rows.now) known.new }
+{
+    let totals = known.totals(rows, node.id, task.service);
+    if !is_open_with(rows, task, node, totals) {
+        return None;
+    }
+    let own = NodeLoad {
+        load: totals.load,
+        here: known.here(rows, node.id, task.service),
+    };
+    let Some(best) = best else {
+        return Some(own);
+    };
+    if node_cmp(spread, node.id, best.id, own, held) == Ordering::Less {
+        return Some(own);
+    }
+    None
 }
 
 // The best of all nodes, one by one.
@@ -146,15 +186,15 @@ fn best_of_all<'a, R: Rows>(rows: &'a R, known: &mut KnownTotals, task: &Task) -
 {
     let mut branches = Branches::new(rows, task.service, task.template.spread.as_slice());
     let mut best = None;
-    let mut held = Totals::NONE;
+    let mut held = NodeLoad::NONE;
     for node in nodes(rows) {
         let spread = spread_order(&mut branches, best, node);
-        let Some(totals) = if_better(known, rows, task.service, spread, best, held, node.id) else {
+        if !is_rival(known, rows, task.service, spread, best, held, node.id) {
             continue;
-        };
-        if is_open_with(rows, task, node, totals) {
+        }
+        if let Some(own) = if_better(known, rows, task, spread, best, held, node) {
             best = Some(node);
-            held = totals;
+            held = own;
         }
     }
     best
@@ -176,18 +216,18 @@ fn best_of_classes<'a, R: Rows>(
     let mut branches = branches_of(rows, task, sorted);
     let mut orders = [None; CLASSES];
     let mut best = None;
-    let mut held = Totals::NONE;
+    let mut held = NodeLoad::NONE;
     for entry in sorted {
         let spread = class_order(&mut branches, &mut orders, rows, best, *entry);
-        let Some(totals) = if_better(known, rows, task.service, spread, best, held, entry.id) else {
+        if !is_rival(known, rows, task.service, spread, best, held, entry.id) {
             continue;
-        };
+        }
         let Some(node) = rows.node(entry.id) else {
             continue;
         };
-        if is_open_with(rows, task, node, totals) {
+        if let Some(own) = if_better(known, rows, task, spread, best, held, node) {
             best = Some(node);
-            held = totals;
+            held = own;
             orders = [None; CLASSES];
         }
     }

@@ -1,6 +1,7 @@
 // What the tasks on one node come to, by one walk over them.
 ghost use Rattle.std.specs.Prelude.{◌≡◌, ◌+◌, ◌^◌, ◌≤◌};
 ghost use Rattle.swarm_objects.specs.Kinds.{bit};
+ghost use Rattle.swarm_objects.specs.Nodes.Filters.{here};
 ghost use Rattle.swarm_objects.specs.Nodes.Holdings.{task_cpu, task_mem};
 ghost use Rattle.swarm_objects.specs.Usable.{IsUsable};
 ghost use Rattle.swarm_sched.specs.Inside.Totals.{AreTotals, HasRoom, with_task};
@@ -17,10 +18,8 @@ pub struct Totals {
     pub cpu: u128,
     /// What they reserve of its memory, in bytes.
     pub mem: u128,
-    /// How many live ones there are.
+    /// How many live ones there are, of all services.
     pub load: u64,
-    /// How many of these are the service's.
-    pub here: u64,
 }
 
 // Yes is 1, and no is 0.
@@ -48,13 +47,12 @@ impl Totals {
         cpu: 0,
         mem: 0,
         load: 0,
-        here: 0,
     };
 
     // With one task more.
-    fn with(self, task: &Task, service: Id) -> Totals
+    fn with(self, task: &Task) -> Totals
         requires { HasRoom self }
-        ensures with { result ≡ with_task service task.now self }
+        ensures with { result ≡ with_task task.now self }
         ensures grown { (result.cpu ≤ self.cpu + 2 ^ 64) × (result.mem ≤ self.mem + 2 ^ 64) }
     {
         let live = task.is_live();
@@ -62,21 +60,23 @@ impl Totals {
             cpu: self.cpu + u128::from(task_cpu(task)),
             mem: self.mem + u128::from(task_mem(task)),
             load: self.load + bit(live),
-            here: self.here + bit(task.is_of(service) && live),
         }
     }
 }
 
-/// Those of the node, for a task of the service.
-pub fn count_up<R: Rows>(rows: &R, node: Id, service: Id) -> Totals
+/// Those of the node, and how many of its live tasks are the service's, by one walk.
+pub fn count_up<R: Rows>(rows: &R, node: Id, service: Id) -> (Totals, u64)
     requires { IsUsable (R.tables rows.now) }
-    ensures { AreTotals (R.tables rows.now) node service result }
+    ensures totals { AreTotals (R.tables rows.now) node result.0 }
+    ensures here { result.1 ≡ here (R.tables rows.now) node service }
 {
     let mut totals = Totals::NONE;
+    let mut here = 0;
     for task in tasks_placed_on(rows, node) {
-        totals = totals.with(task, service);
+        totals = totals.with(task);
+        here += bit(task.is_of(service) && task.is_live());
     }
-    totals
+    (totals, here)
 }
 
 /// The totals of one node; what is asked of another one is found by a scan. Contracts see the tables that are read.
@@ -84,7 +84,6 @@ pub fn count_up<R: Rows>(rows: &R, node: Id, service: Id) -> Totals
 pub struct OneNode<'a, R: Rows> {
     rows: &'a R,
     node: Id,
-    service: Id,
     totals: Totals,
 }
 
@@ -97,23 +96,17 @@ impl<'a, R: Rows> Model for OneNode<'a, R> {
 
     ghost view = { λ o. R.tables o.rows.now };
 
-    ghost invariant = { λ o. IsUsable (R.tables o.rows.now)
-        × AreTotals (R.tables o.rows.now) o.node o.service o.totals };
+    ghost invariant = { λ o. IsUsable (R.tables o.rows.now) × AreTotals (R.tables o.rows.now) o.node o.totals };
 }
 
 impl<'a, R: Rows> OneNode<'a, R> {
     /// These totals of the node.
-    pub fn new(rows: &'a R, node: Id, service: Id, totals: Totals) -> OneNode<'a, R>
+    pub fn new(rows: &'a R, node: Id, totals: Totals) -> OneNode<'a, R>
         requires usable { IsUsable (R.tables rows.now) }
-        requires totals { AreTotals (R.tables rows.now) node service totals }
+        requires totals { AreTotals (R.tables rows.now) node totals }
         ensures { result ≡ R.tables rows.now }
     {
-        OneNode {
-            rows,
-            node,
-            service,
-            totals,
-        }
+        OneNode { rows, node, totals }
     }
 }
 

@@ -1,5 +1,6 @@
 -- What is remembered of the tasks on nodes.
 use Rattle.std.specs.Prelude.{Bool, IfSome, List, None, Option, Some, Vec, [], false, get_or, if◌then◌else◌, length, true, ℕ, ◌%◌, ◌==◌, ◌≡◌, ◌⊎◌}
+use Rattle.swarm_objects.specs.Nodes.Filters.{here}
 use Rattle.swarm_objects.specs.Rows.{Has, row_at, task_id}
 use Rattle.swarm_objects.specs.Tasks.Words.{is_on}
 use Rattle.swarm_objects.specs.World.{Tables}
@@ -24,9 +25,13 @@ if_of node (Some k) = if k.node == node then Some k else None
 abbrev pub recalled : List (Option NodeTotals) → ℕ → Option NodeTotals
 recalled all node = if_of node (get_or all (node % length all) None)
 
+-- these are the node's, and its service's own tasks are so many
+abbrev pub AreCounted : Tables → ℕ → NodeTotals → Type 0
+AreCounted t node k = (k.here ≡ here t node k.service) × AreTotals t node k.totals
+
 -- whatever is remembered of a node is so
 pub record Knows (t : Tables) (all : List (Option NodeTotals)) : Type 0 where
-  pub each : (node : ℕ) → IfSome (recalled all node) (λ k. AreTotals t node k.service k.totals)
+  pub each : (node : ℕ) → IfSome (recalled all node) (AreCounted t node)
 
 -- what is remembered was remembered before
 pub record AreFewer (before after : List (Option NodeTotals)) : Type 0 where

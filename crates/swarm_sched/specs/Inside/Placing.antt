@@ -12,6 +12,11 @@ use Rattle.swarm_objects.specs.declared.tasks.Task.{Task}
 use Rattle.swarm_sched.specs.Inside.Branches.{preferences}
 use Rattle.swarm_sched.specs.Inside.Classes.{AreOrders}
 use Rattle.swarm_sched.specs.declared.classes.ClassedNode.{ClassedNode}
+use Rattle.swarm_sched.specs.declared.placing.NodeLoad.{NodeLoad}
+
+-- the node has so many live tasks, and so many of the service's
+abbrev pub IsNodeLoad : Tables → ℕ → ℕ → NodeLoad → Type 0
+IsNodeLoad t node service h = (h.load ≡ load t node) × (h.here ≡ here t node service)
 
 -- the node with this id comes before the best one so far, with which it compares so by the placement preferences
 abbrev pub comes_first : Tables → ℕ → Ordering → ℕ → Option Node → Bool

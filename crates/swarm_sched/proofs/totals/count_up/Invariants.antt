@@ -4,4 +4,4 @@ use Rattle.swarm_sched.specs.Inside.Totals.{AreLeft}
 
 abbrev pub invariant-loop-task : goal.invariant-loop-task
 invariant-loop-task g l =
-    AreLeft l.service l.totals l.task-iterator (tasks_placed_on (g.R.Rows.tables l.rows) l.node)
+    AreLeft l.service l.totals l.here l.task-iterator (tasks_placed_on (g.R.Rows.tables l.rows) l.node)
