@@ -1,34 +1,30 @@
 -- The spans where services come.
-use Rattle.std.proofs.Common.{◌≡◌, ◌∙◌, ◌<◌, ◌≤◌, ◌^◌, ℕ, Bool, List, ap, arith, inl, inr, refl, subst, sym}
-use Rattle.std.proofs.lemmas.Bool.Decides.{nat_tests}
+use Rattle.std.proofs.Common.{◌≡◌, ◌∙◌, ℕ, Bool, List, ap, arith, inl, inr, refl, subst, sym}
 use Rattle.std.specs.Option.{option_map}
-use Rattle.std.specs.Prelude.{true}
 use Rattle.swarm_objects.proofs.RowLemmas.{row_at-Some}
 use Rattle.swarm_objects.specs.Loops.Allocator.{port_duties}
-use Rattle.swarm_objects.specs.Loops.Scheduler.{schedule}
-use Rattle.swarm_objects.specs.Rows.{Has, task_id}
+use Rattle.swarm_objects.specs.Rows.{task_id}
 use Rattle.swarm_objects.specs.Usable.{IsUsable}
 use Rattle.swarm_objects.specs.World.{Tables}
 use Rattle.swarm_objects.specs.declared.duties.Duty.{Duty}
 use Rattle.swarm_objects.specs.declared.nodes.Node.{Node}
 use Rattle.swarm_objects.specs.declared.services.Service.{Service}
 use Rattle.swarm_objects.specs.declared.tasks.Task.{Task}
-use Rattle.swarm_spans.proofs.Grown.{wider_itself}
+use Rattle.swarm_spans.proofs.Grown.{in-onwards, wider_itself}
 use Rattle.swarm_spans.proofs.Lines.{gone_goes_on, has-when, old_goes_on, restart_goes_on}
 use Rattle.swarm_spans.proofs.Scheduling.{scheduled_as_before}
 use Rattle.swarm_spans.proofs.Services.GoesOn.{come_goes_on, create_goes_on, down_goes_on, leave_goes_on, next_goes_on}
 use Rattle.swarm_spans.proofs.Services.Spans.{rising, services-full, wider-covers}
 use Rattle.swarm_spans.proofs.Services.Trimmed.{trim_goes_on}
 use Rattle.swarm_spans.proofs.Services.Updated.{update_goes_on}
-use Rattle.swarm_spans.proofs.TasksCovered.{tasks_wider}
 use Rattle.swarm_spans.proofs.Waiting.{address_goes_on, note_goes_on, raise_goes_on, schedule_goes_on, waiting_keeps}
-use Rattle.swarm_spans.specs.Kept.{KeepsNodes, KeepsServices, KeepsTasks, AlikeFor}
-use Rattle.swarm_spans.specs.Lines.{FreeAsBefore, NoMoreFree, ScheduledAsBefore, is_to_allocate, is_to_schedule, to_allocate}
+use Rattle.swarm_spans.specs.Kept.{KeepsNodes, KeepsServices, KeepsTasks}
+use Rattle.swarm_spans.specs.Lines.{FreeAsBefore, is_to_allocate, to_allocate}
 use Rattle.swarm_spans.specs.Services.Lines.{MovedLaw, PlacedLaw, comes, creates, downs, job_creates, leaves, updates}
 use Rattle.swarm_spans.specs.Services.Standings.{bounds, progress, standing}
 use Rattle.swarm_spans.specs.Services.Steps.{HasRemains, HasShifted}
 use Rattle.swarm_spans.specs.Services.Touches.{AreCovered, Joins}
-use Rattle.swarm_spans.specs.Spans.{CoversServices, CoversTasks, IsWider, full, is_in, onwards}
+use Rattle.swarm_spans.specs.Spans.{CoversServices, IsWider, full, onwards}
 use Rattle.swarm_spans.specs.TasksCovered.{AreTasksCovered, HasNewServices, with_services}
 use Rattle.swarm_spans.specs.declared.service_spans.ServiceSpans.{ServiceSpans}
 use Rattle.swarm_spans.specs.declared.span.Span.{Span}
@@ -61,12 +57,11 @@ keeps-tasks t next_id services span usable = record {
 
 -- The lines over tasks.
 
-pub services_come : (spans : TaskSpans) (asked noted : Span) → IsWider asked spans.addresses
-    → IsWider asked spans.to_allocate → IsWider noted spans.notes → IsWider noted spans.to_allocate → (first : ℕ)
-    (t : Tables) (next_id : ℕ) (services : List Service) → IsUsable t → HasNewServices first next_id t services
-    → AreTasksCovered t spans
-    → AreTasksCovered (with_services next_id services t) (record spans { addresses = asked; notes = noted })
-services_come spans asked noted asks all_ask notes all_note first t next_id services usable new are =
+pub services_come : (spans : TaskSpans) (noted : Span) → IsWider noted spans.notes → IsWider noted spans.to_allocate
+    → (first : ℕ) (t : Tables) (next_id : ℕ) (services : List Service) → IsUsable t
+    → HasNewServices first next_id t services → AreTasksCovered t spans
+    → AreTasksCovered (with_services next_id services t) (record spans { notes = noted })
+services_come spans noted notes all_note first t next_id services usable new are =
     let u = with_services next_id services t in
     record {
       expires = record { has = λ x h due. are.expires.has x h due };
@@ -93,10 +88,10 @@ services_come spans asked noted asks all_ask notes all_note first t next_id serv
           (keeps-tasks t next_id services spans.olds usable) (keeps-services first t next_id services spans.olds new);
       deletes = record { has = λ x h due. are.deletes.has x h due };
       addresses =
-          address_goes_on t u spans.addresses asked are.addresses asks (keeps-tasks t next_id services asked usable)
-          (keeps-services first t next_id services asked new)
-          (waiting_keeps to_allocate is_to_allocate (NoMoreFree t u) t spans.to_allocate asked
-          (λ x e. has-when (is_to_allocate x) _ ∙ e) are.to_allocate all_ask);
+          address_goes_on t u spans.addresses spans.addresses are.addresses (wider_itself spans.addresses)
+          (keeps-tasks t next_id services spans.addresses usable)
+          (keeps-services first t next_id services spans.addresses new)
+          (record { each = λ x h waits. inr (record { networks = λ n among free. free }) });
       notes =
           note_goes_on t u spans.notes noted are.notes notes (keeps-tasks t next_id services noted usable)
           (keeps-services first t next_id services noted new)
@@ -112,9 +107,6 @@ services_come spans asked noted asks all_ask notes all_note first t next_id serv
     }
 
 -- The lines over services.
-
-in-onwards : (first id bound : ℕ) → first ≤ id → id < bound → bound < 2 ^ 60 → 0 < id → is_in (onwards first) id ≡ true
-in-onwards first id bound from below near positive = grind (arith, nat_tests, from, below, near, positive)
 
 shifts : {S : Type 0} (show : Task → S) (first : ℕ) (t : Tables) (next_id : ℕ) (services : List Service) (span : Span)
     → IsUsable (with_services next_id services t) → HasNewServices first next_id t services

@@ -1,17 +1,20 @@
 -- Spans that get rows.
-use Rattle.std.proofs.Common.{◌≡◌, ℕ, ◌<◌, Bool, true, ◌⊎◌, inl, inr, List, [], ◌∷◌, Some, refl, sym, ap, ◌∙◌, subst, arith}
+use Rattle.std.proofs.Common.{◌≡◌, ℕ, ◌<◌, ◌≤◌, Bool, true, ◌⊎◌, inl, inr, List, [], ◌∷◌, Some, refl, sym, ap, ◌∙◌, subst, arith}
 use Rattle.std.proofs.lemmas.Bool.Decides.{nat_tests}
 use Rattle.std.specs.Option.{option_eq}
-use Rattle.std.specs.Prelude.{◌==◌, filter, max, min}
+use Rattle.std.specs.Prelude.{◌==◌, ◌&&◌, ◌^◌, filter, max, min, nat_le, nat_lt}
 use Rattle.swarm_objects.proofs.RowLemmas.{Has-filter, Has-filter_cases, number_above}
+use Rattle.swarm_objects.proofs.Tests.{both_are}
 use Rattle.swarm_objects.specs.Rows.{Has, task_id}
 use Rattle.swarm_objects.specs.Same.{same_number}
 use Rattle.swarm_objects.specs.Tasks.Words.{is_of, is_on}
 use Rattle.swarm_objects.specs.Usable.{IsUsable}
 use Rattle.swarm_objects.specs.World.{Tables}
 use Rattle.swarm_objects.specs.declared.tasks.Task.{Task}
+use Rattle.swarm_spans.specs.Bits.{has_bit}
+use Rattle.swarm_spans.proofs.HasBits.{all_have, more_bits, own_bit}
 use Rattle.swarm_spans.specs.Grown.{Adding}
-use Rattle.swarm_spans.specs.Spans.{is_in, IsWider, with_id}
+use Rattle.swarm_spans.specs.Spans.{full, is_in, IsWider, onwards, with_id}
 use Rattle.swarm_spans.specs.Touched.{HasTasksOf, HasTasksOn}
 use Rattle.swarm_spans.specs.declared.span.Span.{Span}
 
@@ -21,11 +24,44 @@ wider_itself span = record { has = λ id h. h }
 pub wider_yet : (a b c : Span) → IsWider b a → IsWider c b → IsWider c a
 wider_yet a b c f g = record { has = λ id h. g.has id (f.has id h) }
 
+-- Numbers in a span are between its ends, and their bits are set.
+
+pub bit-of : (span : Span) (id : ℕ) → is_in span id ≡ true → has_bit span.bits id ≡ true
+bit-of span id i = (both_are (nat_lt span.after id && nat_le id span.high) (has_bit span.bits id) i).1
+
+pub is-between : (span : Span) (id : ℕ) → span.after < id → id ≤ span.high → has_bit span.bits id ≡ true → is_in span id ≡ true
+is-between span id after high bit = grind (arith, nat_tests, after, high, bit)
+
+pub low-end : (span : Span) (id : ℕ) → is_in span id ≡ true → span.after < id
+low-end span id i = grind (arith, nat_tests, i)
+
+pub high-end : (span : Span) (id : ℕ) → is_in span id ≡ true → id ≤ span.high
+high-end span id i = grind (arith, nat_tests, i)
+
+pub in-full : (id : ℕ) → 0 < id → id < 2 ^ 60 → is_in full id ≡ true
+in-full id above below = is-between full id above (omega (arith, below)) (all_have id)
+
+pub in-onwards : (first id bound : ℕ) → first ≤ id → id < bound → bound < 2 ^ 60 → 0 < id → is_in (onwards first) id ≡ true
+in-onwards first id bound from below near positive =
+    is-between (onwards first) id (omega (arith, from, positive)) (omega (arith, below, near)) (all_have id)
+
+-- one that is over has nothing that another hasn't
+pub wider_over : (wide span : Span) → true ≡ nat_le span.high span.after → IsWider wide span
+wider_over wide span over = record {
+  has = λ id i.
+      let le : span.high ≤ span.after = grind (arith, nat_tests, over) in
+      absurd (omega (arith, le, low-end span id i, high-end span id i));
+}
+
+pub ruleset over_steps = (wider_itself, wider_over)
+
 pub in-with : (span : Span) (id k : ℕ) → is_in span k ≡ true → is_in (with_id span id) k ≡ true
-in-with span id k h = grind (arith, nat_tests, h)
+in-with span id k h =
+    is-between (with_id span id) k (omega (arith, low-end span k h)) (omega (arith, high-end span k h))
+    (more_bits span.bits id k (bit-of span k h))
 
 pub own-with : (span : Span) (id : ℕ) → 0 < id → is_in (with_id span id) id ≡ true
-own-with span id h = grind (arith, nat_tests, h)
+own-with span id above = is-between (with_id span id) id (omega (arith, above)) (omega arith) (own_bit span.bits id)
 
 pub wider_with : (span wide : Span) (id : ℕ) → wide ≡ with_id span id → IsWider wide span
 wider_with span wide id is =
@@ -89,20 +125,20 @@ is_wider all items first span a = a.wider
 pub ruleset adding_steps = (nothing_added, one_added, all_added, is_wider)
 
 -- both of two
-pub joined_left : (a b c : Span) → c.after ≡ min a.after b.after → c.high ≡ max a.high b.high → IsWider c a
-joined_left a b c after high = record {
+has-all : (b c : Span) → ((id : ℕ) → has_bit b.bits id ≡ true → has_bit c.bits id ≡ true) → b.high ≤ c.high
+    → c.after ≤ b.after → IsWider c b
+has-all b c bits most least = record {
   has = λ id h.
-      let both-in : is_in (record { after = min a.after b.after; high = max a.high b.high }) id ≡ true =
-      grind (arith, nat_tests, h) in
-      rw after (rw high both-in);
+      is-between c id (omega (arith, least, low-end b id h)) (omega (arith, most, high-end b id h))
+      (bits id (bit-of b id h));
 }
 
-pub joined_right : (a b c : Span) → c.after ≡ min a.after b.after → c.high ≡ max a.high b.high → IsWider c b
-joined_right a b c after high = record {
-  has = λ id h.
-      let both-in : is_in (record { after = min a.after b.after; high = max a.high b.high }) id ≡ true =
-      grind (arith, nat_tests, h) in
-      rw after (rw high both-in);
-}
+pub joined_left : (a b c : Span) → c.after ≡ min a.after b.after → c.high ≡ max a.high b.high
+    → ((id : ℕ) → has_bit a.bits id ≡ true → has_bit c.bits id ≡ true) → IsWider c a
+joined_left a b c after high bits = has-all a c bits (omega (arith, high)) (omega (arith, after))
+
+pub joined_right : (a b c : Span) → c.after ≡ min a.after b.after → c.high ≡ max a.high b.high
+    → ((id : ℕ) → has_bit b.bits id ≡ true → has_bit c.bits id ≡ true) → IsWider c b
+joined_right a b c after high bits = has-all b c bits (omega (arith, high)) (omega (arith, after))
 
 pub ruleset join_steps = (joined_left, joined_right)

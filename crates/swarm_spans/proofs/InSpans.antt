@@ -1,69 +1,160 @@
 -- Rows in a span, over any rows.
-use Rattle.std.proofs.Common.{◌≡◌, ℕ, ◌-◌, ◌<◌, ◌≤◌, Bool, true, false, cond, ltb, ◌⊎◌, inl, inr, List, [], ◌∷◌, Some, None, refl, sym, ap, ◌∙◌, subst, arith}
+use Rattle.std.proofs.Common.{◌≡◌, ◌≢◌, ℕ, ◌%◌, ◌-◌, ◌<◌, ◌≤◌, Bool, true, false, cond, ltb, ◌⊎◌, inl, inr, List, [], ◌∷◌, Some, None, refl, sym, ap, ◌∙◌, subst, arith}
 use Rattle.std.proofs.lemmas.Bool.Decides.{nat_tests}
 use Rattle.std.specs.Prelude.{find, nat_le, nat_lt, ◌&&◌}
+use Rattle.swarm_objects.proofs.RowLemmas.{number_above}
 use Rattle.swarm_objects.specs.Rows.{Has, RisesFrom, row_above}
-use Rattle.swarm_spans.specs.Spans.{beyond, Covers, empty, is_in}
+use Rattle.swarm_spans.proofs.Grown.{bit-of, high-end, is-between, low-end}
+use Rattle.swarm_spans.proofs.HasBits.{other_bits}
+use Rattle.swarm_spans.specs.Bits.{has_bit, have_one_bit, without_bit}
+use Rattle.swarm_spans.specs.Spans.{AreOut, beyond, Covers, empty, is_in}
 use Rattle.swarm_spans.specs.declared.span.Span.{Span}
 
--- The first row in a span is the first one above its beginning, where that isn't beyond its end.
+-- The first row in a span, found by passing rows that are out of it.
 
-pub in-None : {X : Type 0} (key : X → ℕ) (span : Span) (rows : List X) → row_above key span.after rows ≡ None
-    → find (λ x. is_in span (key x)) rows ≡ None
-in-None key span [] e = refl
-in-None key span (y ∷ rows) e = go (ltb span.after (key y)) (in-None key span rows) e
-  where
-    go : (b : Bool) → (row_above key span.after rows ≡ None → find (λ x. is_in span (key x)) rows ≡ None)
-        → cond b (Some y) (row_above key span.after rows) ≡ None
-        → cond (b && nat_le (key y) span.high) (Some y) (find (λ x. is_in span (key x)) rows) ≡ None
-    go true below k = absurd cc
-    go false below k = below k
+find-none : {X : Type 0} (test : X → Bool) (rows : List X) → ((y : X) → Has rows y → test y ≡ false)
+    → find test rows ≡ None
+find-none test [] none = refl
+find-none test (y ∷ rows) none = rw (none y (inl refl)) (find-none test rows (λ z h. none z (inr h)))
 
-pub in-found : {X : Type 0} (key : X → ℕ) (span : Span) (rows : List X) (x : X) → row_above key span.after rows ≡ Some x
-    → nat_le (key x) span.high ≡ true → find (λ y. is_in span (key y)) rows ≡ Some x
-in-found key span [] x e high = cc
-in-found key span (y ∷ rows) x e high = go (ltb span.after (key y)) (in-found key span rows x) e
-  where
-    go : (b : Bool)
-        → (row_above key span.after rows ≡ Some x → nat_le (key x) span.high ≡ true
-        → find (λ y. is_in span (key y)) rows ≡ Some x) → cond b (Some y) (row_above key span.after rows) ≡ Some x
-        → cond (b && nat_le (key y) span.high) (Some y) (find (λ y. is_in span (key y)) rows) ≡ Some x
-    go true below k =
-        let same : y ≡ x = cc in
-        let le : nat_le (key y) span.high ≡ true = ap (λ z. nat_le (key z) span.high) same ∙ high in
-        rw le k
-    go false below k = below k high
+find-least : {X : Type 0} (key : X → ℕ) (test : X → Bool) (n : ℕ) (rows : List X) (x : X) → RisesFrom key n rows
+    → Has rows x → test x ≡ true → ((y : X) → Has rows y → key y < key x → test y ≡ false) → find test rows ≡ Some x
+find-least key test n [] x r h passes none = absurd h
+find-least key test n (y ∷ rows) x r (inl same) passes none = rw (ap test same ∙ passes) (ap Some same)
+find-least key test n (y ∷ rows) x r (inr h) passes none =
+    rw (none y (inl refl) (number_above key (key y) rows x r.1 h))
+    (find-least key test (key y) rows x r.1 h passes (λ z there lt. none z (inr there) lt))
 
--- nothing of rows that begin beyond its end
-none-beyond : {X : Type 0} (key : X → ℕ) (span : Span) (n : ℕ) (rows : List X) → RisesFrom key n rows
-    → span.high ≤ n → find (λ y. is_in span (key y)) rows ≡ None
-none-beyond key span n [] r le = refl
-none-beyond key span n (y ∷ rows) r le =
-    let no : nat_le (key y) span.high ≡ false = grind (arith, nat_tests, le, r.0) in
-    go (nat_lt span.after (key y)) (nat_le (key y) span.high) no
-    (none-beyond key span (key y) rows r.1 (omega (arith, le, r.0)))
+above-has : {X : Type 0} (key : X → ℕ) (n : ℕ) (rows : List X) (x : X) → row_above key n rows ≡ Some x → Has rows x
+above-has key n [] x e = cc
+above-has key n (y ∷ rows) x e = go (ltb n (key y)) (above-has key n rows x) e
   where
-    go : (a b : Bool) → b ≡ false → find (λ y. is_in span (key y)) rows ≡ None
-        → cond (a && b) (Some y) (find (λ y. is_in span (key y)) rows) ≡ None
-    go true false e k = k
-    go false false e k = k
-    go a true e k = absurd cc
+    go : (b : Bool) → (row_above key n rows ≡ Some x → Has rows x) → cond b (Some y) (row_above key n rows) ≡ Some x
+        → (y ≡ x) ⊎ Has rows x
+    go true below k = inl cc
+    go false below k = inr (below k)
 
-pub in-beyond : {X : Type 0} (key : X → ℕ) (span : Span) (n : ℕ) (rows : List X) (x : X) → RisesFrom key n rows
-    → row_above key span.after rows ≡ Some x → span.high < key x → find (λ y. is_in span (key y)) rows ≡ None
-in-beyond key span n [] x r e lt = refl
-in-beyond key span n (y ∷ rows) x r e lt = go (ltb span.after (key y)) (in-beyond key span (key y) rows x r.1) e
+above-least : {X : Type 0} (key : X → ℕ) (n m : ℕ) (rows : List X) (x y : X) → RisesFrom key m rows
+    → row_above key n rows ≡ Some x → Has rows y → n < key y → key x ≤ key y
+above-least key n m [] x y r e h lt = absurd h
+above-least {X} key n m (z ∷ rows) x y r e h lt =
+    go (ltb n (key z)) refl (λ k there. above-least key n (key z) rows x y r.1 k there lt) e h
   where
-    go : (b : Bool)
-        → (row_above key span.after rows ≡ Some x → span.high < key x → find (λ y. is_in span (key y)) rows ≡ None)
-        → cond b (Some y) (row_above key span.after rows) ≡ Some x
-        → cond (b && nat_le (key y) span.high) (Some y) (find (λ y. is_in span (key y)) rows) ≡ None
-    go true below k =
-        let same : y ≡ x = cc in
-        let far : span.high < key y = subst (λ z. span.high < key z) (sym same) lt in
-        let no : nat_le (key y) span.high ≡ false = grind (arith, nat_tests, far) in
-        rw no (none-beyond key span (key y) rows r.1 (omega (arith, far)))
-    go false below k = below k lt
+    go : (b : Bool) → ltb n (key z) ≡ b → (row_above key n rows ≡ Some x → Has rows y → key x ≤ key y)
+        → cond b (Some z) (row_above key n rows) ≡ Some x → ((z ≡ y) ⊎ Has rows y)
+        → key x ≤ key y
+    go true t below k (inl same) = let first : z ≡ x = cc in omega (arith, ap key first, ap key same)
+    go true t below k (inr there) =
+        let first : z ≡ x = cc in
+        omega (arith, ap key first, number_above key (key z) rows y r.1 there)
+    go false t below k (inl same) =
+        let low : key z ≤ n = grind (arith, nat_tests, t) in
+        absurd (omega (arith, low, ap key same, lt))
+    go false t below k (inr there) = below k there
+
+above-none : {X : Type 0} (key : X → ℕ) (n : ℕ) (rows : List X) (y : X) → row_above key n rows ≡ None → Has rows y
+    → key y ≤ n
+above-none key n [] y e h = absurd h
+above-none key n (z ∷ rows) y e h = go (ltb n (key z)) refl (above-none key n rows y) e h
+  where
+    go : (b : Bool) → ltb n (key z) ≡ b → (row_above key n rows ≡ None → Has rows y → key y ≤ n) → cond b (Some z) (row_above key n rows) ≡ None → ((z ≡ y) ⊎ Has rows y)
+        → key y ≤ n
+    go true t below k there = absurd cc
+    go false t below k (inl same) =
+        let low : key z ≤ n = grind (arith, nat_tests, t) in
+        omega (arith, low, ap key same)
+    go false t below k (inr there) = below k there
+
+out-below : (span : Span) (id : ℕ) → id ≤ span.after → is_in span id ≡ false
+out-below span id le = let low : nat_lt span.after id ≡ false = grind (arith, nat_tests, le) in rw low refl
+
+out-above : (span : Span) (id : ℕ) → span.high < id → is_in span id ≡ false
+out-above span id lt = go (nat_lt span.after id) (nat_le id span.high) (grind (arith, nat_tests, lt))
+  where
+    go : (a b : Bool) → b ≡ false → (a && b && has_bit span.bits id) ≡ false
+    go true false e = refl
+    go false b e = refl
+    go true true e = absurd cc
+
+pub out-begins : {X : Type 0} (key : X → ℕ) (span : Span) (rows : List X) → AreOut key span span.after rows
+out-begins key span rows = record { has = λ x h le. out-below span (key x) le }
+
+-- no row up to the one where the numbers end of which none is in the span
+out-skipped : {X : Type 0} (key : X → ℕ) (span : Span) (after end : ℕ) (rows : List X) → AreOut key span after rows
+    → ((id : ℕ) → after < id → id ≤ end → is_in span id ≡ false) → AreOut key span end rows
+out-skipped {X} key span after end rows out none = record { has = λ x h le. go x h le (nat_le (key x) after) refl }
+  where
+    go : (x : X) → Has rows x → key x ≤ end → (b : Bool) → nat_le (key x) after ≡ b → is_in span (key x) ≡ false
+    go x h le true e = out.has x h (grind (arith, nat_tests, e))
+    go x h le false e = none (key x) (grind (arith, nat_tests, e)) le
+
+pub out-passed : {X : Type 0} (key : X → ℕ) (span : Span) (after end : ℕ) (rows : List X) (x : X)
+    → RisesFrom key 0 rows → AreOut key span after rows
+    → ((id : ℕ) → after < id → id ≤ end → is_in span id ≡ false) → row_above key end rows ≡ Some x
+    → is_in span (key x) ≡ false → AreOut key span (key x) rows
+out-passed {X} key span after end rows x r out none e outside = record { has = λ y h le. go y h le (nat_le (key y) end) refl }
+  where
+    skipped : AreOut key span end rows
+    skipped = out-skipped key span after end rows out none
+
+    go : (y : X) → Has rows y → key y ≤ key x → (b : Bool) → nat_le (key y) end ≡ b → is_in span (key y) ≡ false
+    go y h le true t = skipped.has y h (grind (arith, nat_tests, t))
+    go y h le false t =
+        let far : end < key y = grind (arith, nat_tests, t) in
+        let same : key x ≡ key y = omega (arith, le, above-least key end 0 rows x y r e h far) in
+        subst (λ k. is_in span k ≡ false) same outside
+
+pub in-found : {X : Type 0} (key : X → ℕ) (span : Span) (after end : ℕ) (rows : List X) (x : X)
+    → RisesFrom key 0 rows → AreOut key span after rows
+    → ((id : ℕ) → after < id → id ≤ end → is_in span id ≡ false) → row_above key end rows ≡ Some x
+    → is_in span (key x) ≡ true → find (λ y. is_in span (key y)) rows ≡ Some x
+in-found {X} key span after end rows x r out none e within =
+    find-least key (λ y. is_in span (key y)) 0 rows x r (above-has key end rows x e) within
+    (λ y h lt. go y h lt (nat_le (key y) end) refl)
+  where
+    skipped : AreOut key span end rows
+    skipped = out-skipped key span after end rows out none
+
+    go : (y : X) → Has rows y → key y < key x → (b : Bool) → nat_le (key y) end ≡ b → is_in span (key y) ≡ false
+    go y h lt true t = skipped.has y h (grind (arith, nat_tests, t))
+    go y h lt false t =
+        let far : end < key y = grind (arith, nat_tests, t) in
+        absurd (omega (arith, lt, above-least key end 0 rows x y r e h far))
+
+pub in-none : {X : Type 0} (key : X → ℕ) (span : Span) (after end : ℕ) (rows : List X) → AreOut key span after rows
+    → ((id : ℕ) → after < id → id ≤ end → is_in span id ≡ false) → row_above key end rows ≡ None
+    → find (λ y. is_in span (key y)) rows ≡ None
+in-none key span after end rows out none e =
+    let skipped : AreOut key span end rows = out-skipped key span after end rows out none in
+    find-none (λ y. is_in span (key y)) rows (λ y h. skipped.has y h (above-none key end rows y e h))
+
+pub in-over : {X : Type 0} (key : X → ℕ) (span : Span) (after : ℕ) (rows : List X) → AreOut key span after rows
+    → span.high ≤ after → find (λ y. is_in span (key y)) rows ≡ None
+in-over {X} key span after rows out le =
+    find-none (λ y. is_in span (key y)) rows (λ y h. go y h (nat_le (key y) after) refl)
+  where
+    go : (y : X) → Has rows y → (b : Bool) → nat_le (key y) after ≡ b → is_in span (key y) ≡ false
+    go y h true t = out.has y h (grind (arith, nat_tests, t))
+    go y h false t = out-above span (key y) (omega (arith, le, after-below (key y) t))
+      where
+        after-below : (k : ℕ) → nat_le k after ≡ false → after < k
+        after-below k t = grind (arith, nat_tests, t)
+
+-- what is left of the numbers
+pub less_left : (high after end next : ℕ) → after < high → after ≤ end → end < next → high - next < high - after
+less_left high after end next lt le up = omega (arith, lt, le, up)
+
+pub above-end : {X : Type 0} (key : X → ℕ) (n : ℕ) (rows : List X) (x : X) → row_above key n rows ≡ Some x → n < key x
+above-end key n [] x e = cc
+above-end key n (y ∷ rows) x e = go (ltb n (key y)) refl (above-end key n rows x) e
+  where
+    go : (b : Bool) → ltb n (key y) ≡ b → (row_above key n rows ≡ Some x → n < key x)
+        → cond b (Some y) (row_above key n rows) ≡ Some x → n < key x
+    go true t below k =
+        let first : y ≡ x = cc in
+        let lt : n < key y = grind (arith, nat_tests, t) in
+        omega (arith, lt, ap key first)
+    go false t below k = below k
 
 -- What the first row in a span that covers all tells.
 
@@ -116,6 +207,23 @@ nothing-passes {X} test (y ∷ rows) e x h = go (test y) refl (nothing-passes te
     go false t below k (inl same) = ap test (sym same) ∙ t
     go false t below k (inr h) = below k x h
 
+-- a number above the one that is passed stays: where the bit is cleared, it lies too near to have the same
+pub in-rest : (span : Span) (id k : ℕ) → is_in span k ≡ true → id < k → is_in (beyond span id) k ≡ true
+in-rest span id k i lt = is-between (beyond span id) k lt high (bit (nat_lt (span.high - id) 1024) refl)
+  where
+    high : k ≤ span.high
+    high = high-end span k i
+
+    apart : span.high - id < 1024 → have_one_bit k id ≡ false
+    apart near =
+        let differ : k % 1024 ≢ id % 1024 = λ e. omega (arith, e, lt, high, near) in
+        grind (arith, nat_tests, differ)
+
+    bit : (b : Bool) → nat_lt (span.high - id) 1024 ≡ b
+        → has_bit (cond b (without_bit span.bits id) span.bits) k ≡ true
+    bit true e = other_bits span.bits id k (apart (grind (arith, nat_tests, e))) (bit-of span k i)
+    bit false e = bit-of span k i
+
 -- rows behind the first one in the span have greater numbers
 pub passed : {X : Type 0} (key : X → ℕ) (test : X → Bool) (span : Span) (n : ℕ) (rows : List X) (x : X)
     → RisesFrom key n rows → Covers key test span rows → find (λ y. is_in span (key y)) rows ≡ Some x
@@ -133,7 +241,7 @@ passed {X} key test span n (z ∷ rows) x r c e fails y h passes = go (is_in spa
         above k (w ∷ rows) r (inr h) = omega (arith, r.0, above (key w) rows r.1 h)
 
     wide : is_in span (key y) ≡ true → key x < key y → is_in (beyond span (key x)) (key y) ≡ true
-    wide i lt = grind (arith, nat_tests, i, lt)
+    wide i lt = in-rest span (key x) (key y) i lt
 
     go : (i : Bool) → is_in span (key z) ≡ i → cond i (Some z) (find (λ y. is_in span (key y)) rows) ≡ Some x
         → ((z ≡ y) ⊎ Has rows y)
@@ -166,8 +274,8 @@ pub less-left : {X : Type 0} (key : X → ℕ) (span left : Span) (rows : List X
     → left.high - left.after < span.high - span.after
 less-left key span left rows x e is =
     let i : is_in span (key x) ≡ true = found-in key span rows x e in
-    let low : span.after < key x = grind (arith, nat_tests, i) in
-    let high : key x ≤ span.high = grind (arith, nat_tests, i) in
+    let low : span.after < key x = low-end span (key x) i in
+    let high : key x ≤ span.high = high-end span (key x) i in
     subst (λ s. s.high - s.after < span.high - span.after) (sym is) (omega (arith, low, high))
 
 -- where no row in the span is left, no number is

@@ -3,11 +3,14 @@ pub mod Blocked
 pub mod Coming
 pub mod Firsts
 pub mod Grown
+pub mod HasBits
+pub mod Holders
 pub mod InSpans
 pub mod Lines
 pub mod Made
 pub mod Moved
 pub mod Narrowing
+pub mod NewNodes
 pub mod Nexts
 pub mod Scheduling
 pub mod Services

@@ -1,16 +1,16 @@
 -- A span narrowed from both ends: rows that pass a test are in the narrow one, or in what is left of the wide one.
-use Rattle.std.proofs.Common.{◌≡◌, ◌<◌, ◌∙◌, ℕ, Bool, List, None, Option, Some, ap, false, refl, subst, sym, true}
+use Rattle.std.proofs.Common.{◌≡◌, ◌<◌, ◌∙◌, Bool, List, None, Option, Some, ap, false, refl, subst, sym, true}
 use Rattle.std.specs.Prelude.{find, is_some, not, ◌&&◌}
 use Rattle.swarm_objects.proofs.RowLemmas.{number_above}
 use Rattle.swarm_objects.proofs.Tests.{both_are, find_has}
-use Rattle.swarm_objects.specs.Rows.{Has, RisesFrom, first_of, task_id}
+use Rattle.swarm_objects.specs.Rows.{Has, first_of, task_id}
 use Rattle.swarm_objects.specs.Usable.{IsUsable}
 use Rattle.swarm_objects.specs.World.{Tables}
 use Rattle.swarm_objects.specs.declared.duties.Duty.{Duty}
 use Rattle.swarm_objects.specs.declared.tasks.Task.{Task}
 use Rattle.swarm_spans.proofs.Grown.{own-with, wider_itself, wider_with}
-use Rattle.swarm_spans.proofs.InSpans.{first-none, found-in, nothing-passes, passed}
-use Rattle.swarm_spans.specs.Spans.{Covers, HasDutyOf, IsWider, beyond, has_duty, is_in, is_left_out, with_id}
+use Rattle.swarm_spans.proofs.InSpans.{first-none, nothing-passes, passed}
+use Rattle.swarm_spans.specs.Spans.{Covers, HasDutyOf, beyond, has_duty, is_in, is_left_out, with_id}
 use Rattle.swarm_spans.specs.declared.span.Span.{Span}
 
 -- One task.

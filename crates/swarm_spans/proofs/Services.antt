@@ -1,6 +1,7 @@
 pub mod Alike
 pub mod GoesOn
 pub mod Held
+pub mod Numbers
 pub mod Outcomes
 pub mod Spans
 pub mod Tests

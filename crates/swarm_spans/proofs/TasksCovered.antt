@@ -22,16 +22,18 @@ use Rattle.swarm_objects.specs.declared.services.Service.{Service}
 use Rattle.swarm_objects.specs.declared.sessions.NodeSession.{NodeSession}
 use Rattle.swarm_objects.specs.declared.tasks.Task.{Task}
 use Rattle.swarm_spans.proofs.Blocked.{blocked_kept}
-use Rattle.swarm_spans.proofs.Grown.{own-with, wider_itself, wider_with, wider_yet}
+use Rattle.swarm_spans.proofs.Grown.{in-full, own-with, wider_itself, wider_with, wider_yet}
+use Rattle.swarm_spans.proofs.Holders.{freed_kept, held_kept}
 use Rattle.swarm_spans.proofs.Lines.{delete_goes_on, gone_goes_on, has-when, old_goes_on, orphan_goes_on, reject_goes_on, restart_goes_on, to_allocate_goes_on, to_schedule_goes_on, to_wait_goes_on}
 use Rattle.swarm_spans.proofs.Made.{nodes_kept, ready_kept, services_kept, tasks_kept}
 use Rattle.swarm_spans.proofs.Moved.{moved_kept, sessions-left}
 use Rattle.swarm_spans.proofs.Services.Outcomes.{same-clock, same-settings}
-use Rattle.swarm_spans.proofs.Services.Spans.{in-full, is-below, near, tasks-full}
+use Rattle.swarm_spans.proofs.Services.Spans.{is-below, near, tasks-full}
 use Rattle.swarm_spans.proofs.Waiting.{address_goes_on, expire_goes_on, note_goes_on, raise_goes_on, schedule_goes_on, waiting_keeps}
 use Rattle.swarm_spans.specs.Blocked.{unblocks}
+use Rattle.swarm_spans.specs.Holding.{FreesNone, HoldsOn, TouchesWhere}
 use Rattle.swarm_spans.specs.Kept.{AlikeFor, KeepsNodes, KeepsServices, KeepsTasks}
-use Rattle.swarm_spans.specs.Lines.{addresses, AlikeCounting, AlikeDown, AlikeNumbered, AlikeOlds, AlikePlatform, AlikePorts, AlikeThere, AlikeValid, deletes, expires, FreeAsBefore, goes, is_to_allocate, is_to_schedule, NoMoreFree, notes, olds, orphans, raises, rejects, restarts, ScheduledAsBefore, to_allocate, to_schedule, to_wait}
+use Rattle.swarm_spans.specs.Lines.{addresses, AlikeCounting, AlikeDown, AlikeNumbered, AlikeOlds, AlikePlatform, AlikePorts, AlikeThere, AlikeValid, deletes, expires, goes, is_to_allocate, is_to_schedule, notes, olds, orphans, raises, rejects, restarts, ScheduledAsBefore, to_allocate, to_schedule, to_wait}
 use Rattle.swarm_spans.specs.Moved.{moves}
 use Rattle.swarm_spans.specs.Spans.{CoversNodes, CoversTasks, full, has_duty, is_in, IsWider, with_id}
 use Rattle.swarm_spans.specs.TasksCovered.{at_time, HasOthersSessions, with_sessions}
@@ -53,6 +55,13 @@ pub moved_yet : (t : Tables) (cs : List Change) (span wide waiting : Span)
 moved_yet t cs span wide waiting all wider e = wider_yet waiting span wide (all e) wider
 
 pub ruleset schedule_steps = (moved_yet, wider_yet)
+
+pub where_yet : (P : Change → Type 0) (cs : List Change) (span wide waiting : Span) → TouchesWhere P cs waiting span
+    → IsWider wide span → TouchesWhere P cs waiting wide
+where_yet P cs span wide waiting (inl all) wider = inl (wider_yet waiting span wide all wider)
+where_yet P cs span wide waiting (inr passes) wider = inr passes
+
+pub ruleset allocate_steps = (where_yet, wider_yet)
 
 -- The full span.
 
@@ -176,26 +185,25 @@ schedules_on waiting t cs span wide before after waits all c wider touches =
     all)
 
 pub addresses_on : (waiting : Span) (t : Tables) (cs : List Change) (span wide : Span) → IsUsable t
-    → IsUsable (apply_changes t cs) → CoversTasks to_allocate t waiting → IsWider wide waiting
+    → IsUsable (apply_changes t cs) → CoversTasks to_allocate t waiting → TouchesWhere (FreesNone t) cs waiting wide
     → CoversTasks addresses t span → IsWider wide span
     → TouchesAll is_to_allocate (AlikeFor addresses) AlikeNumbered AlikeThere t wide cs
     → CoversTasks addresses (apply_changes t cs) wide
 addresses_on waiting t cs span wide before after waits all c wider touches =
     address_goes_on t (apply_changes t cs) span wide c wider (own t cs wide before after touches)
     (by-services t cs wide touches)
-    (waiting_keeps to_allocate is_to_allocate (NoMoreFree t (apply_changes t cs)) t waiting wide
-    (λ x e. has-when (is_to_allocate x) _ ∙ e) waits all)
+    (freed_kept t cs waiting wide before.sound.ordered.tasks waits all)
 
 pub notes_on : (waiting : Span) (t : Tables) (cs : List Change) (span wide : Span) → IsUsable t
-    → IsUsable (apply_changes t cs) → CoversTasks to_allocate t waiting → IsWider wide waiting
+    → IsUsable (apply_changes t cs) → CoversTasks to_allocate t waiting → TouchesWhere (HoldsOn t) cs waiting wide
     → CoversTasks notes t span → IsWider wide span
     → TouchesAll is_to_allocate (AlikeFor notes) AlikePorts AlikeThere t wide cs
     → CoversTasks notes (apply_changes t cs) wide
 notes_on waiting t cs span wide before after waits all c wider touches =
     note_goes_on t (apply_changes t cs) span wide c wider (own t cs wide before after touches)
     (by-services t cs wide touches)
-    (waiting_keeps to_allocate is_to_allocate (FreeAsBefore t (apply_changes t cs)) t waiting wide
-    (λ x e. has-when (is_to_allocate x) _ ∙ e) waits all)
+    (held_kept t cs waiting wide before.sound.ordered.tasks before.sound.ordered.services after.sound.ordered.services
+    waits all)
 
 pub expires_on : (t : Tables) (cs : List Change) (span wide : Span) → IsUsable (apply_changes t cs)
     → CoversNodes expires t span → IsWider wide span → TouchesAllReady wide cs

@@ -1,5 +1,7 @@
+pub mod Bits
 pub mod Blocked
 pub mod Grown
+pub mod Holding
 pub mod Kept
 pub mod Lines
 pub mod Moved

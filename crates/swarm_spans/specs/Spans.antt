@@ -1,33 +1,43 @@
 -- Spans of numbers, and which rows they cover.
-use Rattle.std.specs.Prelude.{ℕ, Bool, List, ◌≡◌, true, is_some, not, nat_lt, nat_le, ◌&&◌, ◌<◌, min, max, ◌-◌, ◌^◌}
+use Rattle.std.specs.Prelude.{ℕ, Bool, List, ◌≡◌, false, true, is_some, not, nat_lt, nat_le, if◌then◌else◌, ◌&&◌, ◌<◌, ◌≤◌, min, max, ◌-◌, ◌^◌}
 use Rattle.swarm_objects.specs.Rows.{first_of, Has, node_id, service_id, task_id}
 use Rattle.swarm_objects.specs.World.{Tables}
 use Rattle.swarm_objects.specs.declared.duties.Duty.{Duty}
 use Rattle.swarm_objects.specs.declared.nodes.Node.{Node}
 use Rattle.swarm_objects.specs.declared.services.Service.{Service}
 use Rattle.swarm_objects.specs.declared.tasks.Task.{Task}
+use Rattle.swarm_spans.specs.Bits.{all_bits, has_bit, no_bits, with_bit, without_bit}
 use Rattle.swarm_spans.specs.declared.span.Span.{Span}
 
 abbrev pub is_in : Span → ℕ → Bool
-is_in span id = nat_lt span.after id && nat_le id span.high
+is_in span id = nat_lt span.after id && nat_le id span.high && has_bit span.bits id
 
 -- no number
 abbrev pub empty : Span
-empty = record { after = 2 ^ 64 - 1; high = 0 }
+empty = record { after = 2 ^ 64 - 1; high = 0; bits = no_bits }
 
 -- every number of a row
 abbrev pub full : Span
-full = record { after = 0; high = 2 ^ 64 - 1 }
+full = record { after = 0; high = 2 ^ 64 - 1; bits = all_bits }
 
 -- each number from this one on
 abbrev pub onwards : ℕ → Span
-onwards id = record { after = id - 1; high = 2 ^ 64 - 1 }
+onwards id = record { after = id - 1; high = 2 ^ 64 - 1; bits = all_bits }
 
 abbrev pub with_id : Span → ℕ → Span
-with_id span id = record { after = min span.after (id - 1); high = max span.high id }
+with_id span id =
+    record { after = min span.after (id - 1); high = max span.high id; bits = with_bit span.bits id }
 
+-- without the numbers up to this one, whose bit is cleared where no number above it has the same
 abbrev pub beyond : Span → ℕ → Span
-beyond span id = record span { after = id }
+beyond span id = record span {
+  after = id;
+  bits = if nat_lt (span.high - id) 1024 then without_bit span.bits id else span.bits;
+}
+
+-- no row up to the number is in the span
+pub record AreOut {X : Type 0} (key : X → ℕ) (span : Span) (after : ℕ) (rows : List X) : Type 0 where
+  pub has : (x : X) → Has rows x → key x ≤ after → is_in span (key x) ≡ false
 
 -- each row that passes the test is in the span
 pub record Covers {X : Type 0} (key : X → ℕ) (test : X → Bool) (span : Span) (rows : List X) : Type 0 where

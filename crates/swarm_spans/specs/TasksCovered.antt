@@ -1,9 +1,11 @@
 -- All spans of the lines over single tasks and over nodes, and what they cover.
-use Rattle.std.specs.Prelude.{List, ℕ, ◌<◌, ◌≡◌, ◌≤◌, ◌⊎◌}
+use Rattle.std.specs.Prelude.{List, Some, true, ℕ, ◌<◌, ◌≡◌, ◌≤◌, ◌⊎◌}
 use Rattle.swarm_objects.specs.Loops.Scheduler.{schedule}
-use Rattle.swarm_objects.specs.Rows.{Has, row_at, service_id, session_node}
+use Rattle.swarm_objects.specs.Nodes.Words.{is_ready}
+use Rattle.swarm_objects.specs.Rows.{Has, node_id, row_at, service_id, session_node}
 use Rattle.swarm_objects.specs.Usable.{IsUsable}
 use Rattle.swarm_objects.specs.World.{Tables}
+use Rattle.swarm_objects.specs.declared.nodes.Node.{Node}
 use Rattle.swarm_objects.specs.declared.services.Service.{Service}
 use Rattle.swarm_objects.specs.declared.sessions.NodeSession.{NodeSession}
 use Rattle.swarm_objects.specs.declared.tasks.Task.{Task}
@@ -66,3 +68,19 @@ ServicesLaw spans wide =
     (first : ℕ) (t : Tables) (next_id : ℕ) (services : List Service) → IsUsable t
     → HasNewServices first next_id t services → AreTasksCovered t spans
     → AreTasksCovered (with_services next_id services t) wide
+
+-- with these nodes, of which some may be new
+abbrev pub with_nodes : ℕ → List Node → Tables → Tables
+with_nodes next_id nodes t = record t { next_id = next_id; nodes = nodes }
+
+-- each node is as it was, but for new ones from this id on, which aren't READY, and on which there is no task yet
+pub record HasNewNodes (first : ℕ) (t : Tables) (nodes : List Node) : Type 0 where
+  pub others : (id : ℕ) → (row_at node_id id nodes ≡ row_at node_id id t.nodes) ⊎ (first ≤ id)
+  pub tasks : (x : Task) (n : ℕ) → Has t.tasks x → x.node ≡ Some n → n < first
+  pub ready : (m : Node) → Has nodes m → is_ready m.state ≡ true → Has t.nodes m
+
+-- the ones cover what the others do, where nodes come
+abbrev pub NodesLaw : TaskSpans → TaskSpans → Type 0
+NodesLaw spans wide =
+    (first : ℕ) (t : Tables) (next_id : ℕ) (nodes : List Node) → IsUsable t → HasNewNodes first t nodes
+    → AreTasksCovered t spans → AreTasksCovered (with_nodes next_id nodes t) wide

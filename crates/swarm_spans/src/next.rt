@@ -13,15 +13,17 @@ pub fn next_task_in<R: Rows>(rows: &R, span: Span) -> Option<&Task>
     requires { IsUsable (R.tables rows.now) }
     ensures { option_copied result ≡ find (λ x. is_in span x.id) (R.tables rows.now).tasks }
 {
-    match rows.next_task(span.after) {
-        Some(task) => {
-            if span.high < task.id {
-                return None;
-            }
-            Some(task)
+    let mut after = span.after;
+    while after < span.high {
+        let Some(task) = rows.next_task(span.skip(after)) else {
+            return None;
+        };
+        if span.has(task.id) {
+            return Some(task);
         }
-        None => None,
+        after = task.id;
     }
+    None
 }
 
 /// The first service in the span.
@@ -30,15 +32,17 @@ pub fn next_service_in<R: Rows>(rows: &R, span: Span) -> Option<&Service>
     requires { IsUsable (R.tables rows.now) }
     ensures { option_copied result ≡ find (λ x. is_in span x.id) (R.tables rows.now).services }
 {
-    match rows.next_service(span.after) {
-        Some(service) => {
-            if span.high < service.id {
-                return None;
-            }
-            Some(service)
+    let mut after = span.after;
+    while after < span.high {
+        let Some(service) = rows.next_service(span.skip(after)) else {
+            return None;
+        };
+        if span.has(service.id) {
+            return Some(service);
         }
-        None => None,
+        after = service.id;
     }
+    None
 }
 
 /// The first node in the span.
@@ -47,13 +51,15 @@ pub fn next_node_in<R: Rows>(rows: &R, span: Span) -> Option<&Node>
     requires { IsUsable (R.tables rows.now) }
     ensures { option_copied result ≡ find (λ x. is_in span x.id) (R.tables rows.now).nodes }
 {
-    match rows.next_node(span.after) {
-        Some(node) => {
-            if span.high < node.id {
-                return None;
-            }
-            Some(node)
+    let mut after = span.after;
+    while after < span.high {
+        let Some(node) = rows.next_node(span.skip(after)) else {
+            return None;
+        };
+        if span.has(node.id) {
+            return Some(node);
         }
-        None => None,
+        after = node.id;
     }
+    None
 }

@@ -4,8 +4,17 @@ ghost use Rattle.std.specs.List.{list_any};
 ghost use Rattle.swarm_objects.specs.ChangeLists.{apply_changes};
 ghost use Rattle.swarm_objects.specs.Usable.{IsUsable};
 ghost use Rattle.swarm_objects.specs.World.{Tables};
-ghost use Rattle.swarm_spans.specs.Services.Touches.{AreCovered, Joins, JoinsForNodes, JoinsForPorts, NewServicesLaw, ServiceTimeLaw, puts_node, puts_service};
+ghost use Rattle.swarm_spans.specs.Services.Touches.{
+  AreCovered,
+  Joins,
+  JoinsForNodes,
+  NewServicesLaw,
+  ServiceNodesLaw,
+  ServiceTimeLaw,
+  puts_node,
+};
 
+use crate::service_ports::add_numbered;
 use crate::service_touches::{Places, Updates, add_shifted};
 use crate::service_trims::add_remains;
 use crate::span::Span;
@@ -31,34 +40,20 @@ fn puts_node(change: &Change) -> bool
     matches!(change, Change::PutNode(_))
 }
 
-// A service is put.
-fn puts_service(change: &Change) -> bool
-    ensures { result ≡ puts_service change.now }
-{
-    matches!(change, Change::PutService(_))
-}
-
 fn put_nodes(changes: &[Change]) -> bool
     ensures { result ≡ list_any puts_node changes.now }
 {
     changes.iter().any(puts_node)
 }
 
-fn put_services(changes: &[Change]) -> bool
-    ensures { result ≡ list_any puts_service changes.now }
-{
-    changes.iter().any(puts_service)
-}
-
-// The numbers of both, and what lies between.
+// The numbers of both.
 #[tactic(auto, using(crate::proofs::Services::Spans::joined))]
 fn joined(span: Span, more: Span) -> Span
     ensures { Joins result span more }
 {
-    Span {
-        after: span.after.min(more.after),
-        high: span.high.max(more.high),
-    }
+    let mut both = span;
+    both.join(more);
+    both
 }
 
 // The same, for a line that reads nodes: a node that is put may concern every service.
@@ -70,17 +65,6 @@ fn joined_for_nodes(changes: &[Change], span: Span, more: Span) -> Span
         return Span::full();
     }
     joined(span, more)
-}
-
-// For the line over ports: a service that is put may set a number free for every other.
-#[tactic(auto, using(crate::proofs::Services::Spans::port_steps))]
-fn joined_for_ports(changes: &[Change], span: Span) -> Span
-    ensures { JoinsForPorts changes.now result span }
-{
-    if put_services(changes) {
-        return Span::full();
-    }
-    span
 }
 
 impl ServiceSpans {
@@ -113,6 +97,8 @@ impl ServiceSpans {
     {
         let mut moved = Span::empty();
         add_shifted::<Places, R>(rows, changes, &mut moved);
+        let mut ports = self.ports;
+        add_numbered(rows, changes, &mut ports);
         let mut updates = self.updates;
         add_shifted::<Updates, R>(rows, changes, &mut updates);
         let mut trims = self.trims;
@@ -123,7 +109,7 @@ impl ServiceSpans {
             leaves: joined_for_nodes(changes, self.leaves, moved),
             comes: joined_for_nodes(changes, self.comes, moved),
             job_creates: joined(self.job_creates, moved),
-            ports: joined_for_ports(changes, self.ports),
+            ports,
             updates,
             trims,
         }
@@ -154,6 +140,18 @@ impl ServiceSpans {
             ports: Span::full(),
             updates: joined(self.updates, new),
             trims: self.trims,
+        }
+    }
+
+    /// With what may have a duty as nodes come, and nothing else changes: global services, which go by the nodes.
+    pub fn with_nodes(self) -> ServiceSpans
+        ensures goes_on { ServiceNodesLaw self result }
+    {
+        let every = Span::full();
+        ServiceSpans {
+            leaves: every,
+            comes: every,
+            ..self
         }
     }
 }

@@ -1,15 +1,18 @@
-// Numbers from one to another.
-ghost use Rattle.std.specs.Prelude.{◌≡◌, ◌==◌, ◌-◌, ◌^◌};
-ghost use Rattle.swarm_spans.specs.Spans.{beyond, empty, full, IsWider, onwards, with_id};
+// Numbers from one to another, of which some are left out by their rests.
+ghost use Rattle.std.specs.Prelude.{◌≡◌, ◌==◌, ◌≤◌, ◌<◌, ◌-◌, ◌^◌, ℕ, false, nat_le};
+ghost use Rattle.swarm_spans.specs.Spans.{beyond, empty, full, is_in, IsWider, onwards, with_id};
 
+use crate::bits::Bits;
 use swarm_objects::Id;
 
-/// The numbers above one, up to another. A world keeps one for each line of duties, and every row with a duty of the
-/// line has its id in it.
+/// The numbers above one, up to another, whose bits are set. A world keeps one for each line of duties, and every row with
+/// a duty of the line has its id in it. Where the two lie no farther apart than there are bits, it has exactly the numbers
+/// that were added and not passed.
 #[derive(Clone, Copy, Drop)]
 pub struct Span {
     pub after: Id,
     pub high: Id,
+    pub bits: Bits,
 }
 
 impl Span {
@@ -20,6 +23,7 @@ impl Span {
         Span {
             after: u64::MAX,
             high: 0,
+            bits: Bits::none(),
         }
     }
 
@@ -30,6 +34,7 @@ impl Span {
         Span {
             after: 0,
             high: u64::MAX,
+            bits: Bits::all(),
         }
     }
 
@@ -40,32 +45,51 @@ impl Span {
         Span {
             after: id.saturating_sub(1),
             high: u64::MAX,
+            bits: Bits::all(),
         }
     }
 
     /// It goes on to the last number, as it does after `full`.
-    pub fn is_endless(self) -> bool
-        ensures { result ≡ (self.high == 2 ^ 64 - 1) }
+    pub fn is_endless(&self) -> bool
+        ensures { result ≡ (self.now.high == 2 ^ 64 - 1) }
     {
         self.high == u64::MAX
     }
 
-    /// This one too, and what lies between.
+    /// It has none.
+    pub fn is_over(&self) -> bool
+        ensures { result ≡ nat_le self.now.high self.now.after }
+    {
+        self.high <= self.after
+    }
+
+    /// It has the number.
+    pub fn has(&self, id: Id) -> bool
+        ensures { result ≡ is_in self.now id }
+    {
+        self.after < id && id <= self.high && self.bits.has(id)
+    }
+
+    /// This one too.
     pub fn add(&mut self, id: Id)
         ensures { self.new ≡ with_id self.old id }
     {
         self.after = self.after.min(id.saturating_sub(1));
         self.high = self.high.max(id);
+        self.bits.set(id);
     }
 
-    /// What lies above.
+    /// What lies above. The number's bit is cleared where no number above has the same.
     pub fn pass(&mut self, id: Id)
         ensures { self.new ≡ beyond self.old id }
     {
+        if self.high.saturating_sub(id) < Bits::COUNT {
+            self.bits.clear(id);
+        }
         self.after = id;
     }
 
-    /// What the other one has too, and what lies between.
+    /// What the other one has too.
     #[tactic(auto, using(crate::proofs::Grown::join_steps))]
     pub fn join(&mut self, other: Span)
         ensures wider { IsWider self.new self.old }
@@ -73,5 +97,15 @@ impl Span {
     {
         self.after = self.after.min(other.after);
         self.high = self.high.max(other.high);
+        self.bits.join(other.bits);
+    }
+
+    /// The last number, from this one on, up to which it has none above this one.
+    pub fn skip(&self, after: Id) -> Id
+        requires { after < self.now.high }
+        ensures onwards { after ≤ result }
+        ensures none { (id : ℕ) → after < id → id ≤ result → is_in self.now id ≡ false }
+    {
+        self.bits.from(after + 1) - 1
     }
 }

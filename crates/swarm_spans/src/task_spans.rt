@@ -7,14 +7,16 @@ ghost use Rattle.swarm_objects.specs.Tasks.Words.{is_to_wait};
 ghost use Rattle.swarm_objects.specs.Usable.{IsUsable};
 ghost use Rattle.swarm_objects.specs.World.{Tables};
 ghost use Rattle.swarm_spans.specs.Blocked.{unblocks};
+ghost use Rattle.swarm_spans.specs.Holding.{FreesNone, HoldsOn, TouchesWhere};
 ghost use Rattle.swarm_spans.specs.Kept.{AlikeFor};
-ghost use Rattle.swarm_spans.specs.Lines.{AlikeCounting, AlikeThere, is_to_schedule, raises};
+ghost use Rattle.swarm_spans.specs.Lines.{addresses, AlikeCounting, AlikeNumbered, AlikePorts, AlikeThere, is_to_allocate, is_to_schedule, notes, raises};
 ghost use Rattle.swarm_spans.specs.Moved.{moves};
 ghost use Rattle.swarm_spans.specs.Spans.{IsWider};
-ghost use Rattle.swarm_spans.specs.TasksCovered.{AreTasksCovered, ServicesLaw, SessionLaw, TimeLaw};
+ghost use Rattle.swarm_spans.specs.TasksCovered.{AreTasksCovered, NodesLaw, ServicesLaw, SessionLaw, TimeLaw};
 ghost use Rattle.swarm_spans.specs.Touched.{TouchesAll, TouchesAllReady};
 
 use crate::blocking::{touch_blocked, touch_moved};
+use crate::holding::{touch_freed, touch_held};
 use crate::reads::{
     Addresses, AnyNode, AnyService, Constrained, Counting, Deletes, DownTime, Goes, Iterating,
     Notes, Numbered, Olds, Orphans, Ports, Raises, Rejects, Restarts, Schedules, ToAllocate,
@@ -78,22 +80,30 @@ fn touched_nodes(changes: &[Change], span: Span) -> Span
     wide
 }
 
-// With what they touch of a line of waiting tasks, and all that wait.
-#[tactic(auto, using(crate::proofs::Grown::wider_yet))]
-fn touched_waiting<T: TaskReads, S: ServiceReads, R: Rows>(
-    rows: &R,
-    changes: &[Change],
-    waiting: Span,
-    span: Span,
-) -> Span
+// Of the tasks to get addresses, with all that wait where an address may be set free.
+#[tactic(auto, using(crate::proofs::TasksCovered::allocate_steps))]
+fn touched_addresses<R: Rows>(rows: &R, changes: &[Change], waiting: Span, span: Span) -> Span
     requires { IsUsable (R.tables rows.now) }
     ensures wider { IsWider result span }
-    ensures all { IsWider result waiting }
-    ensures touches { TouchesAll T.may T.Alike S.Alike AlikeThere (R.tables rows.now) result changes.now }
+    ensures freed { TouchesWhere (FreesNone (R.tables rows.now)) changes.now waiting result }
+    ensures touches { TouchesAll is_to_allocate (AlikeFor addresses) AlikeNumbered AlikeThere (R.tables rows.now) result changes.now }
 {
-    let mut both = span;
-    both.join(waiting);
-    touched_line::<T, S, AnyNode, R>(rows, changes, both)
+    let mut wide = span;
+    touch_freed(rows, changes, waiting, &mut wide);
+    touched_line::<Addresses, Numbered, AnyNode, R>(rows, changes, wide)
+}
+
+// Of the tasks to be told why they get none, with all that wait where what is free may be another.
+#[tactic(auto, using(crate::proofs::TasksCovered::allocate_steps))]
+fn touched_notes<R: Rows>(rows: &R, changes: &[Change], waiting: Span, span: Span) -> Span
+    requires { IsUsable (R.tables rows.now) }
+    ensures wider { IsWider result span }
+    ensures held { TouchesWhere (HoldsOn (R.tables rows.now)) changes.now waiting result }
+    ensures touches { TouchesAll is_to_allocate (AlikeFor notes) AlikePorts AlikeThere (R.tables rows.now) result changes.now }
+{
+    let mut wide = span;
+    touch_held(rows, changes, waiting, &mut wide);
+    touched_line::<Notes, Ports, AnyNode, R>(rows, changes, wide)
 }
 
 // Of the tasks to raise, with all that wait where an earlier task of a place may be out of the way.
@@ -168,13 +178,8 @@ impl TaskSpans {
             goes: touched_line::<Goes, AnyService, AnyNode, R>(rows, changes, self.goes),
             olds: touched_line::<Olds, Iterating, AnyNode, R>(rows, changes, self.olds),
             deletes: touched_alone::<Deletes, R>(rows, changes, self.deletes),
-            addresses: touched_waiting::<Addresses, Numbered, R>(
-                rows,
-                changes,
-                self.to_allocate,
-                self.addresses,
-            ),
-            notes: touched_waiting::<Notes, Ports, R>(rows, changes, self.to_allocate, self.notes),
+            addresses: touched_addresses(rows, changes, self.to_allocate, self.addresses),
+            notes: touched_notes(rows, changes, self.to_allocate, self.notes),
             schedules: touched_schedules(rows, changes, self.to_schedule, self.schedules),
             to_wait: touched_alone::<ToWait, R>(rows, changes, self.to_wait),
             to_schedule: touched_alone::<ToSchedule, R>(rows, changes, self.to_schedule),
@@ -221,13 +226,19 @@ impl TaskSpans {
     pub fn with_services(self) -> TaskSpans
         ensures goes_on { ServicesLaw self result }
     {
-        let mut addresses = self.addresses;
-        addresses.join(self.to_allocate);
         let mut notes = self.notes;
         notes.join(self.to_allocate);
+        TaskSpans { notes, ..self }
+    }
+
+    /// With what nodes that come concern, and nothing else changes: tasks that wait for a node.
+    pub fn with_nodes(self) -> TaskSpans
+        ensures goes_on { NodesLaw self result }
+    {
+        let mut waiting = self.schedules;
+        waiting.join(self.to_schedule);
         TaskSpans {
-            addresses,
-            notes,
+            schedules: waiting,
             ..self
         }
     }

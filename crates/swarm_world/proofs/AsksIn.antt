@@ -11,6 +11,7 @@ use Rattle.swarm_objects.specs.Rows.{Has, RisesFrom, agent_node, first_of}
 use Rattle.swarm_objects.specs.World.{World}
 use Rattle.swarm_objects.specs.declared.agents.NodeAgent.{NodeAgent}
 use Rattle.swarm_objects.specs.declared.duties.Duty.{Duty}
+use Rattle.swarm_spans.proofs.InSpans.{in-rest}
 use Rattle.swarm_spans.specs.Spans.{beyond, has_duty, is_in}
 use Rattle.swarm_spans.specs.declared.span.Span.{Span}
 use Rattle.swarm_world.proofs.AgentsShown.{wants-duty, wants-parts}
@@ -38,7 +39,7 @@ abbrev KeepsAbove : ℕ → Span → Span → Type 0
 KeepsAbove node span next = (n : ℕ) → node < n → is_in span n ≡ true → is_in next n ≡ true
 
 keeps-beyond : (node : ℕ) (span : Span) → KeepsAbove node span (beyond span node)
-keeps-beyond node span n above within = grind (arith, nat_tests, above, within)
+keeps-beyond node span n above within = in-rest span node n within above
 
 keeps-asked : (w : World) (node : ℕ) (span next : Span) → IsAsked w node span next → KeepsAbove node span next
 keeps-asked w node span next (inl same) n above within = subst (λ s. is_in s n ≡ true) (sym same) within

@@ -229,7 +229,7 @@ pub record HasLeft (p q : Parts) (w v : World) : Type 0 where
   pub before : HasParts p w
   pub after : HasParts q v
 
-same-sent : (p q : Parts) (w v : World) → HasLeft p q w v → v.sent ≡ w.sent → q.sent ≡ p.sent
+pub same-sent : (p q : Parts) (w v : World) → HasLeft p q w v → v.sent ≡ w.sent → q.sent ≡ p.sent
 same-sent p q w v has same = has.after.sent ∙ same ∙ sym has.before.sent
 
 same-agents : (p q : Parts) (w v : World) → HasLeft p q w v → v.agents ≡ w.agents → q.agents ≡ p.agents

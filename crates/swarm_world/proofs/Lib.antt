@@ -23,10 +23,12 @@ pub mod Looking
 pub mod LooksOn
 pub mod Marked
 pub mod Marking
+pub mod NewNodes
 pub mod OnNodes
 pub mod Opening
 pub mod Pulling
 pub mod Recorded
+pub mod RegisterMarked
 pub mod Registering
 pub mod RemoteCalls
 pub mod Reporting

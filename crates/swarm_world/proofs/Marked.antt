@@ -15,7 +15,8 @@ use Rattle.swarm_objects.specs.World.{Tables}
 use Rattle.swarm_objects.specs.declared.agents.NodeAgent.{NodeAgent}
 use Rattle.swarm_sched.specs.Inside.KnownNodes.{KnowsNodes}
 use Rattle.swarm_spans.specs.Services.Touches.{AreCovered}
-use Rattle.swarm_spans.specs.Spans.{Covers, full, has_duty, is_in}
+use Rattle.swarm_spans.proofs.Grown.{in-full}
+use Rattle.swarm_spans.specs.Spans.{Covers, full, has_duty}
 use Rattle.swarm_spans.specs.TasksCovered.{AreTasksCovered}
 use Rattle.swarm_world.proofs.Entering.{are_usable}
 use Rattle.swarm_world.proofs.Recorded.{usable_rows}
@@ -28,13 +29,10 @@ use Rattle.swarm_world.specs.declared.agent_spans.AgentSpans.{AgentSpans}
 use Rattle.swarm_world.specs.declared.marks.Marks.{Marks}
 use Rattle.swarm_world.specs.declared.parts.Parts.{Parts}
 
-in-full : (n high : ℕ) → 1 ≤ n → n < high → high < 2 ^ 60 → is_in full n ≡ true
-in-full n high low below near = grind (arith, nat_tests, low, below, near)
-
 pub full_covers : {X : Type 0} (key : X → ℕ) (test : X → Bool) (high : ℕ) (rows : List X) → RisesBetween key 1 high rows
     → high < 2 ^ 60 → Covers key test full rows
 full_covers key test high rows rises near = record {
-  has = λ x h d. let is = between-has key 1 high rows x rises h in in-full (key x) high is.0 is.1 near;
+  has = λ x h d. let is = between-has key 1 high rows x rises h in in-full (key x) is.0 (omega (arith, is.1, near));
 }
 
 seen-between : (high low : ℕ) (agents : List NodeAgent) → RisesBetween agent_node low high agents

@@ -16,14 +16,14 @@ use Rattle.swarm_objects.specs.declared.tasks.Task.{Task}
 use Rattle.swarm_sessions.specs.OnRecord.{OnRecord, tables_with}
 use Rattle.swarm_sched.proofs.KnownAlike.{knows_alike}
 use Rattle.swarm_sched.specs.Inside.KnownNodes.{KnowsNodes}
-use Rattle.swarm_spans.proofs.Services.GoesOn.{come_goes_on, create_goes_on, down_goes_on, leave_goes_on, next_goes_on, port_goes_on}
+use Rattle.swarm_spans.proofs.Services.GoesOn.{come_goes_on, create_goes_on, down_goes_on, leave_goes_on, next_goes_on}
 use Rattle.swarm_spans.proofs.Services.Trimmed.{trim_goes_on}
 use Rattle.swarm_spans.proofs.Services.Updated.{update_goes_on}
 use Rattle.swarm_spans.specs.Services.Lines.{AreRising}
 use Rattle.swarm_spans.specs.Services.Standings.{progress, standing}
 use Rattle.swarm_spans.specs.Services.Steps.{HasShifted}
 use Rattle.swarm_spans.specs.Services.Touches.{AreCovered}
-use Rattle.swarm_spans.specs.TasksCovered.{AreTasksCovered, HasOthersSessions, SessionLaw}
+use Rattle.swarm_spans.specs.TasksCovered.{AreTasksCovered, HasOthersSessions, SessionLaw, with_sessions}
 use Rattle.swarm_spans.specs.declared.service_spans.ServiceSpans.{ServiceSpans}
 use Rattle.swarm_spans.specs.declared.span.Span.{Span}
 use Rattle.swarm_watch.specs.Watchings.{Watchings}
@@ -52,10 +52,10 @@ same_spans m n t tasks services nodes marked = record {
 -- A node's session.
 
 -- the lines over services look at none
-services-still : (t : Tables) (sessions : List NodeSession) (spans : ServiceSpans) → IsUsable t → AreCovered t spans
-    → AreCovered (record t { sessions = sessions }) spans
-services-still t sessions spans usable are =
-    let u = record t { sessions = sessions } in
+pub services-still : (t : Tables) (next_id : ℕ) (sessions : List NodeSession) (spans : ServiceSpans) → IsUsable t → AreCovered t spans
+    → AreCovered (with_sessions next_id sessions t) spans
+services-still t next_id sessions spans usable are =
+    let u = with_sessions next_id sessions t in
     let rising : AreRising t u =
     record {
       before = usable.sound.ordered.tasks;
@@ -69,14 +69,14 @@ services-still t sessions spans usable are =
           leave_goes_on t u spans.leaves rising (same standing spans.leaves) (record { nodes = inl refl }) are.leaves;
       comes = come_goes_on t u spans.comes rising (same standing spans.comes) (record { nodes = inl refl }) are.comes;
       job_creates = next_goes_on t u spans.job_creates rising (same standing spans.job_creates) are.job_creates;
-      ports = port_goes_on t u spans.ports (record { services = inl refl }) are.ports;
+      ports = record { has = λ s h due. are.ports.has s h due };
       updates = update_goes_on t u spans.updates rising refl (same (progress t) spans.updates) are.updates;
       trims =
           trim_goes_on t u spans.trims rising refl (record { services = λ id. inl refl; tasks = λ id. inl refl })
           are.trims;
     }
   where
-    same : {S : Type 0} (show : Task → S) (span : Span) → HasShifted show span t (record t { sessions = sessions })
+    same : {S : Type 0} (show : Task → S) (span : Span) → HasShifted show span t (with_sessions next_id sessions t)
     same show span = record { services = record { rows = λ id. inl refl }; tasks = λ id. inl refl }
 
 -- where one node's session changes, all others have theirs
@@ -107,7 +107,7 @@ beat_marked node now heartbeat id before after r s are marked law services nodes
     (record {
       tasks = law t t.next_id beats usable (others-have node f t (λ x. refl)) marked.tasks;
       services = subst (AreCovered (record t { sessions = beats })) (sym services)
-          (services-still t beats before.services usable marked.services);
+          (services-still t t.next_id beats before.services usable marked.services);
       nodes =
           knows_alike t (record t { sessions = beats }) after.nodes refl refl
           (subst (KnowsNodes t) (sym nodes) marked.nodes);

@@ -47,18 +47,20 @@ impl Parts {
         node: Id,
     ) -> Result<(), NoMemory>
         requires at { HasHistory self.old }
+        requires marks { AreMarked marks.old (tables_of self.old.records) }
         ensures enters { (h : Seq Entry) → IsAt version self.old h →
             Enters h (what.Duty (duty.Register node)) result self.new }
         ensures marks { IsUsable (tables_of self.new.records) → AreMarked marks.new (tables_of self.new.records) }
         ensures agents { marks.new.agents ≡ after_turn (duty.Register node) marks.old.agents }
     {
         entries_are_noted();
-        marks.touch_rows();
         marks.agents.tells.add(node);
-        let Ok(changes) = set_ready(self.alloc, &self.records, version, node) else {
+        let Ok(ready) = set_ready(self.alloc, &self.records, version, node) else {
             return Err(NoMemory);
         };
-        let Ok(session) = self.begin(version, node, changes) else {
+        marks.touch(&self.records, ready.as_slice());
+        marks.touch_session(node);
+        let Ok(session) = self.begin(version, node, ready) else {
             return Err(NoMemory);
         };
         self.agents.register(node, session);

@@ -1,7 +1,9 @@
 // Where the agents' loop looks.
 ghost use Rattle.std.specs.Prelude.{◌≡◌};
 ghost use Rattle.swarm_spans.specs.Spans.{empty, full};
+ghost use Rattle.swarm_world.specs.Inside.Spanned.{AreWiderFrom};
 
+use swarm_objects::Id;
 use swarm_spans::Span;
 
 /// Two spans, by the number of the agent's node.
@@ -35,5 +37,17 @@ impl AgentSpans {
             duties: Span::full(),
             tells: Span::full(),
         }
+    }
+
+    /// With the agents of nodes that come from this id on: a new agent may have any duty.
+    pub fn with_nodes(self, first: Id) -> AgentSpans
+        ensures { AreWiderFrom first result self }
+    {
+        let new = Span::onwards(first);
+        let mut duties = self.duties;
+        duties.join(new);
+        let mut tells = self.tells;
+        tells.join(new);
+        AgentSpans { duties, tells }
     }
 }

@@ -58,13 +58,6 @@ fn session_duty(
     None
 }
 
-// The number is in the span.
-fn is_in(span: Span, id: Id) -> bool
-    ensures { result ≡ is_in span id }
-{
-    span.after < id && id <= span.high
-}
-
 // A message is due for the node, of whose tasks that is asked only where one may be. Where none is, the node leaves the
 // span, with those before it.
 #[tactic(auto, using(crate::proofs::Asked::told_steps))]
@@ -74,7 +67,7 @@ fn is_told(records: &Records, sent: &Sents, node: Id, tells: &mut Span) -> bool
     ensures told { result ≡ is_told (looked_at (tables_of records.now) sent.now) node }
     ensures asked { IsAsked (looked_at (tables_of records.now) sent.now) node tells.old tells.new }
 {
-    if !is_in(*tells, node) {
+    if !tells.has(node) {
         return false;
     }
     if sent.is_due(records, node) {
@@ -287,7 +280,7 @@ pub fn agents_first_in(
 {
     times_that_no_step_looks_at();
     for (node, agent) in agents.iter() {
-        if is_in(spans.duties, *node) {
+        if spans.duties.has(*node) {
             match agent_first(records, sent, *node, agent, &mut spans.tells) {
                 Some(duty) => return Some(duty),
                 None => spans.duties.pass(*node),

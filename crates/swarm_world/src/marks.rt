@@ -13,13 +13,14 @@ ghost use Rattle.swarm_objects.specs.World.{Tables};
 ghost use Rattle.swarm_sched.specs.Inside.KnownNodes.{KnowsNodes};
 ghost use Rattle.swarm_spans.specs.Lines.{addresses, deletes, expires, goes, notes, olds, orphans, raises, rejects, restarts};
 ghost use Rattle.swarm_spans.specs.Services.Lines.{comes, creates, downs, job_creates, leaves, trims, updates};
-ghost use Rattle.swarm_spans.specs.Services.Touches.{NewServicesLaw};
+ghost use Rattle.swarm_spans.specs.Services.Touches.{NewServicesLaw, ServiceNodesLaw};
 ghost use Rattle.swarm_spans.specs.Spans.{CoversNodes, CoversServices, CoversTasks, full};
-ghost use Rattle.swarm_spans.specs.TasksCovered.{ServicesLaw, SessionLaw, at_time};
+ghost use Rattle.swarm_spans.specs.TasksCovered.{NodesLaw, ServicesLaw, SessionLaw, at_time};
 ghost use Rattle.swarm_world.specs.Inside.Kept.{IsFirst};
-ghost use Rattle.swarm_world.specs.Inside.Marks.{AreMarked, IsAfterCall, IsMarked, makes_service};
+ghost use Rattle.swarm_world.specs.Inside.Marks.{AreMarked, IsAfterCall, IsMarked, makes_node, makes_service};
 ghost use Rattle.swarm_world.specs.Inside.Parts.{HasHistory, StandsFor};
 ghost use Rattle.swarm_world.specs.Inside.Records.{tables_of};
+ghost use Rattle.swarm_world.specs.Inside.Spanned.{AreWiderFrom};
 ghost use Rattle.swarm_world.specs.declared.parts.Parts.{Parts as Whole};
 
 use crate::agent_spans::AgentSpans;
@@ -196,6 +197,20 @@ fn make_services(ops: &[Op]) -> bool
     ops.iter().all(makes_service)
 }
 
+// The operation makes a node.
+fn makes_node(op: &Op) -> bool
+    ensures { result ≡ makes_node op.now }
+{
+    matches!(op, Op::CreateNode(_, _))
+}
+
+// Each of the operations makes a node.
+fn make_nodes(ops: &[Op]) -> bool
+    ensures { result ≡ list_all makes_node ops.now }
+{
+    ops.iter().all(makes_node)
+}
+
 impl Marks {
     // Every row may have a duty.
     fn with_nodes(nodes: KnownNodes) -> Marks
@@ -291,16 +306,6 @@ impl Marks {
         self.services = self.services.touched(records, changes);
     }
 
-    /// Every row may have a duty.
-    pub fn touch_rows(&mut self)
-        ensures goes_on { (t : Tables) → IsUsable t → AreMarked self.new t }
-        ensures agents { self.new.agents ≡ self.old.agents }
-    {
-        self.tasks = TaskSpans::full();
-        self.services = ServiceSpans::full();
-        self.nodes.forget_all();
-    }
-
     /// With what may have a duty as time goes by.
     pub fn touch_time(&mut self)
         ensures rows { (t : Tables) (clock : ℕ) → IsUsable t → AreMarked self.old t → AreMarked self.new (at_time clock t) }
@@ -323,13 +328,29 @@ impl Marks {
         self.services = self.services.with_services(first);
     }
 
+    // With nodes that come from this id on. What is remembered of nodes is by all of them.
+    fn touch_nodes(&mut self, first: Id)
+        ensures tasks { NodesLaw self.old.tasks self.new.tasks }
+        ensures services { ServiceNodesLaw self.old.services self.new.services }
+        ensures agents { AreWiderFrom first self.new.agents self.old.agents }
+        ensures nodes { (t : Tables) → KnowsNodes t self.new.nodes }
+    {
+        self.tasks = self.tasks.with_nodes();
+        self.services = self.services.with_nodes();
+        self.agents = self.agents.with_nodes(first);
+        self.nodes.forget_all();
+    }
+
     // With what the operations may touch, whether they are done or not.
     fn touch_ops(&mut self, parts: &Parts, ops: &[Op])
         ensures { (h : Seq Entry) (q : Whole) → IsLegal h → StandsFor parts.now (replay h) → IsMarked self.old parts.now →
             HasHistory q → IsAfterCall h (Call.Txn ops.now) q → IsMarked self.new q }
     {
+        let first = parts.records.next_id();
         if make_services(ops) {
-            self.touch_services(parts.records.next_id());
+            self.touch_services(first);
+        } else if make_nodes(ops) {
+            self.touch_nodes(first);
         } else {
             self.touch_all();
         }

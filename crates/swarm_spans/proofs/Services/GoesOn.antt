@@ -1,26 +1,25 @@
 -- Spans of services go on covering a line over a step.
-use Rattle.std.proofs.Common.{Bool, List, None, Option, Some, ap, cond, false, inl, inr, refl, subst, sym, true, ℕ, arith, ◌<◌, ◌∙◌, ◌≡◌, ◌⊎◌}
+use Rattle.std.proofs.Common.{Bool, List, None, Option, Some, [], ap, cond, false, inl, inr, refl, subst, sym, true, ℕ, arith, ◌<◌, ◌∙◌, ◌∷◌, ◌≡◌, ◌⊎◌}
 use Rattle.std.proofs.lemmas.Bool.Decides.{nat_tests}
 use Rattle.std.specs.Option.{option_map}
-use Rattle.std.specs.Prelude.{flat_map, is_some, map, ◌==◌}
+use Rattle.std.specs.Prelude.{filter, is_some, map, ◌==◌}
 use Rattle.swarm_objects.proofs.RowLemmas.{Has-from_row_at, RisesFrom-filter, number_above, row_at-Some}
 use Rattle.swarm_objects.proofs.Tests.{never-both}
-use Rattle.swarm_objects.specs.Loops.Allocator.{port_duties}
-use Rattle.swarm_objects.specs.Loops.Words.{duty_where}
-use Rattle.swarm_objects.specs.Limits.{first_port, last_port}
-use Rattle.swarm_objects.specs.Rows.{Has, first_free, first_of, row_at, service_id, task_id}
-use Rattle.swarm_objects.specs.Services.Ports.{ports_held, unnumbered_ports}
+use Rattle.swarm_objects.specs.Loops.Allocator.{has_free_port, port_duties}
+use Rattle.swarm_objects.specs.Rows.{Has, first_of, row_at, service_id, task_id}
+use Rattle.swarm_objects.specs.Services.Ports.{unnumbered_ports}
 use Rattle.swarm_objects.specs.Tasks.Words.{is_of}
 use Rattle.swarm_objects.specs.World.{Tables}
 use Rattle.swarm_objects.specs.declared.duties.Duty.{Duty}
 use Rattle.swarm_objects.specs.declared.duties.Duty.TheVariants as duty
 use Rattle.swarm_objects.specs.declared.services.Service.{Service}
 use Rattle.swarm_objects.specs.declared.tasks.Task.{Task}
+use Rattle.swarm_objects.specs.declared.templates.Port.{Port}
 use Rattle.swarm_spans.proofs.Services.Alike.{Reads, keep, row_at-filter, shown-rows}
 use Rattle.swarm_spans.proofs.Services.Held.{come-same, create-same, down-same, leave-same, next-same, own}
 use Rattle.swarm_spans.specs.Services.Lines.{AreRising, MovedLaw, PlacedLaw, PortLaw, comes, creates, downs, leaves, job_creates}
 use Rattle.swarm_spans.specs.Services.Standings.{Standing, standing}
-use Rattle.swarm_spans.specs.Services.Steps.{HasChanged, HasServiceOf, ShowsAgain}
+use Rattle.swarm_spans.specs.Services.Steps.{HadFreePort, HasChanged, HasServiceOf, ShowsAgain}
 use Rattle.swarm_spans.specs.Spans.{CoversServices, has_duty, is_in}
 use Rattle.swarm_spans.specs.declared.span.Span.{Span}
 
@@ -141,19 +140,27 @@ come_goes_on t u span rising moved placed c =
           (λ s row e. come-same t u s nodes e) c
     ]
 
-pub port_goes_on : PortLaw
-port_goes_on t u span ports c =
-    elim ports.services [
-      | inr all ↦ record { has = λ s h passes. all s h }
-      | inl same ↦
-          record {
-            has = λ s h passes.
-                c.has s (subst (λ list. Has list s) same h) (sym (port-same s same) ∙ passes);
-          }
-    ]
+-- what has an item that passes the one test has one that passes the other
+first-too : {X Y : Type 0} (p q : X → Bool) (f : X → Y) (xs : List X) → ((x : X) → p x ≡ true → q x ≡ true)
+    → is_some (first_of (map f (filter p xs))) ≡ true → is_some (first_of (map f (filter q xs))) ≡ true
+first-too p q f [] implies e = e
+first-too p q f (x ∷ xs) implies e = go (p x) (q x) (implies x) (first-too p q f xs implies) e
   where
-    port-same : (s : Service) → u.services ≡ t.services → has_duty (port_duties u) s ≡ has_duty (port_duties t) s
-    port-same s same =
-        ap (λ (list : List Service). is_some (first_of (duty_where
-        (λ p. is_some (first_free first_port last_port (flat_map (ports_held p.udp) list)))
-        (λ p. duty.Port s.id p.target p.udp) (unnumbered_ports s)))) same
+    go : (a b : Bool) → (a ≡ true → b ≡ true)
+        → (is_some (first_of (map f (filter p xs))) ≡ true → is_some (first_of (map f (filter q xs))) ≡ true)
+        → is_some (first_of (map f (cond a (x ∷ filter p xs) (filter p xs)))) ≡ true
+        → is_some (first_of (map f (cond b (x ∷ filter q xs) (filter q xs)))) ≡ true
+    go a true i rest k = refl
+    go true false i rest k = let none : false ≡ true = i refl in absurd cc
+    go false false i rest k = rest k
+
+pub port_goes_on : PortLaw
+port_goes_on t u span ports c = record { has = λ s h passes. go s passes (ports.services s h) }
+  where
+    go : (s : Service) → has_duty (port_duties u) s ≡ true
+        → (is_in span s.id ≡ true) ⊎ (Has t.services s × HadFreePort t u) → is_in span s.id ≡ true
+    go s passes (inl e) = e
+    go s passes (inr two) =
+        c.has s two.0
+        (first-too (λ (p : Port). has_free_port u p.udp) (λ (p : Port). has_free_port t p.udp)
+        (λ (p : Port). duty.Port s.id p.target p.udp) (unnumbered_ports s) (λ p. two.1 p.udp) passes)

@@ -11,7 +11,7 @@ use Rattle.swarm_objects.specs.declared.rows.Change.{Change}
 use Rattle.swarm_objects.specs.declared.rows.Change.TheVariants as change
 use Rattle.swarm_objects.specs.declared.services.Service.{Service}
 use Rattle.swarm_objects.specs.declared.tasks.Task.{Task}
-use Rattle.swarm_spans.specs.Services.Touches.{puts_node, puts_service}
+use Rattle.swarm_spans.specs.Services.Touches.{puts_node}
 
 -- A put and a drop, row by row.
 
@@ -198,16 +198,6 @@ service-turns t (c ∷ cs) id = go (row_at service_id id (apply_changes (apply_c
     go o (inr put) = inr (put.0, inr put.1, put.2, put.3)
 
 -- Whole tables.
-
-pub no-service-put : (t : Tables) (cs : List Change) → list_any puts_service cs ≡ false
-    → (apply_changes t cs).services ≡ t.services
-no-service-put t [] e = refl
-no-service-put t (change.PutService s ∷ cs) e = absurd cc
-no-service-put t (change.PutNode n ∷ cs) e = no-service-put (apply_change t (change.PutNode n)) cs e
-no-service-put t (change.PutTask x ∷ cs) e =
-    no-service-put (apply_change t (change.PutTask x)) cs e ∙ put-services t x
-no-service-put t (change.DropTask id ∷ cs) e = no-service-put (apply_change t (change.DropTask id)) cs e
-no-service-put t (change.Keep a ∷ cs) e = no-service-put (apply_change t (change.Keep a)) cs e
 
 pub no-node-put : (t : Tables) (cs : List Change) → list_any puts_node cs ≡ false
     → (apply_changes t cs).nodes ≡ t.nodes

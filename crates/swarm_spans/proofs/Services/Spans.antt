@@ -1,8 +1,7 @@
 -- All spans of the lines over services, over one list of changes.
-use Rattle.std.proofs.Common.{List, [], false, inl, inr, refl, subst, sym, true, ℕ, arith, ◌<◌, ◌≤◌, ◌-◌, ◌∷◌, ◌≡◌}
-use Rattle.std.proofs.lemmas.Bool.Decides.{nat_tests}
+use Rattle.std.proofs.Common.{List, [], false, inl, inr, refl, subst, sym, true, ℕ, arith, ◌<◌, ◌∷◌, ◌≡◌}
 use Rattle.std.specs.List.{list_any}
-use Rattle.std.specs.Prelude.{max, min, ◌^◌}
+use Rattle.std.specs.Prelude.{◌^◌}
 use Rattle.swarm_objects.proofs.RowLemmas.{number_above}
 use Rattle.swarm_objects.specs.Bounds.{far_end}
 use Rattle.swarm_objects.specs.ChangeLists.{apply_changes}
@@ -14,28 +13,25 @@ use Rattle.swarm_objects.specs.declared.duties.Duty.{Duty}
 use Rattle.swarm_objects.specs.declared.rows.Change.{Change}
 use Rattle.swarm_objects.specs.declared.services.Service.{Service}
 use Rattle.swarm_objects.specs.declared.tasks.Task.{Task}
+use Rattle.swarm_spans.proofs.Grown.{in-full}
 use Rattle.swarm_spans.proofs.Services.GoesOn.{come_goes_on, create_goes_on, down_goes_on, leave_goes_on, next_goes_on, port_goes_on}
-use Rattle.swarm_spans.proofs.Services.Outcomes.{no-node-put, no-service-put, same-clock, same-settings}
+use Rattle.swarm_spans.proofs.Services.Outcomes.{no-node-put, same-clock, same-settings}
 use Rattle.swarm_spans.proofs.Services.Touching.{number-wider, service_of-wider}
 use Rattle.swarm_spans.proofs.Services.Trimmed.{trim_goes_on}
 use Rattle.swarm_spans.proofs.Services.Updated.{update_goes_on}
 use Rattle.swarm_spans.specs.Services.Lines.{AreRising, MovedLaw, PlacedLaw, comes, creates, downs, job_creates, leaves, trims, updates}
 use Rattle.swarm_spans.specs.Services.Standings.{progress, standing}
-use Rattle.swarm_spans.specs.Services.Steps.{HasEach, HasRemains, HasShifted}
-use Rattle.swarm_spans.specs.Services.Touches.{AreCovered, Joins, JoinsForNodes, JoinsForPorts, ServiceTimeLaw, puts_node, puts_service}
-use Rattle.swarm_spans.specs.Spans.{CoversServices, CoversTasks, IsWider, full, is_in}
+use Rattle.swarm_spans.specs.Services.Steps.{HasEach, HasForPorts, HasRemains, HasShifted}
+use Rattle.swarm_spans.specs.Services.Touches.{AreCovered, Joins, JoinsForNodes, ServiceTimeLaw, puts_node}
+use Rattle.swarm_spans.specs.Spans.{CoversServices, CoversTasks, IsWider, full}
 use Rattle.swarm_spans.specs.TasksCovered.{at_time}
 use Rattle.swarm_spans.specs.declared.service_spans.ServiceSpans.{ServiceSpans}
 use Rattle.swarm_spans.specs.declared.span.Span.{Span}
 
 -- Two spans as one.
 
-pub joined : (span more : Span)
-    → Joins (record { after = min span.after more.after; high = max span.high more.high }) span more
-joined span more = record {
-  span = record { has = λ id h. grind (arith, nat_tests, h) };
-  more = record { has = λ id h. grind (arith, nat_tests, h) };
-}
+pub joined : (both span more : Span) → IsWider both span → IsWider both more → Joins both span more
+joined both span more wider all = record { span = wider; more = all }
 
 pub nodes_full : (cs : List Change) (one span more : Span) → true ≡ list_any puts_node cs → one ≡ full
     → JoinsForNodes cs one span more
@@ -47,26 +43,12 @@ nodes_joined cs one span more puts joins = record { either = inr (sym puts, join
 
 pub ruleset node_steps = (nodes_full, nodes_joined)
 
-pub ports_full : (cs : List Change) (one span : Span) → true ≡ list_any puts_service cs → one ≡ full
-    → JoinsForPorts cs one span
-ports_full cs one span puts is = record { either = inl (sym puts, is) }
-
-pub ports_same : (cs : List Change) (span : Span) → false ≡ list_any puts_service cs → JoinsForPorts cs span span
-ports_same cs span puts = record { either = inr (sym puts, refl) }
-
-pub ruleset port_steps = (ports_full, ports_same)
-
 -- Every row is in the full span.
 
 pub is-below : {X : Type 0} (key : X → ℕ) (n : ℕ) (rows : List X) (x : X) → IsBelow key n rows → Has rows x → key x < n
 is-below key n [] x b h = absurd h
 is-below key n (y ∷ rows) x b (inl e) = subst (λ z. key z < n) e b.0
 is-below key n (y ∷ rows) x b (inr h) = is-below key n rows x b.1 h
-
-pub in-full : (id : ℕ) → 0 < id → id < 2 ^ 60 → is_in full id ≡ true
-in-full id above below =
-    let le : id ≤ 2 ^ 64 - 1 = omega (arith, below) in
-    grind (arith, nat_tests, above, le)
 
 pub near : (id bound : ℕ) → id < bound → bound < far_end → id < 2 ^ 60
 near id bound a b = omega (arith, a, b)
@@ -128,7 +110,7 @@ time_goes_on spans updating every t clock usable are =
           leave_goes_on t u spans.leaves rising (same standing spans.leaves) (record { nodes = inl refl }) are.leaves;
       comes = come_goes_on t u spans.comes rising (same standing spans.comes) (record { nodes = inl refl }) are.comes;
       job_creates = next_goes_on t u spans.job_creates rising (same standing spans.job_creates) are.job_creates;
-      ports = port_goes_on t u spans.ports (record { services = inl refl }) are.ports;
+      ports = record { has = λ s h due. are.ports.has s h due };
       updates =
           subst (CoversServices updates u) (sym every) (record { has = λ s h passes. each-full t usable s h });
       trims =
@@ -173,14 +155,6 @@ nodes-cover line t cs one span moved usable joins c =
       | inr two ↦ wider-covers line t span one two.1.span c
     ]
 
-ports-cover : (t : Tables) (cs : List Change) (one span : Span) → IsUsable t → JoinsForPorts cs one span
-    → CoversServices port_duties t span → CoversServices port_duties t one
-ports-cover t cs one span usable joins c =
-    elim joins.either [
-      | inl two ↦ subst (CoversServices port_duties t) (sym two.1) (services-full port_duties t usable)
-      | inr two ↦ subst (CoversServices port_duties t) (sym two.1) c
-    ]
-
 -- After the changes.
 
 pub rising : (t u : Tables) → IsUsable t → IsUsable u → AreRising t u
@@ -210,23 +184,10 @@ placed-on line t cs one span moved law before after has joins c =
           (record { nodes = inl (no-node-put t cs two.0) }) (wider-covers line t span one two.1.span c)
     ]
 
-ports-on : (t : Tables) (cs : List Change) (one span : Span) → IsUsable (apply_changes t cs)
-    → JoinsForPorts cs one span → CoversServices port_duties t span
-    → CoversServices port_duties (apply_changes t cs) one
-ports-on t cs one span after joins c =
-    elim joins.either [
-      | inl two ↦
-          subst (CoversServices port_duties (apply_changes t cs)) (sym two.1)
-          (services-full port_duties (apply_changes t cs) after)
-      | inr two ↦
-          port_goes_on t (apply_changes t cs) one (record { services = inl (no-service-put t cs two.0) })
-          (subst (CoversServices port_duties t) (sym two.1) c)
-    ]
-
 pub covered_stays : (t : Tables) (cs : List Change) (b : ServiceSpans) (moved d c l m j p u r : Span) → IsUsable t
     → AreCovered t b → Joins d b.downs moved → Joins c b.creates moved → JoinsForNodes cs l b.leaves moved
-    → JoinsForNodes cs m b.comes moved → Joins j b.job_creates moved → JoinsForPorts cs p b.ports
-    → IsWider u b.updates → IsWider r b.trims
+    → JoinsForNodes cs m b.comes moved → Joins j b.job_creates moved → IsWider p b.ports → IsWider u b.updates
+    → IsWider r b.trims
     → AreCovered t (record {
       downs = d;
       creates = c;
@@ -243,7 +204,7 @@ covered_stays t cs b moved d c l m j p u r usable are ds crs ls ms js ps us rs =
   leaves = nodes-cover leaves t cs l b.leaves moved usable ls are.leaves;
   comes = nodes-cover comes t cs m b.comes moved usable ms are.comes;
   job_creates = wider-covers job_creates t b.job_creates j js.span are.job_creates;
-  ports = ports-cover t cs p b.ports usable ps are.ports;
+  ports = wider-covers port_duties t b.ports p ps are.ports;
   updates = wider-covers updates t b.updates u us are.updates;
   trims = record { has = λ x h e. rs.has x.id (are.trims.has x h e) };
 }
@@ -251,7 +212,8 @@ covered_stays t cs b moved d c l m j p u r usable are ds crs ls ms js ps us rs =
 pub covered_on : (t : Tables) (cs : List Change) (b : ServiceSpans) (moved d c l m j p u r : Span) → IsUsable t
     → AreCovered t b → HasShifted standing moved t (apply_changes t cs) → Joins d b.downs moved
     → Joins c b.creates moved → JoinsForNodes cs l b.leaves moved → JoinsForNodes cs m b.comes moved
-    → Joins j b.job_creates moved → JoinsForPorts cs p b.ports → IsWider u b.updates
+    → Joins j b.job_creates moved → IsWider p b.ports
+    → (IsUsable (apply_changes t cs) → HasForPorts p t (apply_changes t cs)) → IsWider u b.updates
     → HasShifted (progress t) u t (apply_changes t cs) → IsWider r b.trims → HasRemains r t (apply_changes t cs)
     → IsUsable (apply_changes t cs)
     → AreCovered (apply_changes t cs) (record {
@@ -264,7 +226,7 @@ pub covered_on : (t : Tables) (cs : List Change) (b : ServiceSpans) (moved d c l
       updates = u;
       trims = r;
     })
-covered_on t cs b moved d c l m j p u r usable are has ds crs ls ms js ps us progressed rs remain after = record {
+covered_on t cs b moved d c l m j p u r usable are has ds crs ls ms js ps numbered us progressed rs remain after = record {
   downs = moved-on downs t (apply_changes t cs) d b.downs moved down_goes_on usable after has ds are.downs;
   creates = moved-on creates t (apply_changes t cs) c b.creates moved create_goes_on usable after has crs are.creates;
   leaves = placed-on leaves t cs l b.leaves moved leave_goes_on usable after has ls are.leaves;
@@ -272,7 +234,8 @@ covered_on t cs b moved d c l m j p u r usable are has ds crs ls ms js ps us pro
   job_creates =
       moved-on job_creates t (apply_changes t cs) j b.job_creates moved next_goes_on usable after has js
       are.job_creates;
-  ports = ports-on t cs p b.ports after ps are.ports;
+  ports =
+      port_goes_on t (apply_changes t cs) p (numbered after) (wider-covers port_duties t b.ports p ps are.ports);
   updates =
       update_goes_on t (apply_changes t cs) u (rising t (apply_changes t cs) usable after) (same-clock t cs) progressed
       (wider-covers updates t b.updates u us are.updates);

@@ -1,6 +1,5 @@
 -- Spans that get what changes touch.
-use Rattle.std.proofs.Common.{List, None, Option, Some, [], ap, inl, inr, length, refl, subst, sym, true, ℕ, arith, ◌<◌, ◌∙◌, ◌∷◌, ◌≡◌, ◌⊎◌}
-use Rattle.std.proofs.lemmas.Bool.Decides.{nat_tests}
+use Rattle.std.proofs.Common.{List, None, Option, Some, [], ap, inl, inr, length, refl, subst, sym, true, ℕ, arith, ◌∙◌, ◌∷◌, ◌≡◌, ◌⊎◌}
 use Rattle.std.specs.Option.{option_map}
 use Rattle.swarm_objects.specs.ChangeLists.{apply_changes}
 use Rattle.swarm_objects.specs.Rows.{Has, row_at, service_id, task_id}
@@ -11,6 +10,7 @@ use Rattle.swarm_objects.specs.declared.rows.Change.TheVariants as change
 use Rattle.swarm_objects.specs.declared.services.Service.{Service}
 use Rattle.swarm_objects.specs.declared.tasks.Attempt.{Attempt}
 use Rattle.swarm_objects.specs.declared.tasks.Task.{Task}
+use Rattle.swarm_spans.proofs.Grown.{in-with, own-with}
 use Rattle.swarm_spans.proofs.Services.Outcomes.{ServiceTurns, TaskTurns, service-turns, task-turns}
 use Rattle.swarm_spans.specs.Services.Steps.{HasNumber, HasServiceOf, HasShifted}
 use Rattle.swarm_spans.specs.Services.Touches.{HasPut, HasTouched, Touching}
@@ -18,12 +18,6 @@ use Rattle.swarm_spans.specs.Spans.{IsWider, is_in, with_id}
 use Rattle.swarm_spans.specs.declared.span.Span.{Span}
 
 -- Spans that grow.
-
-in-with : (span : Span) (id k : ℕ) → is_in span k ≡ true → is_in (with_id span id) k ≡ true
-in-with span id k h = grind (arith, nat_tests, h)
-
-own-with : (span : Span) (id : ℕ) → 0 < id → is_in (with_id span id) id ≡ true
-own-with span id h = grind (arith, nat_tests, h)
 
 pub wider_not : (span : Span) → IsWider span span
 wider_not span = record { has = λ k h. h }

@@ -3,7 +3,6 @@ use Rattle.std.proofs.Common.{List, None, Option, Some, [], ap, false, inl, inr,
 use Rattle.std.proofs.lemmas.Bool.Decides.{nat_tests}
 use Rattle.std.specs.Option.{option_map}
 use Rattle.std.specs.Prelude.{filter, ◌==◌}
-use Rattle.swarm_objects.proofs.PlaceLemmas.{and_left}
 use Rattle.swarm_objects.proofs.RowLemmas.{Has-filter, Has-from_row_at, number_above}
 use Rattle.swarm_objects.proofs.SameLemmas.{Decides-same_place}
 use Rattle.swarm_objects.proofs.Tests.{both, both_are, never-both}

@@ -1,6 +1,7 @@
 -- What a step from tables to tables leaves as it was, or else what a span of services has.
 use Rattle.std.specs.Option.{option_map}
-use Rattle.std.specs.Prelude.{ℕ, Option, Some, true, ◌<◌, ◌≡◌, ◌⊎◌}
+use Rattle.std.specs.Prelude.{ℕ, Bool, Option, Some, true, ◌<◌, ◌≡◌, ◌⊎◌}
+use Rattle.swarm_objects.specs.Loops.Allocator.{has_free_port}
 use Rattle.swarm_objects.specs.Loops.Reaper.{is_past}
 use Rattle.swarm_objects.specs.Rows.{Has, row_at, service_id, task_id}
 use Rattle.swarm_objects.specs.Tasks.Words.{is_beside}
@@ -41,9 +42,13 @@ HasEach span u = (s : Service) → Has u.services s → is_in span s.id ≡ true
 pub record HasForNodes (span : Span) (t u : Tables) : Type 0 where
   pub nodes : (u.nodes ≡ t.nodes) ⊎ HasEach span u
 
--- the services are as before, or the span has all of them
+-- each protocol with a free port number had one before
+abbrev pub HadFreePort : Tables → Tables → Type 0
+HadFreePort t u = (udp : Bool) → has_free_port u udp ≡ true → has_free_port t udp ≡ true
+
+-- the span has each service, but for those that are as before while no protocol gets its first free number
 pub record HasForPorts (span : Span) (t u : Tables) : Type 0 where
-  pub services : (u.services ≡ t.services) ⊎ HasEach span u
+  pub services : (s : Service) → Has u.services s → (is_in span s.id ≡ true) ⊎ (Has t.services s × HadFreePort t u)
 
 -- each past task that stood beside one that may be there
 pub record HasBesideOf (span : Span) (t : Tables) (row : Option Task) : Type 0 where

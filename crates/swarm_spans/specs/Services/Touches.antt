@@ -5,18 +5,19 @@ use Rattle.std.specs.Prelude.{Bool, List, Some, false, true, ℕ, ◌≡◌, ◌
 use Rattle.swarm_objects.specs.Loops.Allocator.{port_duties}
 use Rattle.swarm_objects.specs.Loops.Reaper.{is_past}
 use Rattle.swarm_objects.specs.Rows.{Has, row_at, service_id, task_id}
-use Rattle.swarm_objects.specs.Tasks.Words.{is_beside}
 use Rattle.swarm_objects.specs.Usable.{IsUsable}
 use Rattle.swarm_objects.specs.World.{Tables}
 use Rattle.swarm_objects.specs.declared.rows.Change.{Change}
 use Rattle.swarm_objects.specs.declared.rows.Change.TheVariants as change
+use Rattle.swarm_objects.specs.declared.nodes.Node.{Node}
 use Rattle.swarm_objects.specs.declared.services.Service.{Service}
 use Rattle.swarm_objects.specs.declared.tasks.Task.{Task}
 use Rattle.swarm_spans.specs.Services.Lines.{comes, creates, downs, job_creates, leaves, trims, updates}
+use Rattle.swarm_spans.specs.Services.Numbers.{frees_number}
 use Rattle.swarm_spans.specs.Services.Standings.{bounds, remains}
 use Rattle.swarm_spans.specs.Services.Steps.{HasBesideOf, HasItself, HasNumber, HasServiceOf, HasTasksOf}
 use Rattle.swarm_spans.specs.Spans.{CoversServices, CoversTasks, IsWider, full}
-use Rattle.swarm_spans.specs.TasksCovered.{HasNewServices, at_time, with_services}
+use Rattle.swarm_spans.specs.TasksCovered.{HasNewServices, at_time, with_nodes, with_services}
 use Rattle.swarm_spans.specs.declared.service_spans.ServiceSpans.{ServiceSpans}
 use Rattle.swarm_spans.specs.declared.span.Span.{Span}
 
@@ -55,6 +56,14 @@ pub record HasTrimmed (t : Tables) (c : Change) (span : Span) : Type 0 where
   pub put : (x : Task) → c ≡ change.PutTask x → HasPlaces t x span
   pub dropped : (id : ℕ) → c ≡ change.DropTask id → HasBesideOf span t (row_at task_id id t.tasks)
 
+-- a service that is put: the span has it, or every row where a port number gets free
+pub record HasNumbered (t : Tables) (s : Service) (span : Span) : Type 0 where
+  pub has : ((frees_number t s ≡ true) × IsWider span full) ⊎ ((frees_number t s ≡ false) × HasNumber span s.id)
+
+-- of the line over ports
+pub record HasPorts (t : Tables) (c : Change) (span : Span) : Type 0 where
+  pub service : (s : Service) → c ≡ change.PutService s → HasNumbered t s span
+
 -- Items one after the other: each has its part in the span, or is left.
 pub record Touching {X : Type 0} (part : X → Span → Type 0) (all left : List X) (first span : Span) : Type 0 where
   pub wider : IsWider span first
@@ -71,10 +80,6 @@ abbrev pub puts_node : Change → Bool
 puts_node (change.PutNode n) = true
 puts_node _ = false
 
-abbrev pub puts_service : Change → Bool
-puts_service (change.PutService s) = true
-puts_service _ = false
-
 -- the one span has what the other two have
 pub record Joins (wide a b : Span) : Type 0 where
   pub span : IsWider wide a
@@ -84,11 +89,6 @@ pub record Joins (wide a b : Span) : Type 0 where
 pub record JoinsForNodes (cs : List Change) (joined span more : Span) : Type 0 where
   pub either : ((list_any puts_node cs ≡ true) × (joined ≡ full))
       ⊎ ((list_any puts_node cs ≡ false) × Joins joined span more)
-
--- the same span, or every number where a service is put
-pub record JoinsForPorts (cs : List Change) (joined span : Span) : Type 0 where
-  pub either : ((list_any puts_service cs ≡ true) × (joined ≡ full))
-      ⊎ ((list_any puts_service cs ≡ false) × (joined ≡ span))
 
 -- each line is covered
 pub record AreCovered (t : Tables) (spans : ServiceSpans) : Type 0 where
@@ -111,3 +111,9 @@ abbrev pub NewServicesLaw : ℕ → ServiceSpans → ServiceSpans → Type 0
 NewServicesLaw first spans wide =
     (t : Tables) (next_id : ℕ) (services : List Service) → IsUsable t → IsUsable (with_services next_id services t)
     → HasNewServices first next_id t services → AreCovered t spans → AreCovered (with_services next_id services t) wide
+
+-- the ones cover what the others do, whatever becomes of the nodes
+abbrev pub ServiceNodesLaw : ServiceSpans → ServiceSpans → Type 0
+ServiceNodesLaw spans wide =
+    (t : Tables) (next_id : ℕ) (nodes : List Node) → IsUsable t → AreCovered t spans
+    → AreCovered (with_nodes next_id nodes t) wide

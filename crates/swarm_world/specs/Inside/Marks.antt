@@ -34,3 +34,7 @@ IsAfterCall h c p = StandsFor p (step (replay h) (what.Call c)).after ⊎ Stands
 abbrev pub makes_service : Op → Bool
 makes_service (op.CreateService name d) = true
 makes_service _ = false
+
+abbrev pub makes_node : Op → Bool
+makes_node (op.CreateNode name draft) = true
+makes_node _ = false

@@ -11,7 +11,7 @@ use Rattle.swarm_objects.specs.declared.duties.Duty.TheVariants as duty
 use Rattle.swarm_objects.specs.declared.duties.Duty.{Duty}
 use Rattle.swarm_objects.specs.declared.loops.Role.TheVariants as role
 use Rattle.swarm_objects.specs.declared.rows.Change.{Change}
-use Rattle.swarm_spans.specs.Spans.{IsWider, with_id}
+use Rattle.swarm_spans.specs.Spans.{IsWider, onwards, with_id}
 use Rattle.swarm_spans.specs.declared.span.Span.{Span}
 use Rattle.swarm_world.specs.Inside.Looks.{AreSpanned, looked_at}
 use Rattle.swarm_world.specs.Inside.Parts.{IsAt, StandsFor}
@@ -27,6 +27,12 @@ CoversAgents p spans = AreSpanned (looked_at (tables_of p.records) p.sent) spans
 pub record AreWider (wide spans : AgentSpans) : Type 0 where
   pub duties : IsWider wide.duties spans.duties
   pub tells : IsWider wide.tells spans.tells
+
+-- and each node from this one on
+pub record AreWiderFrom (first : ℕ) (wide spans : AgentSpans) : Type 0 where
+  pub former : AreWider wide spans
+  pub duties : IsWider wide.duties (onwards first)
+  pub tells : IsWider wide.tells (onwards first)
 
 -- a node that registers is sent all that is due; no other duty of the agents' loop makes a message due
 abbrev pub told_by : Duty → Span → Span

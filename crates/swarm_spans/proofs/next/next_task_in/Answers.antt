@@ -1,5 +1,16 @@
-use Rattle.swarm_spans.proofs.Nexts.{no_task}
+use Rattle.swarm_spans.proofs.Nexts.{task_found, no_task, no_task_more}
 use Rattle.swarm_spans.proofs.next.next_task_in.Goals as goal
 
-pub returns-in-None : goal.returns-in-None
-returns-in-None g c = no_task (g.R.Rows.tables c.args.rows.now) c.args.span c.in-None.ensures
+pub returns-in_default : goal.returns-in_default
+returns-in_default g c =
+    no_task (g.R.Rows.tables c.args.rows.now) c.args.span c.loop-after.after c.skip.result c.loop-after.invariant
+    c.skip.ensures.none c.in_default.ensures
+
+pub returns-then-has : goal.returns-then-has
+returns-then-has g c =
+    task_found (g.R.Rows.tables c.args.rows.now) c.args.span c.loop-after.after c.skip.result c.in-Some.task.now c.requires
+    c.loop-after.invariant c.skip.ensures.none c.in-Some.ensures c.if-has.ensures
+
+pub returns : goal.returns
+returns g c =
+    no_task_more (g.R.Rows.tables c.args.rows.now) c.args.span c.loop-after.after c.loop-after.invariant c.loop-after-test.false

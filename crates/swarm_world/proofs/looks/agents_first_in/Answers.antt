@@ -50,4 +50,4 @@ pub loop-node-preserved : goal.loop-node-preserved
 loop-node-preserved c =
     left_skips c.times_that_no_step_looks_at.ensures (looked_at (tables_of c.args.records.now) c.args.sent.now)
     c.args.agents.now c.loop-node.node-iterator c.next.new.self c.in-Some.node.now c.in-Some.agent.now
-    c.loop-node.spans c.in-Some.ensures.steps (sym c.is_in.ensures ∙ c.if-is_in.false) c.loop-node.invariant
+    c.loop-node.spans c.in-Some.ensures.steps (sym c.has.ensures ∙ c.if-has.false) c.loop-node.invariant

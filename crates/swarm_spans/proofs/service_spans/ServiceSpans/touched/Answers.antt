@@ -5,15 +5,16 @@ pub returns-clause-stays : goal.returns-clause-stays
 returns-clause-stays g c =
     covered_stays (g.R.Rows.tables c.args.rows.now) c.args.changes.now c.args.self c.add_shifted.new.span
     c.joined.result c.joined-2.result c.joined_for_nodes.result c.joined_for_nodes-2.result c.joined-3.result
-    c.joined_for_ports.result c.add_shifted-2.new.span c.add_remains.new.span c.requires.usable c.requires.covers
+    c.add_numbered.new.span c.add_shifted-2.new.span c.add_remains.new.span c.requires.usable c.requires.covers
     c.joined.ensures c.joined-2.ensures c.joined_for_nodes.ensures c.joined_for_nodes-2.ensures c.joined-3.ensures
-    c.joined_for_ports.ensures c.add_shifted-2.ensures.wider c.add_remains.ensures.wider
+    c.add_numbered.ensures.wider c.add_shifted-2.ensures.wider c.add_remains.ensures.wider
 
 pub returns-clause-goes_on : goal.returns-clause-goes_on
 returns-clause-goes_on g c =
     covered_on (g.R.Rows.tables c.args.rows.now) c.args.changes.now c.args.self c.add_shifted.new.span
     c.joined.result c.joined-2.result c.joined_for_nodes.result c.joined_for_nodes-2.result c.joined-3.result
-    c.joined_for_ports.result c.add_shifted-2.new.span c.add_remains.new.span c.requires.usable c.requires.covers
+    c.add_numbered.new.span c.add_shifted-2.new.span c.add_remains.new.span c.requires.usable c.requires.covers
     c.add_shifted.ensures.has c.joined.ensures c.joined-2.ensures c.joined_for_nodes.ensures
-    c.joined_for_nodes-2.ensures c.joined-3.ensures c.joined_for_ports.ensures c.add_shifted-2.ensures.wider
+    c.joined_for_nodes-2.ensures c.joined-3.ensures c.add_numbered.ensures.wider c.add_numbered.ensures.has
+    c.add_shifted-2.ensures.wider
     c.add_shifted-2.ensures.has c.add_remains.ensures.wider c.add_remains.ensures.has

@@ -30,10 +30,10 @@ returns-clause-stays g c = record {
       tasks_wider deletes (g.R.Rows.tables c.args.rows.now) c.args.self.deletes c.touched_alone.result c.touched_alone.ensures.wider
       c.requires.covers.deletes;
   addresses =
-      tasks_wider addresses (g.R.Rows.tables c.args.rows.now) c.args.self.addresses c.touched_waiting.result c.touched_waiting.ensures.wider
+      tasks_wider addresses (g.R.Rows.tables c.args.rows.now) c.args.self.addresses c.touched_addresses.result c.touched_addresses.ensures.wider
       c.requires.covers.addresses;
   notes =
-      tasks_wider notes (g.R.Rows.tables c.args.rows.now) c.args.self.notes c.touched_waiting-2.result c.touched_waiting-2.ensures.wider
+      tasks_wider notes (g.R.Rows.tables c.args.rows.now) c.args.self.notes c.touched_notes.result c.touched_notes.ensures.wider
       c.requires.covers.notes;
   schedules =
       tasks_wider schedule (g.R.Rows.tables c.args.rows.now) c.args.self.schedules c.touched_schedules.result c.touched_schedules.ensures.wider
@@ -77,13 +77,13 @@ returns-clause-goes_on g c after = record {
       deletes_on (g.R.Rows.tables c.args.rows.now) c.args.changes.now c.args.self.deletes c.touched_alone.result c.requires.usable after
       c.requires.covers.deletes c.touched_alone.ensures.wider c.touched_alone.ensures.touches;
   addresses =
-      addresses_on c.args.self.to_allocate (g.R.Rows.tables c.args.rows.now) c.args.changes.now c.args.self.addresses c.touched_waiting.result
-      c.requires.usable after c.requires.covers.to_allocate c.touched_waiting.ensures.all c.requires.covers.addresses
-      c.touched_waiting.ensures.wider c.touched_waiting.ensures.touches;
+      addresses_on c.args.self.to_allocate (g.R.Rows.tables c.args.rows.now) c.args.changes.now c.args.self.addresses c.touched_addresses.result
+      c.requires.usable after c.requires.covers.to_allocate c.touched_addresses.ensures.freed c.requires.covers.addresses
+      c.touched_addresses.ensures.wider c.touched_addresses.ensures.touches;
   notes =
-      notes_on c.args.self.to_allocate (g.R.Rows.tables c.args.rows.now) c.args.changes.now c.args.self.notes c.touched_waiting-2.result
-      c.requires.usable after c.requires.covers.to_allocate c.touched_waiting-2.ensures.all c.requires.covers.notes
-      c.touched_waiting-2.ensures.wider c.touched_waiting-2.ensures.touches;
+      notes_on c.args.self.to_allocate (g.R.Rows.tables c.args.rows.now) c.args.changes.now c.args.self.notes c.touched_notes.result
+      c.requires.usable after c.requires.covers.to_allocate c.touched_notes.ensures.held c.requires.covers.notes
+      c.touched_notes.ensures.wider c.touched_notes.ensures.touches;
   schedules =
       schedules_on c.args.self.to_schedule (g.R.Rows.tables c.args.rows.now) c.args.changes.now c.args.self.schedules c.touched_schedules.result
       c.requires.usable after c.requires.covers.to_schedule c.touched_schedules.ensures.moved c.requires.covers.schedules

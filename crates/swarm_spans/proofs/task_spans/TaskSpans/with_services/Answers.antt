@@ -4,6 +4,5 @@ use Rattle.swarm_spans.proofs.task_spans.TaskSpans.with_services.Goals as goal
 pub returns : goal.returns
 returns c = record {
   goes_on =
-      services_come c.args.self c.join.new.self c.join-2.new.self c.join.ensures.wider c.join.ensures.all
-      c.join-2.ensures.wider c.join-2.ensures.all;
+      services_come c.args.self c.join.new.self c.join.ensures.wider c.join.ensures.all;
 }

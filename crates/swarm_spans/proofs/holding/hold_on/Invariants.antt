@@ -1,0 +1,9 @@
+use Rattle.std.specs.Prelude.{length}
+use Rattle.swarm_spans.specs.Holding.{HoldsOn, HavePassed}
+use Rattle.swarm_spans.proofs.holding.hold_on.Given as goal
+
+abbrev pub invariant-loop-change : goal.invariant-loop-change
+invariant-loop-change g l = HavePassed (HoldsOn (g.R.Rows.tables l.rows)) l.changes l.left
+
+abbrev pub decreases-loop-change : goal.decreases-loop-change
+decreases-loop-change g l = length l.left
