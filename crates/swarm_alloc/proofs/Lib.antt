@@ -1,3 +1,5 @@
 mod Applying
+mod Counted
+mod HeldRuns
 mod Pooled
 mod Steps

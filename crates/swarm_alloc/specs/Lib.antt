@@ -1,1 +1,3 @@
 pub mod Allocating
+pub mod Counted
+pub mod Runs

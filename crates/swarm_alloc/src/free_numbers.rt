@@ -1,33 +1,30 @@
-// The least numbers that are free, found without memory: ports of a protocol, and addresses of a network.
+// The least numbers that are free, found without memory: ports of a protocol, and addresses of a network. They are looked
+// for by words of numbers.
 ghost use Rattle.std.specs.Prelude.{◌≡◌, ◌+◌, ◌-◌, ◌^◌};
 ghost use Rattle.std.specs.List.{list_any};
 ghost use Rattle.swarm_objects.specs.Loops.Allocator.{has_free_address, has_free_port};
-ghost use Rattle.swarm_objects.specs.Services.Ports.{free_port, holds_port};
+ghost use Rattle.swarm_objects.specs.Services.Ports.{free_port};
 ghost use Rattle.swarm_objects.specs.Tasks.Addresses.{addresses_held, free_address, free_in};
 ghost use Rattle.swarm_objects.specs.Usable.{IsUsable};
 ghost use Rattle.swarm_objects.specs.Tasks.Holders.{holds_address, is_address};
 
+use crate::plenty::has_plenty;
 use crate::ports::{FIRST_PORT, LAST_PORT};
-use swarm_objects::ports::holds_port;
-use swarm_objects::walks::{services, tasks};
+use crate::runs::{WORD, addresses_held_from, ports_held_from};
 use swarm_objects::{Address, Id, Network, Rows, Task};
-
-// A service holds the number of this protocol.
-fn is_port_held<R: Rows>(rows: &R, udp: bool, number: u16) -> bool
-    requires { IsUsable (R.tables rows.now) }
-    ensures { result ≡ list_any (holds_port udp number) (R.tables rows.now).services }
-{
-    services(rows).any(|service| holds_port(udp, number, service))
-}
 
 // The least number of the protocol that no service holds.
 fn free_port<R: Rows>(rows: &R, udp: bool) -> Option<u16>
     requires { IsUsable (R.tables rows.now) }
     ensures { result ≡ free_port (R.tables rows.now) udp }
 {
-    for number in FIRST_PORT..=LAST_PORT {
-        if !is_port_held(rows, udp, number) {
-            return Some(number);
+    let last = u64::from(LAST_PORT);
+    let mut number = u64::from(FIRST_PORT);
+    while number <= last {
+        let held = ports_held_from(rows, udp, number, last);
+        number += held;
+        if held < WORD && number <= last {
+            return Some(number as u16);
         }
     }
     None
@@ -38,7 +35,7 @@ pub fn has_free_port<R: Rows>(rows: &R, udp: bool) -> bool
     requires { IsUsable (R.tables rows.now) }
     ensures { result ≡ has_free_port (R.tables rows.now) udp }
 {
-    free_port(rows, udp).is_some()
+    has_plenty(rows, udp) || free_port(rows, udp).is_some()
 }
 
 fn is_address(network: Id, number: u64, address: Address) -> bool
@@ -62,13 +59,6 @@ pub fn holds_address(network: Id, number: u64, task: &Task) -> bool
     task.is_not_over() && has_address(network, number, task.addresses.as_slice())
 }
 
-fn is_address_held<R: Rows>(rows: &R, network: Id, number: u64) -> bool
-    requires { IsUsable (R.tables rows.now) }
-    ensures { result ≡ list_any (holds_address network number) (R.tables rows.now).tasks }
-{
-    tasks(rows).any(|task| holds_address(network, number, task))
-}
-
 // The last address that a task may have; the one behind it is the network's last.
 fn last_address(base: u32, length: u8) -> u64
     ensures { result ≡ base + 2 ^ (32 - length) - 2 }
@@ -82,9 +72,12 @@ fn free_in<R: Rows>(rows: &R, id: Id, network: &Network) -> Option<u64>
     requires { IsUsable (R.tables rows.now) }
     ensures { result ≡ free_in (addresses_held (R.tables rows.now) id) network.now }
 {
-    let first = u64::from(network.base) + 2;
-    for number in first..=last_address(network.base, network.length) {
-        if !is_address_held(rows, id, number) {
+    let last = last_address(network.base, network.length);
+    let mut number = u64::from(network.base) + 2;
+    while number <= last {
+        let held = addresses_held_from(rows, id, number, last);
+        number += held;
+        if held < WORD && number <= last {
             return Some(number);
         }
     }

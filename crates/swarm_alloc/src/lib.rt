@@ -5,8 +5,10 @@ mod changing;
 mod finding;
 mod free_numbers;
 mod held;
+mod plenty;
 mod pooling;
 mod ports;
+mod runs;
 
 pub use changing::changes;
 pub use finding::{gets_address, has_numbered_ports, least, port_of, same_note, wants_note};

@@ -8,3 +8,4 @@ mod words;
 
 pub use pool::Pool;
 pub use subnet::usable;
+pub use words::{low_ones, with_bit};

@@ -2,7 +2,7 @@
 ghost use Rattle.std.specs.Prelude.{◌≡◌, ◌==◌, ◌||◌, ◌&&◌, ◌<◌, ◌≤◌, ℕ, not, false, true};
 ghost use Rattle.swarm_pools.specs.Places.{has_bit, low_ones};
 
-// How many bits from the lowest one on are set without a gap.
+/// How many bits from the lowest one on are set without a gap.
 pub fn low_ones(word: u64) -> u64
     ensures value { result ≡ low_ones word }
     ensures most { result ≤ 64 }
@@ -12,7 +12,7 @@ pub fn low_ones(word: u64) -> u64
     u64::from(word.trailing_ones())
 }
 
-// The word with this bit set.
+/// The word with this bit set.
 pub fn with_bit(word: u64, place: u64) -> u64
     requires { place < 64 }
     ensures { (other : ℕ) → has_bit result other ≡ (other == place || has_bit word other) }

@@ -1,28 +1,23 @@
-use Rattle.std.proofs.Common.{◌+◌, arith}
-use Rattle.swarm_objects.proofs.FreeNumbers.{address_found, next_address, no_address}
+use Rattle.std.proofs.Common.{arith, false, refl, sym, ◌+◌}
+use Rattle.swarm_alloc.proofs.HeldRuns.{addresses_taken}
+use Rattle.swarm_objects.proofs.FreeNumbers.{address_found, no_address}
 use Rattle.swarm_alloc.proofs.free_numbers.free_in.Goals as goal
 
-pub returns-then-not-is_address_held : goal.returns-then-not-is_address_held
-returns-then-not-is_address_held g c =
-    address_found (g.R.Rows.tables c.args.rows.now) c.args.id c.args.network.now c.loop-number.number
-    c.is_address_held.result
-    c.is_address_held.ensures c.if-not-is_address_held.true (omega (arith, c.last_address-number-end.ensures))
-    c.loop-number.invariant
+pub returns-then-number-last : goal.returns-then-number-last
+returns-then-number-last g c =
+    let t = g.R.Rows.tables c.args.rows.now in
+    address_found t c.args.id c.args.network.now (c.loop-number.number + c.addresses_held_from-held.result) false
+    (sym (c.addresses_held_from-held.ensures.free c.if-held-lt-WORD.true c.if-number-last.true)) refl
+    (omega (arith, c.if-number-last.true, c.last_address-last.ensures))
+    (addresses_taken t c.args.id c.args.network.now c.loop-number.number c.addresses_held_from-held.result
+    c.addresses_held_from-held.ensures.held c.loop-number.invariant)
 
 pub loop-number-preserved : goal.loop-number-preserved
 loop-number-preserved g c =
-    next_address (g.R.Rows.tables c.args.rows.now) c.args.id c.args.network.now c.loop-number.number
-    c.is_address_held.result c.is_address_held.ensures c.if-not-is_address_held.false c.loop-number.invariant
-
-pub returns-else-not-is_address_held : goal.returns-else-not-is_address_held
-returns-else-not-is_address_held g c =
-    no_address (g.R.Rows.tables c.args.rows.now) c.args.id c.args.network.now (c.loop-number.number + 1)
-    (omega (arith, c.last_address-number-end.ensures))
-    (next_address (g.R.Rows.tables c.args.rows.now) c.args.id c.args.network.now c.loop-number.number
-    c.is_address_held.result
-    c.is_address_held.ensures c.if-not-is_address_held.false c.loop-number.invariant)
+    addresses_taken (g.R.Rows.tables c.args.rows.now) c.args.id c.args.network.now c.loop-number.number
+    c.addresses_held_from-held.result c.addresses_held_from-held.ensures.held c.loop-number.invariant
 
 pub returns : goal.returns
 returns g c =
     no_address (g.R.Rows.tables c.args.rows.now) c.args.id c.args.network.now c.loop-number.number
-    (omega (arith, c.last_address-number-end.ensures)) c.loop-number.invariant
+    (omega (arith, c.loop-number-test.false, c.last_address-last.ensures)) c.loop-number.invariant
