@@ -1,3 +1,4 @@
+mod Bounding
 mod Choosing
 mod Counting
 mod Steps

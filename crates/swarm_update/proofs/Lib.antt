@@ -1,4 +1,6 @@
+mod Answering
 mod Failures
+mod Marking
 mod Replacements
 mod Running
 mod Steps

@@ -1,1 +1,3 @@
+pub mod Marks
 pub mod Replacing
+pub mod Surveys

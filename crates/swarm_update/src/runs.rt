@@ -1,5 +1,5 @@
 // Update runs: their failures, and what they allow.
-ghost use Rattle.std.specs.Prelude.{◌≡◌, count_by, filter};
+ghost use Rattle.std.specs.Prelude.{◌≡◌};
 ghost use Rattle.std.specs.List.{list_all};
 ghost use Rattle.swarm_objects.specs.Loops.Update.{
   is_to_finish,
@@ -10,19 +10,17 @@ ghost use Rattle.swarm_objects.specs.Loops.Update.{
 ghost use Rattle.swarm_objects.specs.Rows.{is_some_and};
 ghost use Rattle.swarm_objects.specs.Services.Runs.{
   counts_as_failure,
-  failures,
   fails,
   goes_on,
-  is_exceeded,
   is_failure,
   is_of_version,
   is_present,
 };
-ghost use Rattle.swarm_objects.specs.Tasks.Words.{is_of};
 ghost use Rattle.swarm_objects.specs.Usable.{IsUsable};
+ghost use Rattle.swarm_update.specs.Surveys.{Tells};
 
-use role_words::{has_dirty_place, has_room, is_of_version, is_under_way, is_watched};
-use swarm_objects::walks::tasks_of;
+use crate::survey::{Survey, has_dirty_place, has_room, is_exceeded};
+use role_words::{is_of_version, is_under_way, is_watched};
 use swarm_objects::{FailureAction, Rows, Service, Task, TaskState, UpdateRun};
 
 /// It is one under way to the present template.
@@ -53,39 +51,6 @@ pub fn is_failure(service: &Service, run: &UpdateRun, task: &Task) -> bool
         && u128::from(task.since) < watched_till
 }
 
-// How many of the service's tasks have failed the run.
-#[tactic(auto, using(crate::proofs::Steps::failure_steps))]
-fn failures_of<R: Rows>(rows: &R, service: &Service, run: &UpdateRun) -> u64
-    requires { IsUsable (R.tables rows.now) }
-    ensures { let t = R.tables rows.now in
-        result ≡ count_by (is_failure service.now run.now) (filter (is_of service.now.id) t.tasks) }
-{
-    let mut count = 0;
-    for task in tasks_of(rows, service.id) {
-        if is_failure(service, run, task) {
-            count += 1;
-        }
-    }
-    count
-}
-
-// How many tasks have failed the run.
-fn failures<R: Rows>(rows: &R, service: &Service, run: &UpdateRun) -> u64
-    requires { IsUsable (R.tables rows.now) }
-    ensures { result ≡ failures (R.tables rows.now) service.now run.now }
-{
-    failures_of(rows, service, run)
-}
-
-// More tasks have failed than the ratio bears, in thousandths.
-fn is_exceeded<R: Rows>(rows: &R, service: &Service, run: &UpdateRun) -> bool
-    requires { IsUsable (R.tables rows.now) }
-    ensures { result ≡ is_exceeded (R.tables rows.now) service.now run.now }
-{
-    let borne = u128::from(service.spec.update.ratio) * u128::from(run.total);
-    borne < 1000 * u128::from(failures(rows, service, run))
-}
-
 /// The update goes on whatever fails.
 pub fn goes_on(action: FailureAction) -> bool
     ensures { result ≡ goes_on action }
@@ -97,21 +62,22 @@ pub fn goes_on(action: FailureAction) -> bool
 }
 
 /// The update has failed.
-pub fn fails<R: Rows>(rows: &R, service: &Service, run: &UpdateRun) -> bool
-    requires { IsUsable (R.tables rows.now) }
+pub fn fails<R: Rows>(survey: &Survey, rows: &R, service: &Service, run: &UpdateRun) -> bool
+    requires { Tells survey.now (R.tables rows.now) service.now run.now }
     ensures { result ≡ fails (R.tables rows.now) service.now run.now }
 {
     is_present(service, run)
         && !goes_on(service.spec.update.action)
-        && is_exceeded(rows, service, run)
+        && is_exceeded(survey, rows, service, run)
 }
 
 /// One more place may be replaced.
-pub fn lets_replace<R: Rows>(rows: &R, service: &Service, run: &UpdateRun) -> bool
-    requires { IsUsable (R.tables rows.now) }
+pub fn lets_replace<R: Rows>(survey: &Survey, rows: &R, service: &Service, run: &UpdateRun) -> bool
+    requires usable { IsUsable (R.tables rows.now) }
+    requires tells { Tells survey.now (R.tables rows.now) service.now run.now }
     ensures { result ≡ lets_replace (R.tables rows.now) service.now run.now }
 {
-    has_room(rows, service, run) && !fails(rows, service, run)
+    has_room(&survey.places, rows, service, run) && !fails(survey, rows, service, run)
 }
 
 // Each new task of the run was watched for the monitor time.
@@ -125,11 +91,14 @@ fn all_watched<R: Rows>(rows: &R, service: &Service, run: &UpdateRun) -> bool
 }
 
 /// All places are clean, and their new tasks were watched.
-pub fn is_to_finish<R: Rows>(rows: &R, service: &Service, run: &UpdateRun) -> bool
-    requires { IsUsable (R.tables rows.now) }
+pub fn is_to_finish<R: Rows>(survey: &Survey, rows: &R, service: &Service, run: &UpdateRun) -> bool
+    requires usable { IsUsable (R.tables rows.now) }
+    requires tells { Tells survey.now (R.tables rows.now) service.now run.now }
     ensures { result ≡ is_to_finish (R.tables rows.now) service.now run.now }
 {
-    !has_dirty_place(rows, service) && all_watched(rows, service, run) && !fails(rows, service, run)
+    all_watched(rows, service, run)
+        && !has_dirty_place(&survey.places, rows, service)
+        && !fails(survey, rows, service, run)
 }
 
 /// The service has a run to its present template.
@@ -147,5 +116,5 @@ pub fn is_to_start<R: Rows>(rows: &R, service: &Service) -> bool
     requires { IsUsable (R.tables rows.now) }
     ensures { result ≡ is_to_start (R.tables rows.now) service.now }
 {
-    !has_present_run(service) && has_dirty_place(rows, service)
+    !has_present_run(service) && role_words::has_dirty_place(rows, service)
 }

@@ -73,14 +73,15 @@ fn is_newest<R: Rows>(rows: &R, service: &Service, task: &Task) -> bool
     }
 }
 
-// The place has more such tasks than are kept. This one is the oldest of them, and not the place's newest.
+// The place has more such tasks than are kept. This one is the oldest of them, and not the place's newest. Whether it is the
+// oldest is asked first: that walk ends at the first such task.
 fn is_oldest_past<R: Rows>(rows: &R, service: &Service, task: &Task) -> bool
     requires { IsUsable (R.tables rows.now) }
     ensures { let t = R.tables rows.now in
         result ≡ is_oldest_past t.settings.history (tasks_of_place service.now task.now.place t.tasks) task.now }
 {
-    rows.settings().history < past_count(rows, service, task.place)
-        && is_oldest(rows, service, task)
+    is_oldest(rows, service, task)
+        && rows.settings().history < past_count(rows, service, task.place)
         && !is_newest(rows, service, task)
 }
 

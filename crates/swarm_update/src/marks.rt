@@ -1,0 +1,139 @@
+// What a service's tasks say to an update of each of its places: noted in one pass, for all places with small numbers.
+ghost use Rattle.std.specs.Prelude.{◌≡◌, ◌<◌, None, IfSome};
+ghost use Rattle.swarm_update.specs.Marks.{answers, blank, mark_at, mark_with, noted, noted_at, IsFirst, NoneBefore};
+
+use role_words::is_flying;
+use swarm_objects::{Rows, Service, Task};
+
+/// How many places are noted: those with a number below this.
+pub const WIDTH: usize = 1024;
+
+// What the tasks that were noted say of a place: which kinds of live ones it has, and that its newest one closes it
+// and is dirty.
+#[derive(Clone, Copy, Drop)]
+pub struct Mark {
+    has_live: bool,
+    has_dirty: bool,
+    has_clean: bool,
+    has_running: bool,
+    pub has_flying: bool,
+    is_closed: bool,
+}
+
+const UNMARKED: Mark = Mark {
+    has_live: false,
+    has_dirty: false,
+    has_clean: false,
+    has_running: false,
+    has_flying: false,
+    is_closed: false,
+};
+
+/// What is asked of a place.
+#[derive(Clone, Copy)]
+pub enum Question {
+    /// A clean live task of it runs, and a dirty one is live.
+    Swap,
+    /// It is dirty, without a clean live task.
+    Replace,
+    /// It has a dirty live task, or no live one and its newest task closes it and is dirty.
+    Dirty,
+}
+
+impl Mark {
+    // It is as the question asks.
+    fn answers(&self, question: Question) -> bool
+        ensures { result ≡ answers question self.now }
+    {
+        let is_dirty = self.has_dirty || (!self.has_live && self.is_closed);
+        match question {
+            Question::Swap => self.has_running && self.has_dirty,
+            Question::Replace => is_dirty && !self.has_clean,
+            Question::Dirty => is_dirty,
+        }
+    }
+
+    // What is said of the place with this task, which stands in it.
+    fn with<R: Rows>(self, rows: &R, service: &Service, task: &Task) -> Mark
+        ensures { result ≡ mark_with (R.tables rows.now) service.now task.now self }
+    {
+        let is_live = task.is_live();
+        let is_clean = task.is_clean(service);
+        let is_live_clean = is_live && is_clean;
+        Mark {
+            has_live: self.has_live || is_live,
+            has_dirty: self.has_dirty || (is_live && !is_clean),
+            has_clean: self.has_clean || is_live_clean,
+            has_running: self.has_running || (is_live_clean && task.is_running()),
+            has_flying: self.has_flying || (is_live_clean && is_flying(rows, service, task)),
+            is_closed: task.closes() && !is_clean,
+        }
+    }
+}
+
+/// The places of a service, as its update sees them.
+#[derive(Drop)]
+pub struct Places {
+    marks: [Mark; WIDTH],
+    // no place from here on and below the width has a task
+    reach: usize,
+    /// A task stands in a place that isn't noted.
+    pub has_far: bool,
+}
+
+impl Places {
+    /// No task was noted.
+    pub fn blank() -> Places
+        ensures { result ≡ blank }
+    {
+        Places {
+            marks: [UNMARKED; WIDTH],
+            reach: 0,
+            has_far: false,
+        }
+    }
+
+    // Notes the task, whose place has this number.
+    fn note_at<R: Rows>(&mut self, index: usize, rows: &R, service: &Service, task: &Task)
+        requires { index < 1024 }
+        ensures { self.new ≡ noted_at (R.tables rows.now) service.now task.now index self.old }
+    {
+        self.reach = self.reach.max(index + 1);
+        if task.is_in_place(service, service.spec.mode.place_at(index as u64)) {
+            self.marks[index] = self.marks[index].with(rows, service, task);
+        }
+    }
+
+    /// Notes one task more.
+    pub fn note<R: Rows>(&mut self, rows: &R, service: &Service, task: &Task)
+        ensures { self.new ≡ noted (R.tables rows.now) service.now self.old task.now }
+    {
+        let number = task.place.place_number();
+        if number < WIDTH as u64 {
+            self.note_at(number as usize, rows, service, task);
+        } else {
+            self.has_far = true;
+        }
+    }
+
+    /// What is said of the place with this number.
+    pub fn mark_at(&self, index: usize) -> Mark
+        requires { index < 1024 }
+        ensures { result ≡ mark_at self.now index }
+    {
+        self.marks[index]
+    }
+
+    /// The least number of a place that is as the question asks.
+    pub fn first(&self, question: Question) -> Option<u64>
+        ensures some { IfSome result (λ number. IsFirst self.now question number) }
+        ensures none { result ≡ None → NoneBefore self.now.reach self.now question }
+    {
+        for index in 0..self.reach.min(WIDTH) {
+            if self.marks[index].answers(question) {
+                return Some(index as u64);
+            }
+        }
+        None
+    }
+}
