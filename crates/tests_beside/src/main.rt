@@ -1,4 +1,5 @@
-//! Journals of whole runs, made by an independent program and gone over entry by entry.
+//! Journals of whole runs, made by an independent program and gone over entry by entry, on the plain world and beside it
+//! on the store with its watches, and then on the one world.
 //!
 //! Before each entry, the first duty of every control loop over any rows is compared with the head of the plain loop's
 //! list. The entry is then done on the plain world and on the store with its watches: their answers and their rows are
@@ -18,9 +19,11 @@ mod rows;
 mod stored;
 mod stores;
 mod told;
+mod world;
 
 use crate::rows::Row;
 use crate::told::Told;
+use crate::world::report_world;
 use std::alloc::Global;
 use std::process::ExitCode;
 use std::rt::Files;
@@ -36,7 +39,7 @@ fn tell(alloc: Global, told: &mut Told, bytes: &[u8]) -> Result<(), NoMemory> {
     row.end(told)
 }
 
-fn report<R: AllocGlobal + Files>(rt: &R, alloc: Global) -> Result<Vec<u8>, NoMemory> {
+fn report_store<R: AllocGlobal + Files>(rt: &R, alloc: Global) -> Result<Vec<u8>, NoMemory> {
     let mut told = Told::new(alloc);
     match fs::read(rt, "journals") {
         Ok(bytes) => tell(alloc, &mut told, bytes.as_slice())?,
@@ -46,8 +49,15 @@ fn report<R: AllocGlobal + Files>(rt: &R, alloc: Global) -> Result<Vec<u8>, NoMe
     Ok(told.text)
 }
 
+// What is told of the store, and then of the one world.
+fn report_both<R: AllocGlobal + Files>(rt: &R, alloc: Global) -> Result<Vec<u8>, NoMemory> {
+    let mut text = report_store(rt, alloc)?;
+    text.extend_from_slice(report_world(rt, alloc)?.as_slice())?;
+    Ok(text)
+}
+
 fn main(rt: HostRuntime) -> ExitCode {
-    let Ok(text) = report(&rt, rt.alloc()) else {
+    let Ok(text) = report_both(&rt, rt.alloc()) else {
         return ExitCode::from(5);
     };
     match StdSink::new(io::writer(&rt)).put(text.as_slice()) {

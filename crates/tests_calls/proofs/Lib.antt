@@ -1,0 +1,4 @@
+mod Counted
+mod Lone
+mod Sent
+mod Small

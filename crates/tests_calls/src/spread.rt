@@ -1,0 +1,65 @@
+// The spread of tasks over nodes.
+ghost use Rattle.swarm_objects.specs.Usable.{IsUsable};
+
+use crate::small_rows::{task, zones};
+use std::alloc::Global;
+use std::test::Fail;
+use swarm_objects::{Desired, Id, Key, Name, NoMemory, Node, Rows, Task, TaskState, add};
+use swarm_spread::{Admits, SpreadTree};
+
+// Every node will do.
+struct Any;
+
+impl Admits for Any {
+    ghost use Rattle.std.specs.Prelude.{true};
+
+    ghost test = { λ _ _ _. true };
+
+    fn admits(&self, _node: &Node, _task: &Task) -> bool {
+        true
+    }
+}
+
+// The best node by a tree that counted a task on this one, and dropped it again.
+fn best_after<R: Rows>(
+    alloc: Global,
+    rows: &R,
+    task: &Task,
+    node: Id,
+) -> Result<Option<Id>, NoMemory>
+    requires { IsUsable (R.tables rows.now) }
+{
+    let mut tree = SpreadTree::build(alloc, rows, task.service, task.template.spread.as_slice())?;
+    tree.add(node)?;
+    tree.drop_task(node);
+    let found = tree.best(rows, task, &Any);
+    drop(tree);
+    Ok(found)
+}
+
+// The best node for a task that waits for one, of a service that is spread over zones.
+fn best_of_rows<R: Rows>(alloc: Global, rows: &R) -> Result<Option<Id>, NoMemory>
+    requires { IsUsable (R.tables rows.now) }
+{
+    let zone = Key::Label(Name::new(alloc, "zone")?);
+    let mut waiting = task(alloc, None, TaskState::Pending, Desired::Running);
+    let best = match add(&mut waiting.template.spread, zone) {
+        Ok(()) => best_after(alloc, rows, &waiting, 1),
+        Err(NoMemory) => Err(NoMemory),
+    };
+    drop(waiting);
+    best
+}
+
+fn best_of_zones(alloc: Global) -> Result<Option<Id>, NoMemory> {
+    let zones = zones(alloc)?;
+    let best = best_of_rows(alloc, &zones);
+    drop(zones);
+    best
+}
+
+#[test]
+fn first_node_of_the_first_zone(rt: HostRuntime) -> Result<(), Fail> {
+    assert_eq!(rt; best_of_zones(rt.alloc())?, Some(1));
+    Ok(())
+}
