@@ -1,12 +1,16 @@
 -- The agent of a node changes in the map as it does in each world that has these agents.
-use Rattle.std.proofs.Common.{Bool, List, None, Option, Some, [], ap, cond, eqb, false, refl, subst, sym, true, ℕ, ◌∙◌, ◌∷◌, ◌≡◌}
+use Rattle.std.proofs.Common.{Bool, Bor, List, None, Option, Some, [], ap, cond, eqb, false, ltb, refl, subst, sym, true, ℕ, ◌∙◌, ◌∷◌, ◌≡◌}
 use Rattle.std.proofs.lemmas.Map.Steps.{set_value_same}
 use Rattle.std.specs.BTreeMap.{insert_entry, is_at}
+use Rattle.std.specs.BTreeMap.Range.{entries_between}
 use Rattle.std.specs.Map.{lookup, set_value}
+use Rattle.std.specs.Map.Iter.{TakesFirst, deref_pair}
 use Rattle.std.specs.Option.{option_map}
-use Rattle.std.specs.Ordering.{nat_cmp}
-use Rattle.std.specs.Prelude.{Err, Ok, OnErr, OnOk, map}
+use Rattle.std.specs.Ordering.{is_lt, nat_cmp}
+use Rattle.std.specs.Prelude.{Err, Ok, OnErr, OnOk, map, ◌&&◌}
+use Rattle.std.specs.declared.ops.Bound.TheVariants.{Excluded, Unbounded}
 use Rattle.std.specs.declared.result.Result.{Result}
+use Rattle.swarm_agent.proofs.Entries.{past}
 use Rattle.swarm_agent.proofs.Seen.{times}
 use Rattle.swarm_agent.specs.Agent.{AgentState, Applies, at_node, changed, executor_state, has_stale}
 use Rattle.swarm_agent.specs.Agents.{AppliesOn, Changes, agent_applied, agent_row, executor_on, has_stale_on}
@@ -21,7 +25,7 @@ use Rattle.swarm_objects.proofs.RowLemmas.{row_at-map}
 use Rattle.swarm_objects.specs.Agents.Messages.{change_executor}
 use Rattle.swarm_objects.specs.Loops.Agents.{begun, received, stepped, take_in, told}
 use Rattle.swarm_objects.specs.MapEntries.{entry_key}
-use Rattle.swarm_objects.specs.Rows.{IsRising, agent_node, change_row, drop_row, executor_task, is_some_and, on_row, row_at}
+use Rattle.swarm_objects.specs.Rows.{IsRising, agent_node, change_row, drop_row, executor_task, first_of, is_some_and, on_row, row_above, row_at}
 use Rattle.swarm_objects.specs.declared.agents.AgentMode.{AgentMode}
 use Rattle.swarm_objects.specs.declared.agents.Executor.{Executor}
 use Rattle.swarm_objects.specs.declared.agents.NodeAgent.{NodeAgent}
@@ -32,6 +36,31 @@ pub found-row : (node : ℕ) (es : List (ℕ × AgentState)) →
     option_map (λ (a : AgentState). agent_row (node, a)) (lookup (is_at (nat_cmp node)) es)
     ≡ row_at agent_node node (map agent_row es)
 found-row node es = lookup-entry agent_node agent_row (λ e. refl) node es
+
+-- the first above a node is the first of the entries that lie above it
+first-above : (k : ℕ) (es : List (ℕ × AgentState)) →
+    option_map agent_row (first_of (entries_between nat_cmp (Excluded k) Unbounded es))
+    ≡ row_above agent_node k (map agent_row es)
+first-above k [] = refl
+first-above k (e ∷ es) = go (ltb k e.0) (past k e.0) (first-above k es)
+  where
+    later : List (ℕ × AgentState)
+    later = entries_between nat_cmp (Excluded k) Unbounded es
+
+    go : (b : Bool) → (is_lt (nat_cmp k e.0) && true) ≡ b →
+        option_map agent_row (first_of later) ≡ row_above agent_node k (map agent_row es) →
+        option_map agent_row (first_of (cond (is_lt (nat_cmp k e.0) && true) (e ∷ later) later))
+        ≡ cond b (Some (agent_row e)) (row_above agent_node k (map agent_row es))
+    go true p rest = ap (λ (b : Bool). option_map agent_row (first_of (cond b (e ∷ later) later))) p
+    go false p rest = ap (λ (b : Bool). option_map agent_row (first_of (cond b (e ∷ later) later))) p ∙ rest
+
+pub next-above : (k : ℕ) (es from left : List (ℕ × AgentState)) (o : Option (Bor ℕ × Bor AgentState)) →
+    from ≡ entries_between nat_cmp (Excluded k) Unbounded es → TakesFirst deref_pair from o left →
+    option_map (λ p. seen_agent (at_node p.0.now p.1.now)) o ≡ row_above agent_node k (map agent_row es)
+next-above k es from left None is taken =
+    ap (λ (zs : List (ℕ × AgentState)). option_map agent_row (first_of zs)) (sym taken.0 ∙ is) ∙ first-above k es
+next-above k es from left (Some p) is taken =
+    ap (λ (zs : List (ℕ × AgentState)). option_map agent_row (first_of zs)) (sym taken ∙ is) ∙ first-above k es
 
 none-row : (node : ℕ) (es : List (ℕ × AgentState)) → None ≡ lookup (is_at (nat_cmp node)) es →
     row_at agent_node node (map agent_row es) ≡ None

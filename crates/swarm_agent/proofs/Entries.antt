@@ -242,7 +242,7 @@ named-task named e = go (contains nat_cmp named e.task)
 
 -- Those after a task.
 
-past : (k j : ℕ) → (is_lt (nat_cmp k j) && true) ≡ ltb k j
+pub past : (k j : ℕ) → (is_lt (nat_cmp k j) && true) ≡ ltb k j
 past k j = go (ltb k j) refl (eqb k j)
   where
     go : (a : Bool) → ltb k j ≡ a → (b : Bool) → (is_lt (cond a Less (cond b Equal Greater)) && true) ≡ a

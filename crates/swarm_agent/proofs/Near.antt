@@ -2,7 +2,7 @@
 use Rattle.std.proofs.Common.{Bool, List, None, Option, Some, [], ap, arith, cond, eqb, false, ltb, not, refl, sym, true, ℕ, ◌<◌, ◌∙◌, ◌∷◌, ◌≡◌}
 use Rattle.std.proofs.lemmas.Bool.Decides.{nat_tests}
 use Rattle.std.specs.List.{list_all, list_any}
-use Rattle.std.specs.Prelude.{filter, fold, map, nat_le, ⊤, ◌&&◌}
+use Rattle.std.specs.Prelude.{fold, map, nat_le, ⊤, ◌&&◌}
 use Rattle.swarm_agent.specs.Inside.Near.{AreNear, brings_near}
 use Rattle.swarm_objects.specs.Bounds.{has_near_times}
 use Rattle.swarm_objects.specs.Agents.NodeAgents.{lost}

@@ -1,5 +1,5 @@
 -- What an agent has, and what its calls find and change.
-use Rattle.std.specs.Prelude.{Bool, Err, List, None, Ok, Option, Some, false, find, flat_map, not, option_to_list, true, ℕ, ◌&&◌, ◌==◌, ◌≡◌}
+use Rattle.std.specs.Prelude.{Bool, Err, List, None, Ok, Option, Some, false, find, flat_map, not, option_to_list, true, ℕ, ◌&&◌, ◌≡◌}
 use Rattle.std.specs.Option.{option_map}
 use Rattle.std.specs.Ordering.{nat_cmp, ordering_then}
 use Rattle.std.specs.declared.cmp.Ordering.{Ordering}

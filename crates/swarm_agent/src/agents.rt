@@ -9,7 +9,7 @@ ghost use Rattle.swarm_objects.specs.Agents.NodeAgents.{failed_agent, in_mode, m
 ghost use Rattle.swarm_objects.specs.Agents.Messages.{change_executor};
 ghost use Rattle.swarm_objects.specs.Bounds.{far_end, is_near_change};
 ghost use Rattle.swarm_objects.specs.Loops.Agents.{begun, received, stepped, told};
-ghost use Rattle.swarm_objects.specs.Rows.{agent_node, drop_row, executor_task, row_at, with_row};
+ghost use Rattle.swarm_objects.specs.Rows.{agent_node, drop_row, executor_task, row_above, row_at, with_row};
 ghost use Rattle.swarm_objects.specs.declared.agents.NodeAgent.{NodeAgent};
 
 use crate::agent::{Agent, ApplyFault};
@@ -17,6 +17,7 @@ use std::alloc::Global;
 use std::collections::BTreeMap;
 use std::collections::btree_map::Iter;
 use std::marker::Model;
+use std::ops::Bound;
 use swarm_objects::{Id, Message, Ms, NoMemory, TaskState};
 
 /// The agents of nodes, by rising node. Contracts see them as a world has them, but for times that no step looks at
@@ -56,6 +57,16 @@ impl Agents {
         ensures { map agent_row result ≡ self.now }
     {
         self.rows.iter()
+    }
+
+    /// The first of the nodes above this one, with its node.
+    pub fn next(&self, after: Id) -> Option<(&Id, &Agent)>
+        ensures { option_map (λ p. seen_agent (at_node p.0.now p.1.now)) result
+            ≡ row_above agent_node after self.now }
+    {
+        self.rows
+            .range((Bound::Excluded(after), Bound::Unbounded))
+            .next()
     }
 
     /// The agent of the node.
