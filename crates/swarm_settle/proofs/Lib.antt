@@ -3,6 +3,7 @@ pub mod AimSteps
 pub mod Aims
 pub mod Bound
 pub mod Calm
+mod ByNode
 pub mod CleanTasks
 pub mod ClosedPlaces
 pub mod Closings
@@ -25,6 +26,7 @@ pub mod Known
 pub mod KnownCalls
 pub mod KnownNodes
 pub mod Lawful
+mod LeastAmong
 pub mod LeastWaits
 pub mod Matched
 pub mod NearTimes
@@ -46,6 +48,7 @@ pub mod ShapeLoops
 pub mod ShapeWords
 pub mod Shapes
 mod Standing
+mod Starting
 pub mod Together
 pub mod TogetherCalls
 pub mod Unmet

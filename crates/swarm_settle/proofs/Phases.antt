@@ -23,10 +23,10 @@ wait_total =
     then_total (on_total (λ (w : Wait). w.time) nat_cmp_total)
     (then_total (on_total (λ (w : Wait). cause_number w.cause) nat_cmp_total) (on_total (λ (w : Wait). w.id) nat_cmp_total))
 
-abbrev is_sooner : Wait → Wait → Bool
+abbrev pub is_sooner : Wait → Wait → Bool
 is_sooner a b = is_lt (wait_cmp a b)
 
-sooner_ranks : IsStrictWeakOrder is_sooner
+pub sooner_ranks : IsStrictWeakOrder is_sooner
 sooner_ranks = ranks_by wait_total (λ (w : Wait). w)
 
 sooner_chain : (a b c : Wait) → is_sooner a b ≡ true → is_sooner b c ≡ true → is_sooner a c ≡ true

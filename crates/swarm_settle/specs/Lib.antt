@@ -1,6 +1,7 @@
 pub mod Agents
 pub mod Aimed
 pub mod Bound
+pub mod ByNode
 pub mod Flights
 pub mod Fresh
 pub mod Laws
@@ -10,3 +11,4 @@ pub mod Rest
 pub mod Sent
 pub mod Served
 pub mod Standing
+pub mod Waiting

@@ -17,6 +17,8 @@ ghost use Rattle.swarm_objects.specs.World.{World};
 ghost use Rattle.swarm_objects.specs.declared.calls.Entry.{Entry};
 ghost use Rattle.swarm_settle.specs.Rest.{IsAtRest};
 ghost use Rattle.swarm_settle.specs.Standing.{AgreeOnLive, StandFor, world_with};
+ghost use Rattle.swarm_spans.specs.Lines.{to_wait};
+ghost use Rattle.swarm_spans.specs.Spans.{CoversTasks};
 
 use crate::held_updates::{held, paused};
 use crate::update_waits::update_waits;
@@ -26,17 +28,24 @@ use swarm_agent::Agents;
 use swarm_agent::theorems::times_that_no_step_looks_at;
 use swarm_objects::{Rows, Settle};
 use swarm_sessions::Sessions;
+use swarm_spans::Span;
 pub use update_waits::{flight_end, keep_time, watch_time};
 pub use wait::{Wait, wait_till};
 pub use waits::{is_awaited_there, is_on, start_wait};
 
-// The least of all waits.
-fn first_wait<R: Rows>(rows: &R, sessions: &Sessions, agents: &Agents) -> Option<Wait>
+// The least of all waits, where each task that waits to be raised is in the span.
+fn first_wait<R: Rows>(
+    rows: &R,
+    sessions: &Sessions,
+    agents: &Agents,
+    waiting: Span,
+) -> Option<Wait>
     requires usable { IsUsable (R.tables rows.now) }
     requires live { AgreeOnLive (R.tables rows.now) sessions.now }
+    requires waiting { CoversTasks to_wait (R.tables rows.now) waiting }
     ensures { result ≡ first_wait (world_with (R.tables rows.now) sessions.now agents.now) }
 {
-    let started = start_waits(rows, None);
+    let started = start_waits(rows, waiting, None);
     let updated = update_waits(rows, started);
     let executed = executor_waits(agents, updated);
     let heard = session_waits(rows, sessions, agents, executed);
@@ -44,12 +53,13 @@ fn first_wait<R: Rows>(rows: &R, sessions: &Sessions, agents: &Agents) -> Option
 }
 
 // The answer of the world that has these.
-fn idle_answer<R: Rows>(rows: &R, sessions: &Sessions, agents: &Agents) -> Settle
+fn idle_answer<R: Rows>(rows: &R, sessions: &Sessions, agents: &Agents, waiting: Span) -> Settle
     requires usable { IsUsable (R.tables rows.now) }
     requires live { AgreeOnLive (R.tables rows.now) sessions.now }
+    requires waiting { CoversTasks to_wait (R.tables rows.now) waiting }
     ensures { result ≡ idle_answer (world_with (R.tables rows.now) sessions.now agents.now) }
 {
-    if let Some(wait) = first_wait(rows, sessions, agents) {
+    if let Some(wait) = first_wait(rows, sessions, agents, waiting) {
         return Settle::Waiting(wait.time, wait.cause, wait.id);
     }
     if let Some(answer) = held(rows) {
@@ -64,6 +74,7 @@ fn idle_answer<R: Rows>(rows: &R, sessions: &Sessions, agents: &Agents) -> Settl
 /// What the settle test answers where no control loop has a duty: the least time that is waited for, else the first
 /// update that is held up, else the first that is paused, else that all is settled. Then what runs matches the
 /// specifications. It takes no memory.
+#[tactic(auto, using(crate::proofs::Starting::may_wait))]
 pub fn settle<R: Rows>(rows: &R, sessions: &Sessions, agents: &Agents) -> Settle
     requires usable { IsUsable (R.tables rows.now) }
     requires live { AgreeOnLive (R.tables rows.now) sessions.now }
@@ -71,6 +82,19 @@ pub fn settle<R: Rows>(rows: &R, sessions: &Sessions, agents: &Agents) -> Settle
     ensures matched { result ≡ Settle.Settled → (h : List Entry) → IsLegal h →
         StandFor (R.tables rows.now) sessions.now agents.now (replay h) → IsAtRest (replay h) → Matches h }
 {
+    settle_by(rows, sessions, agents, Span::full())
+}
+
+/// The same where a span is at hand that has each task with desired state READY: no other task is asked for a time at
+/// which it is to be raised.
+pub fn settle_by<R: Rows>(rows: &R, sessions: &Sessions, agents: &Agents, waiting: Span) -> Settle
+    requires usable { IsUsable (R.tables rows.now) }
+    requires live { AgreeOnLive (R.tables rows.now) sessions.now }
+    requires waiting { CoversTasks to_wait (R.tables rows.now) waiting }
+    ensures answer { (w : World) → StandFor (R.tables rows.now) sessions.now agents.now w → result ≡ idle_answer w }
+    ensures matched { result ≡ Settle.Settled → (h : List Entry) → IsLegal h →
+        StandFor (R.tables rows.now) sessions.now agents.now (replay h) → IsAtRest (replay h) → Matches h }
+{
     times_that_no_step_looks_at();
-    idle_answer(rows, sessions, agents)
+    idle_answer(rows, sessions, agents, waiting)
 }

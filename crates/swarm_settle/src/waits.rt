@@ -1,5 +1,5 @@
 // What is waited for beside updates: tasks to be raised, executors, sessions, remote nodes.
-ghost use Rattle.std.specs.Prelude.{◌≡◌, ◌&&◌, flat_map, nat_lt, not, ℕ};
+ghost use Rattle.std.specs.Prelude.{◌≡◌, ◌&&◌, filter, flat_map, nat_lt, not, ℕ};
 ghost use Rattle.swarm_agent.specs.Agent.{at_node};
 ghost use Rattle.swarm_agent.specs.Times.{seen_agent};
 ghost use Rattle.swarm_model.specs.Settle.{
@@ -19,17 +19,21 @@ ghost use Rattle.swarm_model.specs.Settle.{
 ghost use Rattle.swarm_objects.specs.Loops.Agents.{is_mode_on};
 ghost use Rattle.swarm_objects.specs.Nodes.Words.{is_node_and};
 ghost use Rattle.swarm_objects.specs.Rows.{agent_node, is_row_and, least_by};
-ghost use Rattle.swarm_objects.specs.Tasks.Words.{is_live, is_to_wait};
+ghost use Rattle.swarm_objects.specs.Tasks.Words.{is_live, is_on, is_to_wait};
 ghost use Rattle.swarm_objects.specs.Usable.{IsUsable};
+ghost use Rattle.swarm_settle.specs.ByNode.{remote_waits_on};
 ghost use Rattle.swarm_settle.specs.Phases.{kept};
 ghost use Rattle.swarm_settle.specs.Standing.{AgreeOnLive, with_sessions, world_with};
+ghost use Rattle.swarm_spans.specs.Lines.{to_wait};
+ghost use Rattle.swarm_spans.specs.Spans.{CoversTasks};
 
 use crate::wait::{Wait, wait_till};
 use swarm_agent::theorems::times_that_no_step_looks_at;
 use swarm_agent::{Agent, Agents};
-use swarm_objects::walks::{nodes, tasks};
+use swarm_objects::walks::{nodes, tasks_on};
 use swarm_objects::{AgentMode, Cause, Desired, Id, Ms, Node, Rows, Task, TaskState, rank};
 use swarm_sessions::Sessions;
+use swarm_spans::{Span, next_task_in};
 
 // Tasks that wait to be raised.
 
@@ -51,14 +55,17 @@ pub fn start_wait<R: Rows>(rows: &R, best: Option<Wait>, task: &Task) -> Option<
     }
 }
 
-/// The least of the best wait so far and those for tasks to be raised.
-pub fn start_waits<R: Rows>(rows: &R, best: Option<Wait>) -> Option<Wait>
-    requires { IsUsable (R.tables rows.now) }
+/// The least of the best wait so far and those for tasks to be raised, of which each is in the span.
+pub fn start_waits<R: Rows>(rows: &R, waiting: Span, best: Option<Wait>) -> Option<Wait>
+    requires usable { IsUsable (R.tables rows.now) }
+    requires waiting { CoversTasks to_wait (R.tables rows.now) waiting }
     ensures { let t = R.tables rows.now in result ≡ least_by wait_cmp best (flat_map (start_wait t) t.tasks) }
 {
     let mut least = best;
-    for task in tasks(rows) {
+    let mut left = waiting;
+    while let Some(task) = next_task_in(rows, &left) {
         least = start_wait(rows, least, task);
+        left.pass(task.id);
     }
     least
 }
@@ -258,7 +265,40 @@ fn remote_wait<R: Rows>(
     }
 }
 
-/// The least of the best wait so far and those for reports of remote nodes.
+// The least of the best wait so far and those for the reports of the node's tasks.
+fn reports_on<R: Rows>(rows: &R, sessions: &Sessions, best: Option<Wait>, node: Id) -> Option<Wait>
+    requires usable { IsUsable (R.tables rows.now) }
+    requires live { AgreeOnLive (R.tables rows.now) sessions.now }
+    ensures { let t = with_sessions (R.tables rows.now) sessions.now in
+        result ≡ least_by wait_cmp best (flat_map (remote_wait t) (filter (is_on node) t.tasks)) }
+{
+    let mut least = best;
+    for task in tasks_on(rows, node) {
+        least = remote_wait(rows, sessions, least, task);
+    }
+    least
+}
+
+// The same, where the node is remote.
+fn remote_waits_on<R: Rows>(
+    rows: &R,
+    sessions: &Sessions,
+    best: Option<Wait>,
+    node: &Node,
+) -> Option<Wait>
+    requires usable { IsUsable (R.tables rows.now) }
+    requires live { AgreeOnLive (R.tables rows.now) sessions.now }
+    ensures { let t = with_sessions (R.tables rows.now) sessions.now in
+        result ≡ least_by wait_cmp best (remote_waits_on t node.now) }
+{
+    if node.remote {
+        reports_on(rows, sessions, best, node.id)
+    } else {
+        best
+    }
+}
+
+/// The least of the best wait so far and those for reports of remote nodes. Tasks of other nodes aren't looked at.
 pub fn remote_waits<R: Rows>(rows: &R, sessions: &Sessions, best: Option<Wait>) -> Option<Wait>
     requires usable { IsUsable (R.tables rows.now) }
     requires live { AgreeOnLive (R.tables rows.now) sessions.now }
@@ -266,8 +306,8 @@ pub fn remote_waits<R: Rows>(rows: &R, sessions: &Sessions, best: Option<Wait>) 
         result ≡ least_by wait_cmp best (flat_map (remote_wait t) t.tasks) }
 {
     let mut least = best;
-    for task in tasks(rows) {
-        least = remote_wait(rows, sessions, least, task);
+    for node in nodes(rows) {
+        least = remote_waits_on(rows, sessions, least, node);
     }
     least
 }

@@ -1,6 +1,6 @@
 -- The first duty of a line, by its span.
-use Rattle.std.proofs.Common.{◌≡◌, ◌-◌, ◌<◌, cond, List, [], ◌∷◌, Some, None, refl, sym, ap, ◌∙◌}
-use Rattle.std.specs.Prelude.{find, flat_map, is_some, ◌++◌}
+use Rattle.std.proofs.Common.{◌≡◌, ◌-◌, ◌<◌, cond, List, [], ◌∷◌, Some, None, refl, sym, true, ap, ◌∙◌}
+use Rattle.std.specs.Prelude.{find, flat_map, is_some, nat_le, ◌++◌}
 use Rattle.swarm_objects.specs.Rows.{first_of, node_id, service_id, task_id}
 use Rattle.swarm_objects.specs.Usable.{IsUsable}
 use Rattle.swarm_objects.specs.World.{Tables}
@@ -8,11 +8,11 @@ use Rattle.swarm_objects.specs.declared.duties.Duty.{Duty}
 use Rattle.swarm_objects.specs.declared.nodes.Node.{Node}
 use Rattle.swarm_objects.specs.declared.services.Service.{Service}
 use Rattle.swarm_objects.specs.declared.tasks.Task.{Task}
-use Rattle.swarm_spans.proofs.InSpans.{first-found, first-none, less-left, none-left, passed}
+use Rattle.swarm_spans.proofs.InSpans.{first-found, first-none, less-left, none-left, none-over, passed}
 use Rattle.swarm_spans.specs.Spans.{beyond, Covers, empty, has_duty, is_in}
 use Rattle.swarm_spans.specs.declared.span.Span.{Span}
 
-flat-found : {X Y : Type 0} (f : X → List Y) (rows : List X) (x : X) (d : Y)
+pub flat-found : {X Y : Type 0} (f : X → List Y) (rows : List X) (x : X) (d : Y)
     → find (λ x. is_some (first_of (f x))) rows ≡ Some x → first_of (f x) ≡ Some d
     → first_of (flat_map f rows) ≡ Some d
 flat-found f [] x d e k = cc
@@ -30,7 +30,7 @@ flat-found {X} {Y} f (y ∷ rows) x d e k = go (f y) refl (flat-found f rows x d
         let head : first_of (f y) ≡ Some a = ap first_of same in
         sym head ∙ first
 
-flat-none : {X Y : Type 0} (f : X → List Y) (rows : List X) → find (λ x. is_some (first_of (f x))) rows ≡ None
+pub flat-none : {X Y : Type 0} (f : X → List Y) (rows : List X) → find (λ x. is_some (first_of (f x))) rows ≡ None
     → first_of (flat_map f rows) ≡ None
 flat-none f [] e = refl
 flat-none {X} {Y} f (y ∷ rows) e = go (f y) (flat-none f rows) e
@@ -69,7 +69,11 @@ pub less_tasks : (t : Tables) (span left : Span) (x : Task) → Some x ≡ find 
     → left ≡ beyond span x.id → left.high - left.after < span.high - span.after
 less_tasks t span left x e is = less-left task_id span left t.tasks x (sym e) is
 
-pub ruleset tasks = (task_duty, no_task_duty, no_task_left, task_passes)
+pub tasks_over : (duties : Task → List Duty) (t : Tables) (span : Span) → Covers task_id (has_duty duties) span t.tasks
+    → true ≡ nat_le span.high span.after → None ≡ first_of (flat_map duties t.tasks)
+tasks_over duties t span c over = no_task_duty duties t span c (sym (none-over task_id span t.tasks over))
+
+pub ruleset tasks = (task_duty, tasks_over, no_task_duty, no_task_left, task_passes)
 
 pub service_duty : (duties : Service → List Duty) (t : Tables) (span : Span) (x : Service) (d : Duty)
     → Covers service_id (has_duty duties) span t.services → Some x ≡ find (λ y. is_in span y.id) t.services
@@ -98,7 +102,11 @@ pub less_services : (t : Tables) (span left : Span) (x : Service) → Some x ≡
     → left ≡ beyond span x.id → left.high - left.after < span.high - span.after
 less_services t span left x e is = less-left service_id span left t.services x (sym e) is
 
-pub ruleset services = (service_duty, no_service_duty, no_service_left, service_passes)
+pub services_over : (duties : Service → List Duty) (t : Tables) (span : Span) → Covers service_id (has_duty duties) span t.services
+    → true ≡ nat_le span.high span.after → None ≡ first_of (flat_map duties t.services)
+services_over duties t span c over = no_service_duty duties t span c (sym (none-over service_id span t.services over))
+
+pub ruleset services = (service_duty, services_over, no_service_duty, no_service_left, service_passes)
 
 pub node_duty : (duties : Node → List Duty) (t : Tables) (span : Span) (x : Node) (d : Duty)
     → Covers node_id (has_duty duties) span t.nodes → Some x ≡ find (λ y. is_in span y.id) t.nodes
@@ -127,4 +135,8 @@ pub less_nodes : (t : Tables) (span left : Span) (x : Node) → Some x ≡ find 
     → left ≡ beyond span x.id → left.high - left.after < span.high - span.after
 less_nodes t span left x e is = less-left node_id span left t.nodes x (sym e) is
 
-pub ruleset nodes = (node_duty, no_node_duty, no_node_left, node_passes)
+pub nodes_over : (duties : Node → List Duty) (t : Tables) (span : Span) → Covers node_id (has_duty duties) span t.nodes
+    → true ≡ nat_le span.high span.after → None ≡ first_of (flat_map duties t.nodes)
+nodes_over duties t span c over = no_node_duty duties t span c (sym (none-over node_id span t.nodes over))
+
+pub ruleset nodes = (node_duty, nodes_over, no_node_duty, no_node_left, node_passes)

@@ -140,6 +140,12 @@ in-over {X} key span after rows out le =
         after-below : (k : ℕ) → nat_le k after ≡ false → after < k
         after-below k t = grind (arith, nat_tests, t)
 
+-- a span that is over has none
+pub none-over : {X : Type 0} (key : X → ℕ) (span : Span) (rows : List X) → true ≡ nat_le span.high span.after
+    → find (λ y. is_in span (key y)) rows ≡ None
+none-over key span rows over =
+    in-over key span span.after rows (out-begins key span rows) (grind (arith, nat_tests, over))
+
 -- what is left of the numbers
 pub less_left : (high after end next : ℕ) → after < high → after ≤ end → end < next → high - next < high - after
 less_left high after end next lt le up = omega (arith, lt, le, up)

@@ -1,17 +1,17 @@
 -- All spans of the lines over single tasks and over nodes, over one list of changes.
-use Rattle.std.proofs.Common.{Bool, List, inl, inr, refl, subst, sym, true, ℕ, ap, ◌∙◌, ◌≡◌, ◌⊎◌}
+use Rattle.std.proofs.Common.{Bool, List, Some, inl, inr, refl, subst, sym, true, ℕ, ap, ◌∙◌, ◌≡◌, ◌⊎◌}
 use Rattle.std.specs.List.{list_any}
 use Rattle.std.specs.Prelude.{nat_le, not}
-use Rattle.swarm_objects.proofs.RowLemmas.{number_above, row_at-Some}
-use Rattle.swarm_objects.proofs.Tests.{both, both_are}
+use Rattle.swarm_objects.proofs.RowLemmas.{Has-from_row_at, number_above, row_at-Some}
+use Rattle.swarm_objects.proofs.Tests.{both, both_are, some-and-cases}
 use Rattle.swarm_objects.specs.ChangeLists.{apply_changes}
-use Rattle.swarm_objects.specs.Loops.Dispatcher.{is_expired}
+use Rattle.swarm_objects.specs.Loops.Dispatcher.{is_expired, is_long_down, is_orphaned}
 use Rattle.swarm_objects.specs.Loops.Reaper.{is_removable}
 use Rattle.swarm_objects.specs.Loops.Restart.{is_current, is_held_up, wants_raise}
 use Rattle.swarm_objects.specs.Loops.Scheduler.{schedule}
 use Rattle.swarm_objects.specs.Nodes.Sessions.{is_before_deadline, is_session_live}
-use Rattle.swarm_objects.specs.Nodes.Words.{is_ready}
-use Rattle.swarm_objects.specs.Rows.{Has, node_id, row_at, session_node, task_id}
+use Rattle.swarm_objects.specs.Nodes.Words.{is_down, is_node_and, is_ready}
+use Rattle.swarm_objects.specs.Rows.{Has, is_row_and, node_id, row_at, session_node, task_id}
 use Rattle.swarm_objects.specs.Tasks.Words.{is_kept, is_live, is_placed, is_to_wait}
 use Rattle.swarm_objects.specs.Usable.{IsUsable}
 use Rattle.swarm_objects.specs.World.{Tables}
@@ -37,7 +37,7 @@ use Rattle.swarm_spans.specs.Lines.{addresses, AlikeCounting, AlikeDown, AlikeNu
 use Rattle.swarm_spans.specs.Moved.{moves}
 use Rattle.swarm_spans.specs.Spans.{CoversNodes, CoversTasks, full, has_duty, is_in, IsWider, with_id}
 use Rattle.swarm_spans.specs.TasksCovered.{at_time, HasOthersSessions, with_sessions}
-use Rattle.swarm_spans.specs.Touched.{TouchesAll, TouchesAllReady}
+use Rattle.swarm_spans.specs.Touched.{HasTasksOnDown, TouchesAll, TouchesAllReady}
 use Rattle.swarm_spans.specs.declared.span.Span.{Span}
 
 -- Widened twice.
@@ -254,6 +254,20 @@ schedules_all t u waiting span wide same usable waits all c wider =
     (λ x e. has-when (is_to_schedule x) _ ∙ e) waits all)
 
 -- The time.
+
+-- whatever the time, an orphan's node is DOWN
+pub orphans_at : (t : Tables) (clock : ℕ) (wide : Span) → HasTasksOnDown t wide
+    → CoversTasks orphans (at_time clock t) wide
+orphans_at t clock wide on-down = record {
+  has = λ x h due.
+      let long : is_node_and t (is_long_down (at_time clock t)) x ≡ true =
+      (both_are (is_placed x) _ (sym (has-when (is_orphaned (at_time clock t) x) _) ∙ due)).1 in
+      let on = some-and-cases (is_row_and node_id (is_long_down (at_time clock t)) t.nodes) x.node long in
+      let row = some-and-cases (is_long_down (at_time clock t)) (row_at node_id on.0 t.nodes) on.2 in
+      let there = Has-from_row_at node_id on.0 t.nodes row.0 row.1 in
+      (on-down.nodes row.0 there.0 (both_are (is_down row.0.state) _ row.2).0).tasks x h
+      (on.1 ∙ ap Some (sym there.1));
+}
 
 pub raises_at : (t : Tables) (clock : ℕ) (waiting wide : Span) → CoversTasks to_wait t waiting → IsWider wide waiting
     → CoversTasks raises (at_time clock t) wide

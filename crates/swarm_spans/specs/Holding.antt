@@ -1,5 +1,5 @@
--- What tasks hold of addresses and services of port numbers, which others then can't get: where no change sets any free,
--- or takes any, tasks that wait for them need not be touched.
+-- What tasks hold of addresses and services of port numbers, which others then can't get: where no change sets any
+-- free, or takes any, tasks that wait for them need not be touched.
 use Rattle.std.specs.Prelude.{Bool, List, Some, [], if◌then◌else◌, ◌≡◌, ◌⊎◌, ⊤, ℕ}
 use Rattle.swarm_objects.specs.Rows.{Has, on_row, row_at, service_id, task_id}
 use Rattle.swarm_objects.specs.Services.Ports.{ports_held}

@@ -1,6 +1,6 @@
--- What a step from tables t to tables u leaves as it was, in what a line reads. Each of these says: where the line could
--- tell the row from the former one, the span has what it concerns. So a row that a step names, and that the line can't
--- tell from the former one, needs no touch.
+-- What a step from tables t to tables u leaves as it was, in what a line reads. Each of these says: where the line
+-- could tell the row from the former one, the span has what it concerns. So a row that a step names, and that the line
+-- can't tell from the former one, needs no touch.
 use Rattle.std.specs.Prelude.{ℕ, Bool, List, Option, Some, ◌≡◌, ◌⊎◌, true}
 use Rattle.swarm_objects.specs.Rows.{Has, node_id, row_at, service_id, task_id}
 use Rattle.swarm_objects.specs.World.{Tables}

@@ -47,10 +47,9 @@ SessionLaw node spans wide =
 abbrev pub at_time : ℕ → Tables → Tables
 at_time clock t = record t { clock = clock }
 
--- the ones cover what the others do, at any time
-abbrev pub TimeLaw : TaskSpans → TaskSpans → Type 0
-TimeLaw spans wide =
-    (t : Tables) (clock : ℕ) → IsUsable t → AreTasksCovered t spans → AreTasksCovered (at_time clock t) wide
+-- the ones cover what the others do of these tables, at any time
+abbrev pub TimeLaw : Tables → TaskSpans → TaskSpans → Type 0
+TimeLaw t spans wide = (clock : ℕ) → AreTasksCovered t spans → AreTasksCovered (at_time clock t) wide
 
 -- with these services, of which some may be new
 abbrev pub with_services : ℕ → List Service → Tables → Tables

@@ -1,8 +1,8 @@
--- What a list of changes touches: t has the rows before them. A world asks before it commits, with the rows as they are;
--- by the laws here the span then has what the lines' laws ask for in the tables that the changes make.
+-- What a list of changes touches: t has the rows before them. A world asks before it commits, with the rows as they
+-- are; by the laws here the span then has what the lines' laws ask for in the tables that the changes make.
 use Rattle.std.specs.Prelude.{ℕ, Bool, List, Some, ◌≡◌, ◌⊎◌, ◌<◌, true}
 use Rattle.swarm_objects.specs.ChangeLists.{Makes}
-use Rattle.swarm_objects.specs.Nodes.Words.{is_ready}
+use Rattle.swarm_objects.specs.Nodes.Words.{is_down, is_ready}
 use Rattle.swarm_objects.specs.Rows.{Has, node_id, RisesFrom, row_at, service_id, task_id}
 use Rattle.swarm_objects.specs.World.{Tables}
 use Rattle.swarm_objects.specs.declared.nodes.Node.{Node}
@@ -21,6 +21,10 @@ pub record HasTasksOf (service : ℕ) (t : Tables) (wide : Span) : Type 0 where
 
 pub record HasTasksOn (node : ℕ) (t : Tables) (wide : Span) : Type 0 where
   pub tasks : (x : Task) → Has t.tasks x → x.node ≡ Some node → is_in wide x.id ≡ true
+
+-- each task on a node that is DOWN
+pub record HasTasksOnDown (t : Tables) (wide : Span) : Type 0 where
+  pub nodes : (n : Node) → Has t.nodes n → is_down n.state ≡ true → HasTasksOn n.id t wide
 
 -- the task that is put has its id in the span, where it may have a duty and isn't like the former one
 pub record TouchesTask (may : Task → Bool) (Alike : Task → Task → Type 0) (t : Tables) (wide : Span) (y : Task)

@@ -1,12 +1,13 @@
-// Spans that get the tasks of a service or on a node, and those of another span.
-ghost use Rattle.std.specs.Prelude.{◌≡◌};
+// Spans that get the tasks of a service or on a node.
+ghost use Rattle.std.specs.Prelude.{◌≡◌, true};
+ghost use Rattle.swarm_objects.specs.Nodes.Words.{is_down};
 ghost use Rattle.swarm_objects.specs.Usable.{IsUsable};
 ghost use Rattle.swarm_spans.specs.Spans.{IsWider};
-ghost use Rattle.swarm_spans.specs.Touched.{HasTasksOf, HasTasksOn};
+ghost use Rattle.swarm_spans.specs.Touched.{HasTasksOf, HasTasksOn, HasTasksOnDown};
 
 use crate::span::Span;
-use swarm_objects::walks::{tasks_of, tasks_on};
-use swarm_objects::{Id, Rows};
+use swarm_objects::walks::{nodes, tasks_of, tasks_on};
+use swarm_objects::{Id, Node, Rows};
 
 /// Each task of the service too.
 #[tactic(auto, using(crate::proofs::Grown::adding_steps))]
@@ -30,4 +31,29 @@ pub fn add_tasks_on<R: Rows>(rows: &R, node: Id, span: &mut Span)
     for task in tasks_on(rows, node) {
         span.add(task.id);
     }
+}
+
+// Each task on the node too, where it is DOWN.
+#[tactic(auto, using(crate::proofs::Grown::wider_itself))]
+fn add_tasks_where_down<R: Rows>(rows: &R, node: &Node, span: &mut Span)
+    requires { IsUsable (R.tables rows.now) }
+    ensures wider { IsWider span.new span.old }
+    ensures all { is_down node.now.state ≡ true → HasTasksOn node.now.id (R.tables rows.now) span.new }
+{
+    if node.is_down() {
+        add_tasks_on(rows, node.id, span);
+    }
+}
+
+/// Each task on a node that is DOWN.
+#[tactic(auto, using(crate::proofs::Grown::on_down_steps))]
+pub fn tasks_on_down<R: Rows>(rows: &R) -> Span
+    requires { IsUsable (R.tables rows.now) }
+    ensures { HasTasksOnDown (R.tables rows.now) result }
+{
+    let mut span = Span::empty();
+    for node in nodes(rows) {
+        add_tasks_where_down(rows, node, &mut span);
+    }
+    span
 }

@@ -64,13 +64,13 @@ fn any_unblocks<R: Rows>(rows: &R, changes: &[Change]) -> bool
 }
 
 /// What the changes touch of the tasks to raise by what they do to others: all of those that wait, or none.
-#[tactic(auto, using(crate::proofs::Grown::wider_itself))]
-pub fn touch_blocked<R: Rows>(rows: &R, changes: &[Change], waiting: Span, span: &mut Span)
+#[tactic(auto, using(crate::proofs::Grown::waiting_steps))]
+pub fn touch_blocked<R: Rows>(rows: &R, changes: &[Change], waiting: &Span, span: &mut Span)
     ensures wider { IsWider span.new span.old }
-    ensures touches { list_any (unblocks (R.tables rows.now)) changes.now ≡ true → IsWider span.new waiting }
+    ensures touches { list_any (unblocks (R.tables rows.now)) changes.now ≡ true → IsWider span.new waiting.now }
 {
-    if any_unblocks(rows, changes) {
-        span.join(waiting);
+    if !waiting.is_over() && any_unblocks(rows, changes) {
+        span.join(*waiting);
     }
 }
 
@@ -101,12 +101,12 @@ fn any_moves<R: Rows>(rows: &R, changes: &[Change]) -> bool
 }
 
 /// What the changes touch of the tasks to place by what they do to others: all of those that wait, or none.
-#[tactic(auto, using(crate::proofs::Grown::wider_itself))]
-pub fn touch_moved<R: Rows>(rows: &R, changes: &[Change], waiting: Span, span: &mut Span)
+#[tactic(auto, using(crate::proofs::Grown::waiting_steps))]
+pub fn touch_moved<R: Rows>(rows: &R, changes: &[Change], waiting: &Span, span: &mut Span)
     ensures wider { IsWider span.new span.old }
-    ensures touches { list_any (moves (R.tables rows.now)) changes.now ≡ true → IsWider span.new waiting }
+    ensures touches { list_any (moves (R.tables rows.now)) changes.now ≡ true → IsWider span.new waiting.now }
 {
-    if any_moves(rows, changes) {
-        span.join(waiting);
+    if !waiting.is_over() && any_moves(rows, changes) {
+        span.join(*waiting);
     }
 }

@@ -54,7 +54,10 @@ pub fn first_of_tasks<L: TaskLine, R: Rows>(rows: &R, span: &mut Span) -> Option
     ensures first { let t = R.tables rows.now in result ≡ first_of (flat_map (L.duties t) t.tasks) }
     ensures covers { CoversTasks L.duties (R.tables rows.now) span.new }
 {
-    while let Some(task) = next_task_in(rows, *span) {
+    if span.is_over() {
+        return None;
+    }
+    while let Some(task) = next_task_in(rows, span) {
         if let Some(duty) = L::duty(rows, task) {
             return Some(duty);
         }
@@ -72,7 +75,10 @@ pub fn first_of_services<L: ServiceLine, R: Rows>(rows: &R, span: &mut Span) -> 
     ensures first { let t = R.tables rows.now in result ≡ first_of (flat_map (L.duties t) t.services) }
     ensures covers { CoversServices L.duties (R.tables rows.now) span.new }
 {
-    while let Some(service) = next_service_in(rows, *span) {
+    if span.is_over() {
+        return None;
+    }
+    while let Some(service) = next_service_in(rows, span) {
         if let Some(duty) = L::duty(rows, service) {
             return Some(duty);
         }
@@ -90,7 +96,10 @@ pub fn first_of_nodes<L: NodeLine, R: Rows>(rows: &R, span: &mut Span) -> Option
     ensures first { let t = R.tables rows.now in result ≡ first_of (flat_map (L.duties t) t.nodes) }
     ensures covers { CoversNodes L.duties (R.tables rows.now) span.new }
 {
-    while let Some(node) = next_node_in(rows, *span) {
+    if span.is_over() {
+        return None;
+    }
+    while let Some(node) = next_node_in(rows, span) {
         if let Some(duty) = L::duty(rows, node) {
             return Some(duty);
         }
@@ -121,7 +130,7 @@ pub fn narrowed<L: TaskLine, R: Rows>(rows: &R, span: Span) -> Span
 {
     let mut narrow = Span::empty();
     let mut left = span;
-    while let Some(task) = next_task_in(rows, left) {
+    while let Some(task) = next_task_in(rows, &left) {
         narrow = with_task::<L, R>(rows, task, narrow);
         left.pass(task.id);
     }

@@ -1,8 +1,19 @@
-// Tasks that wait for addresses, and for port numbers of their services: they are touched by changes of what others hold.
+// Tasks that wait for addresses, and for port numbers of their services: they are touched by changes of what others
+// hold.
 ghost use Rattle.std.specs.Prelude.{◌≡◌, IsTrue, []};
 ghost use Rattle.swarm_objects.specs.Services.Ports.{ports_of};
 ghost use Rattle.swarm_objects.specs.declared.rows.Change.TheVariants as change;
-ghost use Rattle.swarm_spans.specs.Holding.{AreAmong, EachPasses, FreesNone, HoldSamePorts, HoldsOn, KeepsPorts, TouchesWhere, held, held_at};
+ghost use Rattle.swarm_spans.specs.Holding.{
+  AreAmong,
+  EachPasses,
+  FreesNone,
+  HoldSamePorts,
+  HoldsOn,
+  KeepsPorts,
+  TouchesWhere,
+  held,
+  held_at,
+};
 ghost use Rattle.swarm_spans.specs.Spans.{IsWider};
 
 use crate::span::Span;
@@ -160,26 +171,26 @@ fn hold_on<R: Rows>(rows: &R, changes: &[Change]) -> bool
     true
 }
 
-/// What the changes touch of the tasks to get addresses by what others hold: all of those that wait, where an address may
-/// be set free, or none.
+/// What the changes touch of the tasks to get addresses by what others hold: all of those that wait, where an address
+/// may be set free, or none.
 #[tactic(auto, using(crate::proofs::Grown::over_steps))]
-pub fn touch_freed<R: Rows>(rows: &R, changes: &[Change], waiting: Span, span: &mut Span)
+pub fn touch_freed<R: Rows>(rows: &R, changes: &[Change], waiting: &Span, span: &mut Span)
     ensures wider { IsWider span.new span.old }
-    ensures touches { TouchesWhere (FreesNone (R.tables rows.now)) changes.now waiting span.new }
+    ensures touches { TouchesWhere (FreesNone (R.tables rows.now)) changes.now waiting.now span.new }
 {
     if !waiting.is_over() && !free_none(rows, changes) {
-        span.join(waiting);
+        span.join(*waiting);
     }
 }
 
 /// What the changes touch of the tasks to be told why they get none: all of those that wait, where what is free may be
 /// another, or none.
 #[tactic(auto, using(crate::proofs::Grown::over_steps))]
-pub fn touch_held<R: Rows>(rows: &R, changes: &[Change], waiting: Span, span: &mut Span)
+pub fn touch_held<R: Rows>(rows: &R, changes: &[Change], waiting: &Span, span: &mut Span)
     ensures wider { IsWider span.new span.old }
-    ensures touches { TouchesWhere (HoldsOn (R.tables rows.now)) changes.now waiting span.new }
+    ensures touches { TouchesWhere (HoldsOn (R.tables rows.now)) changes.now waiting.now span.new }
 {
     if !waiting.is_over() && !hold_on(rows, changes) {
-        span.join(waiting);
+        span.join(*waiting);
     }
 }

@@ -9,9 +9,9 @@ use swarm_objects::{Node, Rows, Service, Task};
 
 /// The first task in the span.
 #[tactic(auto, using(crate::proofs::Nexts::tasks))]
-pub fn next_task_in<R: Rows>(rows: &R, span: Span) -> Option<&Task>
+pub fn next_task_in<'a, R: Rows>(rows: &'a R, span: &Span) -> Option<&'a Task>
     requires { IsUsable (R.tables rows.now) }
-    ensures { option_copied result ≡ find (λ x. is_in span x.id) (R.tables rows.now).tasks }
+    ensures { option_copied result ≡ find (λ x. is_in span.now x.id) (R.tables rows.now).tasks }
 {
     let mut after = span.after;
     while after < span.high {
@@ -28,9 +28,9 @@ pub fn next_task_in<R: Rows>(rows: &R, span: Span) -> Option<&Task>
 
 /// The first service in the span.
 #[tactic(auto, using(crate::proofs::Nexts::services))]
-pub fn next_service_in<R: Rows>(rows: &R, span: Span) -> Option<&Service>
+pub fn next_service_in<'a, R: Rows>(rows: &'a R, span: &Span) -> Option<&'a Service>
     requires { IsUsable (R.tables rows.now) }
-    ensures { option_copied result ≡ find (λ x. is_in span x.id) (R.tables rows.now).services }
+    ensures { option_copied result ≡ find (λ x. is_in span.now x.id) (R.tables rows.now).services }
 {
     let mut after = span.after;
     while after < span.high {
@@ -47,9 +47,9 @@ pub fn next_service_in<R: Rows>(rows: &R, span: Span) -> Option<&Service>
 
 /// The first node in the span.
 #[tactic(auto, using(crate::proofs::Nexts::nodes))]
-pub fn next_node_in<R: Rows>(rows: &R, span: Span) -> Option<&Node>
+pub fn next_node_in<'a, R: Rows>(rows: &'a R, span: &Span) -> Option<&'a Node>
     requires { IsUsable (R.tables rows.now) }
-    ensures { option_copied result ≡ find (λ x. is_in span x.id) (R.tables rows.now).nodes }
+    ensures { option_copied result ≡ find (λ x. is_in span.now x.id) (R.tables rows.now).nodes }
 {
     let mut after = span.after;
     while after < span.high {

@@ -1,5 +1,16 @@
 // Over a step, the spans of the lines of services go on covering their duties, where they get what the step touches.
-ghost use Rattle.swarm_spans.specs.Services.Lines.{MovedLaw, PlacedLaw, PortLaw, TrimLaw, UpdateLaw, comes, creates, downs, leaves, job_creates};
+ghost use Rattle.swarm_spans.specs.Services.Lines.{
+  MovedLaw,
+  PlacedLaw,
+  PortLaw,
+  TrimLaw,
+  UpdateLaw,
+  comes,
+  creates,
+  downs,
+  leaves,
+  job_creates,
+};
 
 /// Replicated services and jobs that get a task, and replicated ones that give up a slot.
 pub fn slots_go_on()

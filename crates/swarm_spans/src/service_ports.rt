@@ -69,8 +69,8 @@ fn frees_number<R: Rows>(rows: &R, new: &Service) -> bool
     }
 }
 
-// What one change touches. A number that gets free may go to any service. Where none does, no other service than this one
-// has a duty that it hadn't before: of the numbers that are held there are only more.
+// What one change touches. A number that gets free may go to any service. Where none does, no other service than this
+// one has a duty that it hadn't before: of the numbers that are held there are only more.
 #[tactic(auto, using(crate::proofs::Services::Numbers::change_steps))]
 fn touch_ports<R: Rows>(rows: &R, change: &Change, span: &mut Span)
     ensures wider { IsWider span.new span.old }

@@ -6,6 +6,7 @@ ghost use Rattle.swarm_objects.specs.Usable.{IsUsable};
 ghost use Rattle.swarm_objects.specs.World.{Tables};
 ghost use Rattle.swarm_spans.specs.Services.Touches.{
   AreCovered,
+  HasUpdated,
   Joins,
   JoinsForNodes,
   NewServicesLaw,
@@ -15,9 +16,10 @@ ghost use Rattle.swarm_spans.specs.Services.Touches.{
 };
 
 use crate::service_ports::add_numbered;
-use crate::service_touches::{Places, Updates, add_shifted};
+use crate::service_touches::{Places, Updates, add_shifted, has_open_run};
 use crate::service_trims::add_remains;
 use crate::span::Span;
+use swarm_objects::walks::services;
 use swarm_objects::{Change, Id, Rows};
 
 /// A span for each line over services, and for the line over old tasks.
@@ -56,15 +58,41 @@ fn joined(span: Span, more: Span) -> Span
     both
 }
 
+// With the numbers of the other, which mostly has none.
+#[tactic(auto, using(crate::proofs::Services::Spans::widen_steps))]
+fn widen(span: &mut Span, more: &Span)
+    ensures { Joins span.new span.old more.now }
+{
+    if !more.is_over() {
+        span.join(*more);
+    }
+}
+
 // The same, for a line that reads nodes: a node that is put may concern every service.
 #[tactic(auto, using(crate::proofs::Services::Spans::node_steps))]
-fn joined_for_nodes(changes: &[Change], span: Span, more: Span) -> Span
-    ensures { JoinsForNodes changes.now result span more }
+fn widen_for_nodes(changes: &[Change], span: &mut Span, more: &Span)
+    ensures { JoinsForNodes changes.now span.new span.old more.now }
 {
     if put_nodes(changes) {
-        return Span::full();
+        *span = Span::full();
+    } else {
+        widen(span, more);
     }
-    joined(span, more)
+}
+
+// Each service with an update under way.
+#[tactic(auto, using(crate::proofs::Services::Spans::updated_steps))]
+fn services_updated<R: Rows>(rows: &R) -> Span
+    requires { IsUsable (R.tables rows.now) }
+    ensures { HasUpdated (R.tables rows.now) result }
+{
+    let mut span = Span::empty();
+    for service in services(rows) {
+        if has_open_run(service) {
+            span.add(service.id);
+        }
+    }
+    span
 }
 
 impl ServiceSpans {
@@ -88,40 +116,32 @@ impl ServiceSpans {
 
     /// With what these changes touch: asked before they are made. The spans then cover the rows as they are, and as the
     /// changes make them.
-    #[tactic(auto, using(crate::proofs::Services::Spans::touch_steps))]
-    pub fn touched<R: Rows>(self, rows: &R, changes: &[Change]) -> ServiceSpans
+    pub fn touch<R: Rows>(&mut self, rows: &R, changes: &[Change])
         requires usable { IsUsable (R.tables rows.now) }
-        requires covers { AreCovered (R.tables rows.now) self }
-        ensures stays { AreCovered (R.tables rows.now) result }
-        ensures goes_on { let u = apply_changes (R.tables rows.now) changes.now in IsUsable u → AreCovered u result }
+        requires covers { AreCovered (R.tables rows.now) self.old }
+        ensures stays { AreCovered (R.tables rows.now) self.new }
+        ensures goes_on { let u = apply_changes (R.tables rows.now) changes.now in IsUsable u → AreCovered u self.new }
     {
         let mut moved = Span::empty();
         add_shifted::<Places, R>(rows, changes, &mut moved);
-        let mut ports = self.ports;
-        add_numbered(rows, changes, &mut ports);
-        let mut updates = self.updates;
-        add_shifted::<Updates, R>(rows, changes, &mut updates);
-        let mut trims = self.trims;
-        add_remains(rows, changes, &mut trims);
-        ServiceSpans {
-            downs: joined(self.downs, moved),
-            creates: joined(self.creates, moved),
-            leaves: joined_for_nodes(changes, self.leaves, moved),
-            comes: joined_for_nodes(changes, self.comes, moved),
-            job_creates: joined(self.job_creates, moved),
-            ports,
-            updates,
-            trims,
-        }
+        widen(&mut self.downs, &moved);
+        widen(&mut self.creates, &moved);
+        widen_for_nodes(changes, &mut self.leaves, &moved);
+        widen_for_nodes(changes, &mut self.comes, &moved);
+        widen(&mut self.job_creates, &moved);
+        add_numbered(rows, changes, &mut self.ports);
+        add_shifted::<Updates, R>(rows, changes, &mut self.updates);
+        add_remains(rows, changes, &mut self.trims);
     }
 
-    /// With what may have a duty as time goes by, and nothing else changes: updates, which wait for the ends of delays and
-    /// monitors.
-    pub fn with_time(self) -> ServiceSpans
-        ensures goes_on { ServiceTimeLaw self result }
+    /// With what may have a duty as time goes by, and nothing else changes: updates that are under way, which wait for
+    /// the ends of delays and monitors.
+    pub fn with_time<R: Rows>(self, rows: &R) -> ServiceSpans
+        requires { IsUsable (R.tables rows.now) }
+        ensures goes_on { ServiceTimeLaw (R.tables rows.now) self result }
     {
         ServiceSpans {
-            updates: Span::full(),
+            updates: joined(self.updates, services_updated(rows)),
             ..self
         }
     }

@@ -5,7 +5,15 @@ ghost use Rattle.swarm_objects.specs.Rows.{row_at, task_id};
 ghost use Rattle.swarm_objects.specs.Services.Runs.{counts_as_failure, has_open_run};
 ghost use Rattle.swarm_objects.specs.World.{Tables};
 ghost use Rattle.swarm_objects.specs.declared.tasks.Task.{Task as TaskRow};
-ghost use Rattle.swarm_spans.specs.Services.Standings.{Progress, Standing, goes_alike, is_updated, progress, standing, stands_alike};
+ghost use Rattle.swarm_spans.specs.Services.Standings.{
+  Progress,
+  Standing,
+  goes_alike,
+  is_updated,
+  progress,
+  standing,
+  stands_alike,
+};
 ghost use Rattle.swarm_spans.specs.Services.Steps.{HasServiceOf, HasShifted};
 ghost use Rattle.swarm_spans.specs.Services.Touches.{HasPut, HasTouched};
 ghost use Rattle.swarm_spans.specs.Spans.{IsWider};

@@ -148,8 +148,8 @@ fn touch_trims<R: Rows>(rows: &R, change: &Change, span: &mut Span)
     }
 }
 
-/// The past tasks beside each one of which these changes make something else remain, and those of each service that they
-/// make bound its places otherwise. It is asked before the changes are made.
+/// The past tasks beside each one of which these changes make something else remain, and those of each service that
+/// they make bound its places otherwise. It is asked before the changes are made.
 #[tactic(auto, using(crate::proofs::Services::Trimming::all_steps))]
 pub fn add_remains<R: Rows>(rows: &R, changes: &[Change], span: &mut Span)
     requires { IsUsable (R.tables rows.now) }

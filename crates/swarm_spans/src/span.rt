@@ -5,9 +5,9 @@ ghost use Rattle.swarm_spans.specs.Spans.{beyond, empty, full, is_in, IsWider, o
 use crate::bits::Bits;
 use swarm_objects::Id;
 
-/// The numbers above one, up to another, whose bits are set. A world keeps one for each line of duties, and every row with
-/// a duty of the line has its id in it. Where the two lie no farther apart than there are bits, it has exactly the numbers
-/// that were added and not passed.
+/// The numbers above one, up to another, whose bits are set. A world keeps one for each line of duties, and every row
+/// with a duty of the line has its id in it. It may have more, since numbers share bits: one that was set for another
+/// number, or not cleared while the span was wide. Such a number costs a try and nothing else.
 #[derive(Clone, Copy, Drop)]
 pub struct Span {
     pub after: Id,

@@ -25,7 +25,7 @@ use Rattle.swarm_world.specs.declared.agent_spans.AgentSpans.{AgentSpans}
 use Rattle.swarm_world.specs.declared.parts.Parts.{Parts}
 
 -- the parts show the world
-shows : (p : Parts) (w : World) → HasParts p w → ShowsWorld (tables_of p.records) p.sent p.agents w
+pub shows : (p : Parts) (w : World) → HasParts p w → ShowsWorld (tables_of p.records) p.sent p.agents w
 shows p w has = record { tables = tables_are p.records w has.records; sent = has.sent; agents = has.agents }
 
 -- wider spans cover too

@@ -10,30 +10,26 @@ use Rattle.swarm_model.proofs.Laws.OneEach.{OneEach, one-each-empty, one-each-ke
 use Rattle.swarm_model.specs.Calls.Operations.{apply_ops}
 use Rattle.swarm_model.specs.Calls.Services.{create_service, new_service}
 use Rattle.swarm_model.specs.Calls.Watches.{told_at, waiting_events, watch_finish, watch_poll, without_watcher}
-use Rattle.swarm_model.specs.Calls.Views.{View, shows}
-use Rattle.swarm_model.specs.Calls.{answer, answered, txn, txn_answer, viewed}
+use Rattle.swarm_model.specs.Calls.Views.{View}
+use Rattle.swarm_model.specs.Calls.{answered, txn_answer, viewed}
 use Rattle.swarm_model.specs.History.{IsLegal, replay, step}
 use Rattle.swarm_model.specs.Outcome.{Answered}
 use Rattle.swarm_objects.specs.Limits.{most_events, most_ops}
-use Rattle.swarm_objects.specs.Rows.{Has, row_at, service_id, watcher_id}
+use Rattle.swarm_objects.specs.Rows.{row_at, service_id}
 use Rattle.swarm_objects.specs.Usable.{IsUsable}
 use Rattle.swarm_objects.specs.World.{Tables, World}
 use Rattle.swarm_objects.specs.declared.agents.NodeAgent.{NodeAgent}
 use Rattle.swarm_objects.specs.declared.calls.Call.TheVariants as call
-use Rattle.swarm_objects.specs.declared.calls.Call.{Call}
 use Rattle.swarm_objects.specs.declared.calls.Entry.{Entry}
 use Rattle.swarm_objects.specs.declared.calls.Op.TheVariants as op
 use Rattle.swarm_objects.specs.declared.calls.Op.{Op}
 use Rattle.swarm_objects.specs.declared.calls.What.TheVariants as what
 use Rattle.swarm_objects.specs.declared.messages.NodeSent.{NodeSent}
-use Rattle.swarm_objects.specs.declared.calls.Query.{Query}
 use Rattle.swarm_objects.specs.declared.replies.Refusal.TheVariants as refusal
 use Rattle.swarm_objects.specs.declared.replies.Refusal.{Refusal}
 use Rattle.swarm_objects.specs.declared.replies.Reply.TheVariants as reply
 use Rattle.swarm_objects.specs.declared.services.Draft.{Draft}
 use Rattle.swarm_objects.specs.declared.services.Service.{Service}
-use Rattle.swarm_objects.specs.declared.tasks.Task.{Task}
-use Rattle.swarm_objects.specs.declared.watches.Event.{Event}
 use Rattle.swarm_objects.specs.declared.watches.Watcher.{Watcher}
 use Rattle.swarm_sched.proofs.KnownAlike.{knows_alike}
 use Rattle.swarm_sched.specs.Inside.KnownNodes.{KnowsNodes}

@@ -24,6 +24,7 @@ pub mod LooksOn
 pub mod Marked
 pub mod Marking
 pub mod NewNodes
+pub mod NextAgents
 pub mod OnNodes
 pub mod Opening
 pub mod Pulling

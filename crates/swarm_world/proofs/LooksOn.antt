@@ -230,15 +230,6 @@ report_goes_on t f es after task s rises news gone =
 
 -- Agent by agent.
 
-pub first-some : (xs ys : List Duty) (d : Duty) → first_of xs ≡ Some d → first_of (xs ++ ys) ≡ Some d
-first-some [] ys d e = absurd cc
-first-some (x ∷ xs) ys d e = e
-
-pub first-none : (xs ys : List Duty) → first_of xs ≡ None → first_of (xs ++ ys) ≡ first_of ys
-first-none [] ys e = refl
-first-none (x ∷ xs) ys e = absurd cc
-
--- the executors of an agent as it is seen rise as its own
 pub rises-seen : (times : TimesLaw) (n : ℕ) (es : List Executor) → RisesFrom executor_task n (map seen es) →
     RisesFrom executor_task n es
 rises-seen times n [] rises = tt

@@ -1,6 +1,5 @@
 -- Where every row and every agent may have a duty.
-use Rattle.std.proofs.Common.{◌≡◌, ◌<◌, ◌≤◌, ◌^◌, ◌+◌, ℕ, Bool, true, List, Option, [], ◌∷◌, arith, subst, sym}
-use Rattle.std.proofs.lemmas.Bool.Decides.{nat_tests}
+use Rattle.std.proofs.Common.{◌≡◌, ◌<◌, ◌^◌, ◌+◌, ℕ, Bool, List, [], ◌∷◌, arith, subst, sym}
 use Rattle.std.specs.Prelude.{map}
 use Rattle.swarm_agent.specs.Times.{seen_agent}
 use Rattle.swarm_model.proofs.Laws.GivesOutReplay.{whole-replay}

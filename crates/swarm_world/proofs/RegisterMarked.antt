@@ -2,7 +2,6 @@
 use Rattle.std.proofs.Common.{◌≡◌, ◌∙◌, ◌+◌, ◌⊎◌, ℕ, Bool, cond, eqb, false, true, List, Some, ap, arith, inl, inr, refl, subst, sym}
 use Rattle.std.proofs.lemmas.Bool.Decides.{nat_tests}
 use Rattle.std.specs.Prelude.{◌==◌}
-use Rattle.swarm_model.specs.History.{replay}
 use Rattle.swarm_objects.proofs.RowChanges.{row_at-with_row}
 use Rattle.swarm_objects.proofs.RowLemmas.{IsBelow-map}
 use Rattle.swarm_objects.specs.ChangeLists.{Makes, apply_changes}

@@ -1,82 +1,136 @@
 -- What a tick leaves of the spans.
-use Rattle.std.proofs.Common.{◌≡◌, ◌∙◌, ◌+◌, ◌⊎◌, ℕ, Bool, true, false, List, inl, inr, ap, refl, subst, sym}
-use Rattle.std.specs.Prelude.{not}
+use Rattle.std.proofs.Common.{◌≡◌, ◌∙◌, ◌+◌, ◌≤◌, ℕ, Bool, true, false, List, None, Option, Some, ap, arith, inl, inr, refl, subst, sym}
+use Rattle.std.proofs.lemmas.Bool.Decides.{nat_tests}
+use Rattle.std.specs.Prelude.{is_some, not}
+use Rattle.swarm_agent.specs.Times.{TimesLaw}
 use Rattle.swarm_model.specs.Calls.{answered, ticked}
 use Rattle.swarm_model.specs.History.{IsLegal, replay, step}
+use Rattle.swarm_objects.specs.Agents.Messages.{due_set, next_message, sent_of}
 use Rattle.swarm_objects.specs.Limits.{is_tick}
+use Rattle.swarm_objects.specs.Nodes.Sessions.{is_before_deadline, is_session_live}
 use Rattle.swarm_objects.specs.Refusals.{refuse, unless}
+use Rattle.swarm_objects.specs.Rows.{Has, agent_node, row_at, sent_node, session_node}
 use Rattle.swarm_objects.specs.Usable.{IsUsable}
 use Rattle.swarm_objects.specs.World.{Tables, World}
+use Rattle.swarm_objects.specs.declared.agents.NodeAgent.{NodeAgent}
 use Rattle.swarm_objects.specs.declared.calls.Call.TheVariants as call
-use Rattle.swarm_objects.specs.declared.calls.Call.{Call}
 use Rattle.swarm_objects.specs.declared.calls.Entry.{Entry}
 use Rattle.swarm_objects.specs.declared.calls.What.TheVariants as what
+use Rattle.swarm_objects.specs.declared.messages.NodeSent.{NodeSent}
 use Rattle.swarm_objects.specs.declared.replies.Refusal.TheVariants as refusal
 use Rattle.swarm_objects.specs.declared.replies.Reply.TheVariants as reply
+use Rattle.swarm_objects.specs.declared.sessions.NodeSession.{NodeSession}
 use Rattle.swarm_sched.proofs.KnownAlike.{knows_alike}
 use Rattle.swarm_sched.specs.Inside.KnownNodes.{KnowsNodes}
 use Rattle.swarm_spans.specs.Services.Touches.{ServiceTimeLaw}
-use Rattle.swarm_spans.specs.Spans.{full}
+use Rattle.swarm_spans.specs.Spans.{Covers, full}
 use Rattle.swarm_spans.specs.TasksCovered.{TimeLaw, at_time}
-use Rattle.swarm_world.proofs.Entering.{are_usable}
+use Rattle.swarm_spans.specs.declared.span.Span.{Span}
+use Rattle.swarm_world.proofs.AgentsKept.{shows}
+use Rattle.swarm_world.proofs.AgentsSeen.{seen-covered, world-covered}
+use Rattle.swarm_world.proofs.AgentsShown.{wants-both, wants-parts}
 use Rattle.swarm_world.proofs.Marked.{agents_full}
-use Rattle.swarm_world.proofs.Recorded.{tables_are, usable_rows}
+use Rattle.swarm_world.proofs.Recorded.{tables_are}
+use Rattle.swarm_world.specs.Inside.Looks.{AreSpanned, is_told, wants_message}
 use Rattle.swarm_world.specs.Inside.Marks.{AreMarked, IsAfterCall, IsMarked}
-use Rattle.swarm_world.specs.Inside.Parts.{HasHistory, StandsFor}
+use Rattle.swarm_world.specs.Inside.Parts.{HasHistory, HasParts, StandsFor}
 use Rattle.swarm_world.specs.Inside.Records.{tables_of}
+use Rattle.swarm_world.specs.Inside.Spanned.{CoversAgents}
+use Rattle.swarm_world.specs.declared.agent_spans.AgentSpans.{AgentSpans}
 use Rattle.swarm_world.specs.declared.marks.Marks.{Marks}
 use Rattle.swarm_world.specs.declared.parts.Parts.{Parts}
 
 -- the spans over the rows
-pub timed : (before after : Marks) → TimeLaw before.tasks after.tasks → ServiceTimeLaw before.services after.services
-    → after.nodes ≡ before.nodes → (t : Tables) (clock : ℕ) → IsUsable t → AreMarked before t
+pub timed : (before after : Marks) (t : Tables) → IsUsable t → TimeLaw t before.tasks after.tasks
+    → ServiceTimeLaw t before.services after.services → after.nodes ≡ before.nodes → (clock : ℕ) → AreMarked before t
     → AreMarked after (at_time clock t)
-timed before after tasks services nodes t clock usable marked = record {
-  tasks = tasks t clock usable marked.tasks;
-  services = services t clock usable marked.services;
+timed before after t usable tasks services nodes clock marked = record {
+  tasks = tasks clock marked.tasks;
+  services = services clock marked.services;
   nodes = knows_alike t (at_time clock t) after.nodes refl refl (subst (KnowsNodes t) (sym nodes) marked.nodes);
 }
 
--- the tables after a tick, of whatever length
-ticked-tables : (w : World) (ms : ℕ) (c : Bool) → is_tick ms ≡ c
-    → (clock : ℕ) × ((step w (what.Call (call.Tick ms))).after.tables ≡ at_time clock w.tables)
-ticked-tables w ms c is = (at c, ap (λ b. (answered w (unless (refuse (not b) (refusal.BadTick ms)) (reply.Ticked, ticked w ms))).after.tables) is ∙ go c)
+-- the world after a tick, of whatever length
+record IsLater (w v : World) : Type 0 where
+  clock : ℕ
+  rises : w.tables.clock ≤ clock
+  tables : v.tables ≡ at_time clock w.tables
+  sent : v.sent ≡ w.sent
+  agents : v.agents ≡ w.agents
+
+later-itself : (w : World) → IsLater w w
+later-itself w = record { clock = w.tables.clock; rises = omega arith; tables = refl; sent = refl; agents = refl }
+
+later-ticked : (w : World) (ms : ℕ) (c : Bool) → is_tick ms ≡ c → IsLater w (step w (what.Call (call.Tick ms))).after
+later-ticked w ms c is =
+    subst (λ b. IsLater w (answered w (unless (refuse (not b) (refusal.BadTick ms)) (reply.Ticked, ticked w ms))).after)
+    (sym is) (go c)
   where
-    at : Bool → ℕ
-    at true = w.tables.clock + ms
-    at false = w.tables.clock
+    go : (b : Bool) → IsLater w (answered w (unless (refuse (not b) (refusal.BadTick ms)) (reply.Ticked, ticked w ms))).after
+    go true = record { clock = w.tables.clock + ms; rises = omega arith; tables = refl; sent = refl; agents = refl }
+    go false = record { clock = w.tables.clock; rises = omega arith; tables = refl; sent = refl; agents = refl }
 
-    go : (b : Bool) → (answered w (unless (refuse (not b) (refusal.BadTick ms)) (reply.Ticked, ticked w ms))).after.tables
-        ≡ at_time (at b) w.tables
-    go true = refl
-    go false = refl
+-- No message becomes due as time goes by.
 
-pub tick_marked : (m n : Marks) (ms : ℕ)
-    → ((t : Tables) (clock : ℕ) → IsUsable t → AreMarked m t → AreMarked n (at_time clock t)) → n.agents.duties ≡ full
-    → n.agents.tells ≡ full → (h : List Entry) (p q : Parts) → IsLegal h → StandsFor p (replay h) → IsMarked m p
-    → HasHistory q → IsAfterCall h (call.Tick ms) q → IsMarked n q
-tick_marked m n ms law duties tells h p q legal stands marked is after = record {
-  rows = elim after [ inl done ↦ rows (ticked-tables w ms (is_tick ms) refl) done | inr same ↦ still same ];
-  agents = agents_full q n.agents duties tells is;
-}
+still-live : (before after : ℕ) (o : Option NodeSession) → before ≤ after → is_before_deadline after o ≡ true
+    → is_before_deadline before o ≡ true
+still-live before after None le live = live
+still-live before after (Some s) le live = grind (arith, nat_tests, le, live)
+
+still-wanted : (w v : World) (clock : ℕ) (a : NodeAgent) → v.tables ≡ at_time clock w.tables → w.tables.clock ≤ clock
+    → v.sent ≡ w.sent → wants_message v a ≡ true → wants_message w a ≡ true
+still-wanted w v clock a tables le sent wants =
+    let is = wants-parts v a wants in
+    let live : is_before_deadline clock (row_at session_node a.node w.tables.sessions) ≡ true =
+    subst (λ (t : Tables). is_session_live t a.node ≡ true) tables is.1 in
+    wants-both w a is.0 (still-live w.tables.clock clock (row_at session_node a.node w.tables.sessions) le live) (told is.2)
+  where
+    told : is_told v a.node ≡ true → is_told w a.node ≡ true
+    told some =
+        subst (λ (t : Tables). is_some (next_message (sent_of w a.node) (due_set t a.node)) ≡ true) tables
+        (subst (λ (rows : List NodeSent). is_some (next_message (row_at sent_node a.node rows) (due_set v.tables a.node)) ≡ true) sent some)
+
+-- What time leaves of the agents' spans: each agent may have a duty, and none other wants a message.
+
+agents-timed : (times : TimesLaw) (q : Parts) (w v : World) (tells : Span) → HasHistory q → HasParts q v → IsLater w v
+    → Covers agent_node (wants_message w) tells w.agents → CoversAgents q (record { duties = full; tells = tells })
+agents-timed times q w v tells is has later covers =
+    let all : AgentSpans = record { duties = full; tells = full } in
+    let every = world-covered times (tables_of q.records) q.sent q.agents v all (shows q v has) (agents_full q all refl refl is) in
+    seen-covered times (tables_of q.records) q.sent q.agents v (record { duties = full; tells = tells }) (shows q v has)
+    (record {
+      duties = every.duties;
+      tells = record {
+        has = λ a there wants.
+            covers.has a (subst (λ (rows : List NodeAgent). Has rows a) later.agents there)
+            (still-wanted w v later.clock a later.tables later.rises later.sent wants);
+      };
+    })
+
+pub tick_marked : (times : TimesLaw) (m n : Marks) (ms : ℕ) (p : Parts)
+    → ((clock : ℕ) → AreMarked m (tables_of p.records) → AreMarked n (at_time clock (tables_of p.records)))
+    → n.agents.duties ≡ full → n.agents.tells ≡ m.agents.tells → (h : List Entry) (q : Parts) → IsLegal h
+    → StandsFor p (replay h) → IsMarked m p → HasHistory q → IsAfterCall h (call.Tick ms) q → IsMarked n q
+tick_marked times m n ms p law duties tells h q legal stands marked is after =
+    elim after [
+      | inl done ↦ later (step w (what.Call (call.Tick ms))).after (later-ticked w ms (is_tick ms) refl) done
+      | inr same ↦ later w (later-itself w) same
+    ]
   where
     w : World
     w = replay h
 
-    usable : IsUsable (tables_of p.records)
-    usable = usable_rows p.records (are_usable p (record { history = h; legal = legal; stands = stands }))
+    covers : AreSpanned w m.agents w.agents
+    covers = world-covered times (tables_of p.records) p.sent p.agents w m.agents (shows p w stands.has) marked.agents
 
-    rows : (clock : ℕ) × ((step w (what.Call (call.Tick ms))).after.tables ≡ at_time clock w.tables)
-        → StandsFor q (step w (what.Call (call.Tick ms))).after → AreMarked n (tables_of q.records)
-    rows at done =
-        subst (AreMarked n)
-        (sym (tables_are q.records (step w (what.Call (call.Tick ms))).after done.has.records
-        ∙ at.1
-        ∙ ap (at_time at.0) (sym (tables_are p.records w stands.has.records))))
-        (law (tables_of p.records) at.0 usable marked.rows)
-
-    still : StandsFor q w → AreMarked n (tables_of q.records)
-    still same =
-        subst (AreMarked n)
-        (sym (tables_are q.records w same.has.records ∙ sym (tables_are p.records w stands.has.records)))
-        (law (tables_of p.records) (tables_of p.records).clock usable marked.rows)
+    later : (v : World) → IsLater w v → StandsFor q v → IsMarked n q
+    later v is-later done = record {
+      rows =
+          subst (AreMarked n)
+          (sym (tables_are q.records v done.has.records ∙ is-later.tables
+          ∙ ap (at_time is-later.clock) (sym (tables_are p.records w stands.has.records))))
+          (law is-later.clock marked.rows);
+      agents =
+          subst (CoversAgents q) (λ i. record { duties = sym duties i; tells = sym tells i })
+          (agents-timed times q w v m.agents.tells is done.has is-later covers.tells);
+    }

@@ -1,6 +1,8 @@
 // The first duty of the agents' loop, agent by agent. It takes no memory.
-ghost use Rattle.std.specs.Prelude.{◌≡◌, ◌++◌, flat_map, option_to_list, true};
+ghost use Rattle.std.specs.Prelude.{◌≡◌, ◌++◌, find, flat_map, option_to_list, true};
+ghost use Rattle.std.specs.Option.{option_map};
 ghost use Rattle.swarm_agent.specs.Agent.{at_node};
+ghost use Rattle.swarm_agent.specs.Times.{seen_agent};
 ghost use Rattle.swarm_objects.specs.Loops.Agents.{agent_duties, duties_on, has_step, inbox_duties, is_beat_due, is_forgotten, is_mode_on, report_duties, session_duties};
 ghost use Rattle.swarm_objects.specs.Loops.Words.{duty_where};
 ghost use Rattle.swarm_objects.specs.Nodes.Sessions.{session_of};
@@ -263,7 +265,27 @@ fn agent_first(
     }
 }
 
+// The first agent in the span, with its node.
+#[tactic(auto, using(crate::proofs::NextAgents::agents))]
+fn next_agent_in<'a>(agents: &'a Agents, span: &Span) -> Option<(&'a Id, &'a Agent)>
+    requires { RisesFrom agent_node 0 agents.now }
+    ensures { option_map (λ p. seen_agent (at_node p.0.now p.1.now)) result ≡ find (λ a. is_in span.now a.node) agents.now }
+{
+    let mut after = span.after;
+    while after < span.high {
+        let Some((node, agent)) = agents.next(span.skip(after)) else {
+            return None;
+        };
+        if span.has(*node) {
+            return Some((node, agent));
+        }
+        after = *node;
+    }
+    None
+}
+
 /// The first duty of the agents' loop, where the spans have each node whose agent has one. Nodes before it leave them.
+#[tactic(auto, using(crate::proofs::AsksIn::asks_steps))]
 pub fn agents_first_in(
     records: &Records,
     sent: &Sents,
@@ -278,13 +300,14 @@ pub fn agents_first_in(
         result ≡ first_of (flat_map (agent_duties w) agents.now) }
     ensures covers { AreSpanned (looked_at (tables_of records.now) sent.now) spans.new agents.now }
 {
+    if spans.duties.is_over() {
+        return None;
+    }
     times_that_no_step_looks_at();
-    for (node, agent) in agents.iter() {
-        if spans.duties.has(*node) {
-            match agent_first(records, sent, *node, agent, &mut spans.tells) {
-                Some(duty) => return Some(duty),
-                None => spans.duties.pass(*node),
-            }
+    while let Some((node, agent)) = next_agent_in(agents, &spans.duties) {
+        match agent_first(records, sent, *node, agent, &mut spans.tells) {
+            Some(duty) => return Some(duty),
+            None => spans.duties.pass(*node),
         }
     }
     *spans = AgentSpans::empty();

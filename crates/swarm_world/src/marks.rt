@@ -302,19 +302,22 @@ impl Marks {
     {
         self.pass_waiting(records);
         self.nodes.forget_changed(records, changes);
-        self.tasks = self.tasks.touched(records, changes);
-        self.services = self.services.touched(records, changes);
+        self.tasks.touch(records, changes);
+        self.services.touch(records, changes);
     }
 
-    /// With what may have a duty as time goes by.
-    pub fn touch_time(&mut self)
-        ensures rows { (t : Tables) (clock : ℕ) → IsUsable t → AreMarked self.old t → AreMarked self.new (at_time clock t) }
+    /// With what may have a duty as time goes by. No message becomes due by that: what a node is told doesn't hang on the
+    /// time, and a session only ends.
+    pub fn touch_time(&mut self, records: &Records)
+        requires { IsUsable (tables_of records.now) }
+        ensures rows { let t = tables_of records.now in
+            (clock : ℕ) → AreMarked self.old t → AreMarked self.new (at_time clock t) }
         ensures duties { self.new.agents.duties ≡ full }
-        ensures tells { self.new.agents.tells ≡ full }
+        ensures tells { self.new.agents.tells ≡ self.old.agents.tells }
     {
-        self.tasks = self.tasks.with_time();
-        self.services = self.services.with_time();
-        self.agents = AgentSpans::full();
+        self.tasks = self.tasks.with_time(records);
+        self.services = self.services.with_time(records);
+        self.agents.duties = Span::full();
     }
 
     // With services that come from this id on. Nothing that is remembered of nodes changes, and nothing that agents owe.
@@ -358,11 +361,13 @@ impl Marks {
 
     /// With what the call may touch of the world that these parts are, whether it changes something or not.
     pub fn touch_call(&mut self, parts: &Parts, call: &Call)
+        requires { HasHistory parts.now }
         ensures { (h : Seq Entry) (q : Whole) → IsLegal h → StandsFor parts.now (replay h) → IsMarked self.old parts.now →
             HasHistory q → IsAfterCall h call.now q → IsMarked self.new q }
     {
+        times_that_no_step_looks_at();
         match call {
-            Call::Tick(_) => self.touch_time(),
+            Call::Tick(_) => self.touch_time(&parts.records),
             Call::Txn(ops) => self.touch_ops(parts, ops.as_slice()),
             // these read, or are about watchers
             Call::View(_) | Call::Settle(_) | Call::WatchPoll(_) | Call::WatchFinish(_) => {}

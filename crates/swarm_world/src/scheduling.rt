@@ -20,7 +20,10 @@ pub fn first_scheduled<R: Rows>(rows: &R, known: &mut KnownNodes, span: &mut Spa
     ensures knows { KnowsNodes (R.tables rows.now) known.new }
     ensures covers { CoversTasks schedule (R.tables rows.now) span.new }
 {
-    while let Some(task) = next_task_in(rows, *span) {
+    if span.is_over() {
+        return None;
+    }
+    while let Some(task) = next_task_in(rows, span) {
         if let Some(duty) = schedule(rows, known, task) {
             return Some(duty);
         }

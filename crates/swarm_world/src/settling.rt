@@ -6,12 +6,17 @@ ghost use Rattle.swarm_objects.specs.Duties.{first_duty};
 ghost use Rattle.swarm_objects.specs.Kinds.{roles};
 ghost use Rattle.swarm_objects.specs.declared.calls.Call.TheVariants as call;
 ghost use Rattle.swarm_objects.specs.declared.calls.Entry.{Entry};
+ghost use Rattle.swarm_spans.specs.Lines.{to_wait};
+ghost use Rattle.swarm_spans.specs.Spans.{CoversTasks};
 ghost use Rattle.swarm_world.specs.Inside.Marks.{IsMarked};
 ghost use Rattle.swarm_world.specs.Inside.Parts.{Answers, HasHistory, StandsFor};
+ghost use Rattle.swarm_world.specs.Inside.Records.{tables_of};
 
 use crate::marks::Marks;
 use crate::parts::Parts;
 use swarm_objects::{Duty, Refusal, Reply, Role, Settle};
+use swarm_settle::settle_by;
+use swarm_spans::Span;
 
 impl Marks {
     /// The first duty of the first of these control loops that has one.
@@ -40,20 +45,22 @@ impl Marks {
         ensures marks { IsMarked self.new parts.now }
     {
         let first = self.find_among(parts, &Role::ALL);
-        parts.settled_by(first)
+        parts.settled_by(first, self.tasks.to_wait)
     }
 }
 
 impl Parts {
-    /// What the settle test answers where this is the first duty of all control loops, or there is none.
-    pub fn settled_by(&self, first: Option<Duty>) -> Settle
+    /// What the settle test answers where this is the first duty of all control loops, or there is none. The span has each
+    /// task that waits to be raised.
+    pub fn settled_by(&self, first: Option<Duty>, waiting: Span) -> Settle
         requires at { HasHistory self.now }
+        requires waiting { CoversTasks to_wait (tables_of self.now.records) waiting }
         ensures { (h : Seq Entry) → StandsFor self.now (replay h) → first ≡ first_duty (replay h) roles →
             result ≡ settle_answer (replay h) }
     {
         match first {
             Some(duty) => Settle::Busy(duty),
-            None => swarm_settle::settle(&self.records, &self.records.sessions, &self.agents),
+            None => settle_by(&self.records, &self.records.sessions, &self.agents, waiting),
         }
     }
 

@@ -26,8 +26,8 @@ use turn_cell::Counted;
 pub struct World {
     parts: Parts,
     history: Vec<Entry>,
-    // where a duty may be: no part of what contracts see
-    marks: Marks,
+    // where a duty may be: no part of what contracts see, and large, so that the world itself is moved lightly
+    marks: Box<Marks>,
     // the duty that the last look named, where nothing came since
     known: Option<Duty>,
 }
@@ -55,10 +55,13 @@ impl World {
         let Ok(parts) = Parts::new(alloc) else {
             return Err(NoMemory);
         };
+        let Ok(marks) = Box::new(alloc, Marks::new(alloc)) else {
+            return Err(NoMemory);
+        };
         Ok(World {
             parts,
             history,
-            marks: Marks::new(alloc),
+            marks,
             known: None,
         })
     }
@@ -148,7 +151,8 @@ impl World {
         if count >= MOST_ENTRIES {
             return Turn::Full(count);
         }
-        let Some(duty) = self.marks.find_unless(self.known, &self.parts, role) else {
+        let marks = &mut *self.marks;
+        let Some(duty) = marks.find_unless(self.known, &self.parts, role) else {
             return Turn::Idle;
         };
         // an entry and Halt
@@ -156,7 +160,7 @@ impl World {
             return Turn::NoMemory;
         };
         self.known = None;
-        let Ok(()) = self.parts.take(&mut self.marks, count + 1, role, duty) else {
+        let Ok(()) = self.parts.take(marks, count + 1, role, duty) else {
             return Turn::NoMemory;
         };
         let entry = Entry {
@@ -187,9 +191,10 @@ impl World {
         ensures answer { result ≡ settle_answer (replay self.old) }
         ensures lawful { IsLawful self.new }
     {
-        let first = self.marks.find_among(&self.parts, &Role::ALL);
+        let marks = &mut *self.marks;
+        let first = marks.find_among(&self.parts, &Role::ALL);
         self.known = first;
-        self.parts.settled_by(first)
+        self.parts.settled_by(first, marks.tasks.to_wait)
     }
 
     /// All entries, in order.

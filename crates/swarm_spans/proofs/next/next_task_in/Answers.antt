@@ -3,14 +3,14 @@ use Rattle.swarm_spans.proofs.next.next_task_in.Goals as goal
 
 pub returns-in_default : goal.returns-in_default
 returns-in_default g c =
-    no_task (g.R.Rows.tables c.args.rows.now) c.args.span c.loop-after.after c.skip.result c.loop-after.invariant
+    no_task (g.R.Rows.tables c.args.rows.now) c.args.span.now c.loop-after.after c.skip.result c.loop-after.invariant
     c.skip.ensures.none c.in_default.ensures
 
 pub returns-then-has : goal.returns-then-has
 returns-then-has g c =
-    task_found (g.R.Rows.tables c.args.rows.now) c.args.span c.loop-after.after c.skip.result c.in-Some.task.now c.requires
+    task_found (g.R.Rows.tables c.args.rows.now) c.args.span.now c.loop-after.after c.skip.result c.in-Some.task.now c.requires
     c.loop-after.invariant c.skip.ensures.none c.in-Some.ensures c.if-has.ensures
 
 pub returns : goal.returns
 returns g c =
-    no_task_more (g.R.Rows.tables c.args.rows.now) c.args.span c.loop-after.after c.loop-after.invariant c.loop-after-test.false
+    no_task_more (g.R.Rows.tables c.args.rows.now) c.args.span.now c.loop-after.after c.loop-after.invariant c.loop-after-test.false

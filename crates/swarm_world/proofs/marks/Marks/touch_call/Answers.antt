@@ -1,14 +1,19 @@
 use Rattle.std.proofs.Common.{subst, sym}
 use Rattle.swarm_objects.specs.declared.calls.Call.TheVariants as call
+use Rattle.swarm_world.proofs.Entering.{are_usable}
+use Rattle.swarm_world.proofs.Recorded.{usable_rows}
 use Rattle.swarm_world.proofs.Ticking.{tick_marked}
 use Rattle.swarm_world.proofs.marks.Marks.touch_call.Goals as goal
 use Rattle.swarm_world.specs.Inside.Marks.{IsAfterCall}
 
+pub touch_time-requires : goal.touch_time-requires
+touch_time-requires c = usable_rows c.args.parts.now.records (are_usable c.args.parts.now c.requires)
+
 pub returns-in-Tick : goal.returns-in-Tick
 returns-in-Tick c = λ h q legal stands marked is after.
-    tick_marked c.args.self.now c.touch_time.new.self c.in-Tick.field-0 c.touch_time.ensures.rows
-    c.touch_time.ensures.duties c.touch_time.ensures.tells h c.args.parts.now q legal stands marked is
-    (subst (λ call. IsAfterCall h call q) c.in-Tick.is after)
+    tick_marked c.times_that_no_step_looks_at.ensures c.args.self.now c.touch_time.new.self c.in-Tick.field-0
+    c.args.parts.now c.touch_time.ensures.rows c.touch_time.ensures.duties c.touch_time.ensures.tells h q legal stands
+    marked is (subst (λ call. IsAfterCall h call q) c.in-Tick.is after)
 
 pub returns-in-Txn : goal.returns-in-Txn
 returns-in-Txn c = λ h q legal stands marked is after.

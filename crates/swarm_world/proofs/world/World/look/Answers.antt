@@ -20,6 +20,7 @@ settled_by-requires c = record {
     legal = c.self.invariant.legal;
     stands = c.self.invariant.stands;
   };
+  waiting = c.find_among-first.ensures.marks.rows.tasks.to_wait;
 }
 
 pub invariant_of-self : goal.invariant_of-self

@@ -6,6 +6,7 @@ use Rattle.swarm_objects.specs.declared.calls.Entry.{Entry}
 use Rattle.swarm_world.proofs.Entering.{are_usable, due_of_first, full, role_of_first, turning}
 use Rattle.swarm_world.proofs.Lawful.{lawful}
 use Rattle.swarm_world.proofs.Recorded.{usable_rows}
+use Rattle.swarm_world.specs.Inside.Marks.{IsMarked}
 use Rattle.swarm_world.specs.Inside.Parts.{IsAt, StandsFor}
 use Rattle.swarm_world.specs.Work.{duty_by}
 use Rattle.swarm_world.proofs.world.World.turn.Goals as goal
@@ -26,7 +27,8 @@ find_unless-requires-clause-at c = record {
 }
 
 pub find_unless-requires-clause-marks : goal.find_unless-requires-clause-marks
-find_unless-requires-clause-marks c = c.self.invariant.marks
+find_unless-requires-clause-marks c =
+    subst (λ m. IsMarked m c.self.inside.parts) (sym c.deref_mut-marks.ensures.value) c.self.invariant.marks
 
 pub take-requires-clause-marks : goal.take-requires-clause-marks
 take-requires-clause-marks c = c.find_unless.ensures.marks.rows

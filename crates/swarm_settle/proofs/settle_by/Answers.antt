@@ -3,7 +3,7 @@ use Rattle.swarm_model.specs.Settle.{idle_answer}
 use Rattle.swarm_objects.specs.World.{World}
 use Rattle.swarm_settle.proofs.Promised.{promised}
 use Rattle.swarm_settle.proofs.Standing.{stands_answer}
-use Rattle.swarm_settle.proofs.settle.Goals as goal
+use Rattle.swarm_settle.proofs.settle_by.Goals as goal
 use Rattle.swarm_settle.specs.Standing.{StandFor}
 
 pub returns : goal.returns

@@ -1,0 +1,5 @@
+use Rattle.swarm_spans.specs.Grown.{AddingOnDown}
+use Rattle.swarm_spans.proofs.adding.tasks_on_down.Given as goal
+
+abbrev pub invariant-loop-node : goal.invariant-loop-node
+invariant-loop-node g l = AddingOnDown (g.R.Rows.tables l.rows) l.node-iterator l.span
