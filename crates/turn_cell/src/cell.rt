@@ -7,6 +7,7 @@ use crate::rule::ByTurns;
 use crate::view::View;
 use crate::work::{Counted, TurnWork};
 use atomic_table::{Seat, Table};
+use crossbeam_utils::sync::EventCount;
 use std::alloc::Global;
 use std::sync::Wait;
 use swarm_objects::{List, NoMemory};
@@ -25,6 +26,8 @@ const VALUE: usize = 0;
 #[derive(Drop)]
 pub struct TurnCell<V: Counted> {
     table: Table<Option<V>, View<V::Item>, u64, ByTurns<V>, Global>,
+    // who waits for a turn rests here, so that nobody is woken where nobody waits
+    resting: EventCount,
     ghost shape: { (table.shared.table_id.words ≡ 3) × (table.shared.table_id.slots ≡ 1) × (0 < table.shared.key) },
 }
 
@@ -53,7 +56,10 @@ impl<V: Counted + Drop> TurnCell<V> {
         let Ok((table, maker)) = Table::new(alloc, &[0, 0, 0], slots, &seats) else {
             return Err(NoMemory);
         };
-        let cell = TurnCell { table };
+        let cell = TurnCell {
+            table,
+            resting: EventCount::new(),
+        };
         let passes = cell.make_passes(alloc, maker, seats)?;
         Ok((cell, passes))
     }
@@ -132,7 +138,7 @@ impl<V: Counted> TurnCell<V> {
         let Some(last) = last else { unreachable!() };
         let Pass { mut seat, .. } = last;
         self.gather(&mut seat, passes);
-        let TurnCell { table } = self;
+        let TurnCell { table, .. } = self;
         let mut closed = table.close_with(seat);
         let value = closed.take(VALUE);
         closed.free();
@@ -180,12 +186,12 @@ impl<V: Counted> TurnCell<V> {
         ensures turn { Takes V.entries V.caller (own_account seat.old.me.0) seat.new.me }
     {
         for _ in rt.forever() {
-            let served = self.look(seat, ticket);
-            if served == ticket {
+            // announced before the test, so that no turn ends unnoticed between the test and the sleep
+            let key = self.resting.prepare_wait();
+            if self.look(seat, ticket) == ticket {
                 return;
             }
-            let low_half = (served & 0xffff_ffff) as u32;
-            self.table.shared.park(rt, SERVING, low_half);
+            key.wait(rt);
         }
         unreachable!()
     }
@@ -280,7 +286,7 @@ impl<V: Counted> TurnCell<V> {
         let grown = value.count() != before;
         self.put(seat, value);
         self.finish(seat, grown);
-        self.table.shared.wake_all(SERVING);
+        self.resting.notify_all();
         answer
     }
 
