@@ -12,6 +12,7 @@ pub mod Moved
 pub mod Narrowing
 pub mod NewNodes
 pub mod Nexts
+pub mod PutAnew
 pub mod Scheduling
 pub mod Services
 pub mod TasksCovered

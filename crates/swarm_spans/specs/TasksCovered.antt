@@ -1,11 +1,13 @@
 -- All spans of the lines over single tasks and over nodes, and what they cover.
 use Rattle.std.specs.Prelude.{List, Some, true, ℕ, ◌<◌, ◌≡◌, ◌≤◌, ◌⊎◌}
+use Rattle.swarm_objects.specs.ChangeLists.{apply_change}
 use Rattle.swarm_objects.specs.Loops.Scheduler.{schedule}
 use Rattle.swarm_objects.specs.Nodes.Words.{is_ready}
 use Rattle.swarm_objects.specs.Rows.{Has, node_id, row_at, service_id, session_node}
 use Rattle.swarm_objects.specs.Usable.{IsUsable}
 use Rattle.swarm_objects.specs.World.{Tables}
 use Rattle.swarm_objects.specs.declared.nodes.Node.{Node}
+use Rattle.swarm_objects.specs.declared.rows.Change.TheVariants as change
 use Rattle.swarm_objects.specs.declared.services.Service.{Service}
 use Rattle.swarm_objects.specs.declared.sessions.NodeSession.{NodeSession}
 use Rattle.swarm_objects.specs.declared.tasks.Task.{Task}
@@ -50,6 +52,12 @@ at_time clock t = record t { clock = clock }
 -- the ones cover what the others do of these tables, at any time
 abbrev pub TimeLaw : Tables → TaskSpans → TaskSpans → Type 0
 TimeLaw t spans wide = (clock : ℕ) → AreTasksCovered t spans → AreTasksCovered (at_time clock t) wide
+
+-- where the others cover these tables, the ones do what a row of this service makes of them, whatever is in it
+abbrev pub PutLaw : ℕ → Tables → TaskSpans → TaskSpans → Type 0
+PutLaw id t spans wide =
+    (s : Service) → s.id ≡ id → IsUsable (apply_change t (change.PutService s)) → AreTasksCovered t spans
+    → AreTasksCovered (apply_change t (change.PutService s)) wide
 
 -- with these services, of which some may be new
 abbrev pub with_services : ℕ → List Service → Tables → Tables

@@ -1,17 +1,17 @@
 // What a list of changes touches of the line over services with ports to be numbered.
 ghost use Rattle.std.specs.List.{list_all};
-ghost use Rattle.std.specs.Prelude.{◌≡◌};
+ghost use Rattle.std.specs.Prelude.{◌≡◌, IsTrue, []};
 ghost use Rattle.swarm_objects.specs.ChangeLists.{apply_changes};
 ghost use Rattle.swarm_objects.specs.Services.Ports.{holds_port, ports_of};
 ghost use Rattle.swarm_objects.specs.Usable.{IsUsable};
-ghost use Rattle.swarm_spans.specs.Services.Numbers.{frees_number, holds_all, holds_number};
+ghost use Rattle.swarm_spans.specs.Services.Numbers.{HoldsNone, KeepsNumbers, frees_number, holds_all, holds_number};
 ghost use Rattle.swarm_spans.specs.Services.Steps.{HasForPorts};
-ghost use Rattle.swarm_spans.specs.Services.Touches.{HasPorts};
+ghost use Rattle.swarm_spans.specs.Services.Touches.{HasPorts, HasRenumbered};
 ghost use Rattle.swarm_spans.specs.Spans.{IsWider};
 
 use crate::span::Span;
 use swarm_objects::ports::holds_port;
-use swarm_objects::{Change, Port, PortNumber, Rows, Service, ServiceSpec};
+use swarm_objects::{Change, Id, Port, PortNumber, Rows, Service, ServiceSpec};
 
 // The service holds the number, if there is one.
 fn holds_number(service: &Service, udp: bool, number: Option<u16>) -> bool
@@ -96,5 +96,53 @@ pub fn add_numbered<R: Rows>(rows: &R, changes: &[Change], span: &mut Span)
     while let Some((change, others)) = left.split_first() {
         touch_ports(rows, change, span);
         left = others;
+    }
+}
+
+// It is known that the previous specification, if there is one, names no port.
+fn names_none(previous: &Option<ServiceSpec>) -> bool
+    ensures { IsTrue result → ports_of previous.now ≡ [] }
+{
+    match previous {
+        Some(spec) => spec.ports.as_slice().is_empty(),
+        None => true,
+    }
+}
+
+// It is known that the service holds no number: it names no port, and none was given.
+#[tactic(auto, using(crate::proofs::Services::Numbers::none_steps))]
+fn holds_none(service: &Service) -> bool
+    ensures { IsTrue result → HoldsNone service.now }
+{
+    if !service.spec.ports.as_slice().is_empty() {
+        return false;
+    }
+    if !names_none(&service.previous) {
+        return false;
+    }
+    service.numbers.as_slice().is_empty()
+}
+
+// It is known that no row of this service sets a number free.
+#[tactic(auto, using(crate::proofs::Services::Numbers::none_steps))]
+fn frees_none<R: Rows>(rows: &R, service: Id) -> bool
+    ensures { IsTrue result → KeepsNumbers (R.tables rows.now) service }
+{
+    match rows.service(service) {
+        Some(old) => holds_none(old),
+        None => true,
+    }
+}
+
+/// The service, whose row is put anew, and every other one where a number may get free by that.
+#[tactic(auto, using(crate::proofs::Services::Numbers::anew_steps))]
+pub fn add_ports_of<R: Rows>(rows: &R, service: Id, span: &mut Span)
+    ensures wider { IsWider span.new span.old }
+    ensures has { HasRenumbered (R.tables rows.now) service span.new }
+{
+    if frees_none(rows, service) {
+        span.add(service);
+    } else {
+        span.join(Span::full());
     }
 }

@@ -11,13 +11,14 @@ ghost use Rattle.swarm_spans.specs.Services.Touches.{
   JoinsForNodes,
   NewServicesLaw,
   ServiceNodesLaw,
+  ServicePutLaw,
   ServiceTimeLaw,
   puts_node,
 };
 
-use crate::service_ports::add_numbered;
+use crate::service_ports::{add_numbered, add_ports_of};
 use crate::service_touches::{Places, Updates, add_shifted, has_open_run};
-use crate::service_trims::add_remains;
+use crate::service_trims::{add_remains, add_tasks_of};
 use crate::span::Span;
 use swarm_objects::walks::services;
 use swarm_objects::{Change, Id, Rows};
@@ -132,6 +133,23 @@ impl ServiceSpans {
         add_numbered(rows, changes, &mut self.ports);
         add_shifted::<Updates, R>(rows, changes, &mut self.updates);
         add_remains(rows, changes, &mut self.trims);
+    }
+
+    /// With what a service's row concerns that is put anew, whatever is in it: asked before it is put. That is the
+    /// service, its past tasks, and the ports of every other one where a number may get free.
+    pub fn touch_service<R: Rows>(&mut self, rows: &R, service: Id)
+        requires { IsUsable (R.tables rows.now) }
+        ensures stays { let t = R.tables rows.now in AreCovered t self.old → AreCovered t self.new }
+        ensures goes_on { ServicePutLaw service (R.tables rows.now) self.old self.new }
+    {
+        self.downs.add(service);
+        self.creates.add(service);
+        self.leaves.add(service);
+        self.comes.add(service);
+        self.job_creates.add(service);
+        add_ports_of(rows, service, &mut self.ports);
+        self.updates.add(service);
+        add_tasks_of(rows, service, &mut self.trims);
     }
 
     /// With what may have a duty as time goes by, and nothing else changes: updates that are under way, which wait for

@@ -55,9 +55,9 @@ fn add_beside<R: Rows>(rows: &R, one: &Task, span: &mut Span)
     }
 }
 
-// Each past task of the service.
+/// Each past task of the service.
 #[tactic(auto, using(crate::proofs::Services::Trimming::all_of_steps))]
-fn add_tasks_of<R: Rows>(rows: &R, service: Id, span: &mut Span)
+pub fn add_tasks_of<R: Rows>(rows: &R, service: Id, span: &mut Span)
     requires { IsUsable (R.tables rows.now) }
     ensures wider { IsWider span.new span.old }
     ensures has { HasTasksOf span.new (R.tables rows.now) service }

@@ -22,10 +22,17 @@ ghost use Rattle.swarm_spans.specs.Lines.{
 };
 ghost use Rattle.swarm_spans.specs.Moved.{moves};
 ghost use Rattle.swarm_spans.specs.Spans.{IsWider};
-ghost use Rattle.swarm_spans.specs.TasksCovered.{AreTasksCovered, NodesLaw, ServicesLaw, SessionLaw, TimeLaw};
+ghost use Rattle.swarm_spans.specs.TasksCovered.{
+  AreTasksCovered,
+  NodesLaw,
+  PutLaw,
+  ServicesLaw,
+  SessionLaw,
+  TimeLaw,
+};
 ghost use Rattle.swarm_spans.specs.Touched.{TouchesAll, TouchesAllReady};
 
-use crate::adding::tasks_on_down;
+use crate::adding::{add_tasks_of, tasks_on_down};
 use crate::blocking::{touch_blocked, touch_moved};
 use crate::holding::{touch_freed, touch_held};
 use crate::reads::{
@@ -166,6 +173,23 @@ impl TaskSpans {
         touch_alone::<ToWait, R>(rows, changes, &mut self.to_wait);
         touch_alone::<ToSchedule, R>(rows, changes, &mut self.to_schedule);
         touch_alone::<ToAllocate, R>(rows, changes, &mut self.to_allocate);
+    }
+
+    /// With what a service's row concerns that is put anew, whatever is in it: asked before it is put. That is the
+    /// service's tasks, and those that wait for port numbers.
+    pub fn touch_service<R: Rows>(&mut self, rows: &R, service: Id)
+        requires { IsUsable (R.tables rows.now) }
+        ensures stays { let t = R.tables rows.now in AreTasksCovered t self.old → AreTasksCovered t self.new }
+        ensures goes_on { PutLaw service (R.tables rows.now) self.old self.new }
+    {
+        let mut tasks = Span::empty();
+        add_tasks_of(rows, service, &mut tasks);
+        self.restarts.join(tasks);
+        self.raises.join(tasks);
+        self.olds.join(tasks);
+        self.addresses.join(tasks);
+        self.notes.join(tasks);
+        self.notes.join(self.to_allocate);
     }
 
     /// With what a node's session concerns, where it begins, is lengthened or ends. The node itself is a row: where it

@@ -1,7 +1,7 @@
 // The store.
 ghost use Rattle.std.specs.Prelude.{◌≡◌, ◌+◌, ◌<◌, ◌≤◌, IfOk, OnOk, [], count_by, filter, length, true};
 ghost use Rattle.std.specs.Option.{option_copied};
-ghost use Rattle.swarm_model.specs.Calls.Refusals.{node_by};
+ghost use Rattle.swarm_model.specs.Calls.Refusals.{node_by, service_by};
 ghost use Rattle.swarm_objects.specs.Bounds.{far_end};
 ghost use Rattle.swarm_objects.specs.Changes.{id_taken};
 ghost use Rattle.swarm_objects.specs.Limits.{is_tick};
@@ -155,6 +155,13 @@ impl Store {
         ensures { option_copied result ≡ node_by self.now.tables name.now }
     {
         self.state.node_named(name)
+    }
+
+    /// The service with this name.
+    pub fn service_named(&self, name: &Name) -> Option<&Service>
+        ensures { option_copied result ≡ service_by self.now.tables name.now }
+    {
+        self.state.service_named(name)
     }
 
     /// The service with this id.

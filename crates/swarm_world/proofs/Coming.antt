@@ -213,7 +213,7 @@ finish-stays w id (Some x) = record { tables = refl; sent = refl; agents = refl 
 
 -- The marks.
 
-covers-as : (t : Tables) (p q : Parts) (spans : AgentSpans) → tables_of q.records ≡ t → q.sent ≡ p.sent
+pub covers-as : (t : Tables) (p q : Parts) (spans : AgentSpans) → tables_of q.records ≡ t → q.sent ≡ p.sent
     → q.agents ≡ p.agents → AreSpanned (looked_at t p.sent) spans p.agents → CoversAgents q spans
 covers-as t p q spans tables sent agents covers =
     subst (λ (u : Tables). AreSpanned (looked_at u q.sent) spans q.agents) (sym tables)
@@ -228,7 +228,7 @@ pub record HasLeft (p q : Parts) (w v : World) : Type 0 where
 pub same-sent : (p q : Parts) (w v : World) → HasLeft p q w v → v.sent ≡ w.sent → q.sent ≡ p.sent
 same-sent p q w v has same = has.after.sent ∙ same ∙ sym has.before.sent
 
-same-agents : (p q : Parts) (w v : World) → HasLeft p q w v → v.agents ≡ w.agents → q.agents ≡ p.agents
+pub same-agents : (p q : Parts) (w v : World) → HasLeft p q w v → v.agents ≡ w.agents → q.agents ≡ p.agents
 same-agents p q w v has same = has.after.agents ∙ ap (map seen_agent) same ∙ sym has.before.agents
 
 stay-marked : (m : Marks) (p q : Parts) (w v : World) → HasLeft p q w v → StayAsTheyAre w v → IsMarked m p

@@ -32,6 +32,7 @@ pub mod Recorded
 pub mod RegisterMarked
 pub mod Registering
 pub mod RemoteCalls
+pub mod Renewing
 pub mod Reporting
 pub mod ReportsAlone
 pub mod RowsTouched

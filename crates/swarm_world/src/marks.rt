@@ -1,8 +1,9 @@
 // Where a duty of the control loops over the rows may be: for each line of duties the span of the rows that may have one.
-ghost use Rattle.std.specs.Prelude.{◌≡◌, ◌++◌, List as Seq, [], false, flat_map, ℕ};
+ghost use Rattle.std.specs.Prelude.{◌≡◌, ◌++◌, ◌∷◌, List as Seq, Option as Optional, [], false, flat_map, ℕ};
 ghost use Rattle.std.specs.List.{list_all};
 ghost use Rattle.swarm_model.specs.History.{IsLegal, replay};
 ghost use Rattle.swarm_objects.specs.declared.calls.Entry.{Entry};
+ghost use Rattle.swarm_objects.specs.declared.services.Draft.{Draft};
 ghost use Rattle.swarm_objects.specs.ChangeLists.{apply_changes};
 ghost use Rattle.swarm_objects.specs.Duties.{duties};
 ghost use Rattle.swarm_objects.specs.Effects.{is_agents, world_with};
@@ -35,7 +36,7 @@ use crate::records::Records;
 use crate::scheduling::first_scheduled;
 use std::alloc::Global;
 use swarm_agent::theorems::times_that_no_step_looks_at;
-use swarm_objects::{Call, Change, Duty, Id, Op, Role, Rows};
+use swarm_objects::{Call, Change, Duty, Id, Name, Op, Role, Rows};
 use swarm_sched::KnownNodes;
 use swarm_spans::{
     ServiceSpans, Span, TaskSpans, first_of_nodes, first_of_services, first_of_tasks, narrowed,
@@ -344,8 +345,22 @@ impl Marks {
         self.nodes.forget_all();
     }
 
-    // With what the operations may touch, whether they are done or not.
-    fn touch_ops(&mut self, parts: &Parts, ops: &[Op])
+    // With what the update of the service may touch, whether it is done or not: what concerns its row, if there is one.
+    // Nothing that is remembered of nodes changes, and nothing that agents owe.
+    fn touch_update(&mut self, parts: &Parts, name: &Name)
+        requires { HasHistory parts.now }
+        ensures { (asked : Optional ℕ) (draft : Draft) (h : Seq Entry) (q : Whole) → IsLegal h →
+            StandsFor parts.now (replay h) → IsMarked self.old parts.now → HasHistory q →
+            IsAfterCall h (Call.Txn (Op.UpdateService name.now asked draft ∷ [])) q → IsMarked self.new q }
+    {
+        if let Some(service) = parts.records.store.service_named(name) {
+            self.tasks.touch_service(&parts.records, service.id);
+            self.services.touch_service(&parts.records, service.id);
+        }
+    }
+
+    // With what these operations may touch, whether they are done or not: what comes, or everything.
+    fn touch_any(&mut self, parts: &Parts, ops: &[Op])
         ensures { (h : Seq Entry) (q : Whole) → IsLegal h → StandsFor parts.now (replay h) → IsMarked self.old parts.now →
             HasHistory q → IsAfterCall h (Call.Txn ops.now) q → IsMarked self.new q }
     {
@@ -357,6 +372,20 @@ impl Marks {
         } else {
             self.touch_all();
         }
+    }
+
+    // With what the operations may touch, whether they are done or not.
+    fn touch_ops(&mut self, parts: &Parts, ops: &[Op])
+        requires { HasHistory parts.now }
+        ensures { (h : Seq Entry) (q : Whole) → IsLegal h → StandsFor parts.now (replay h) → IsMarked self.old parts.now →
+            HasHistory q → IsAfterCall h (Call.Txn ops.now) q → IsMarked self.new q }
+    {
+        if let [op] = ops {
+            if let Op::UpdateService(name, _, _) = op {
+                return self.touch_update(parts, name);
+            }
+        }
+        self.touch_any(parts, ops)
     }
 
     /// With what the call may touch of the world that these parts are, whether it changes something or not.

@@ -24,9 +24,9 @@ use Rattle.swarm_spans.proofs.Made.{services-made}
 use Rattle.swarm_spans.proofs.Services.Spans.{each-full}
 use Rattle.swarm_spans.proofs.Services.Touching.{number-of, number-wider, touched-all, touching_next, wider_not, wider_one}
 use Rattle.swarm_spans.proofs.Services.Trimming.{wider_yet}
-use Rattle.swarm_spans.specs.Services.Numbers.{frees_number, holds_all, holds_number}
-use Rattle.swarm_spans.specs.Services.Steps.{HadFreePort, HasForPorts}
-use Rattle.swarm_spans.specs.Services.Touches.{HasNumbered, HasPorts, Touching}
+use Rattle.swarm_spans.specs.Services.Numbers.{HoldsNone, KeepsNumbers, frees_number, holds_all, holds_number}
+use Rattle.swarm_spans.specs.Services.Steps.{HadFreePort, HasForPorts, HasNumber}
+use Rattle.swarm_spans.specs.Services.Touches.{HasNumbered, HasPorts, HasRenumbered, Touching}
 use Rattle.swarm_spans.specs.Spans.{IsWider, full, is_in, with_id}
 use Rattle.swarm_spans.specs.declared.span.Span.{Span}
 
@@ -163,6 +163,47 @@ numbered t c s span one is free with-it = record {
 }
 
 pub ruleset change_steps = (wider_not, wider_one, frees, numbered)
+
+-- Any row of one service.
+
+pub holds_nothing : (s : Service) → s.spec.ports ≡ [] → ports_of s.previous ≡ [] → s.numbers ≡ [] → HoldsNone s
+holds_nothing s named previous given = record { named = named; previous = previous; given = given }
+
+pub none_held : (t : Tables) (id : ℕ) (a : Service) → Some a ≡ row_at service_id id t.services → HoldsNone a
+    → KeepsNumbers t id
+none_held t id a row holds = record {
+  none = λ s same.
+      ap (is_some_and (λ old. not (holds_all s old))) (ap (λ k. row_at service_id k t.services) same ∙ sym row) ∙ all s;
+}
+  where
+    all : (s : Service) → not (holds_all s a) ≡ false
+    all s =
+        let named = list_all (λ (p : Port). holds_number s p.udp p.number) in
+        let given = list_all (λ (m : PortNumber). holds_port m.udp m.number s) in
+        ap (λ ps. not (named ps && named (ports_of a.previous) && given a.numbers)) holds.named
+        ∙ ap (λ ps. not (named [] && named ps && given a.numbers)) holds.previous
+        ∙ ap (λ ns. not (named [] && named [] && given ns)) holds.given
+
+pub none_there : (t : Tables) (id : ℕ) → None ≡ row_at service_id id t.services → KeepsNumbers t id
+none_there t id row = record {
+  none = λ s same.
+      ap (is_some_and (λ old. not (holds_all s old))) (ap (λ k. row_at service_id k t.services) same ∙ sym row);
+}
+
+pub ruleset none_steps = (holds_nothing, none_held, none_there)
+
+pub all_renumbered : (t : Tables) (id : ℕ) (span : Span) → IsWider span full → HasRenumbered t id span
+all_renumbered t id span wide = record { has = inl wide }
+
+pub one_renumbered : (t : Tables) (id : ℕ) (span one : Span) → KeepsNumbers t id → one ≡ with_id span id
+    → HasRenumbered t id one
+one_renumbered t id span one keeps with-it = record {
+  has = inr (λ s same. record {
+    has = inr (keeps.none s same, subst (HasNumber one) (sym same) (number-of id span one with-it));
+  });
+}
+
+pub ruleset anew_steps = (wider_one, all_renumbered, one_renumbered)
 
 -- All changes.
 

@@ -2,6 +2,7 @@
 use Rattle.std.specs.List.{list_any}
 use Rattle.std.specs.Option.{option_map}
 use Rattle.std.specs.Prelude.{Bool, List, Some, false, true, ℕ, ◌≡◌, ◌⊎◌}
+use Rattle.swarm_objects.specs.ChangeLists.{apply_change}
 use Rattle.swarm_objects.specs.Loops.Allocator.{port_duties}
 use Rattle.swarm_objects.specs.Loops.Reaper.{is_past}
 use Rattle.swarm_objects.specs.Rows.{Has, row_at, service_id, task_id}
@@ -61,6 +62,10 @@ pub record HasTrimmed (t : Tables) (c : Change) (span : Span) : Type 0 where
 pub record HasNumbered (t : Tables) (s : Service) (span : Span) : Type 0 where
   pub has : ((frees_number t s ≡ true) × IsWider span full) ⊎ ((frees_number t s ≡ false) × HasNumber span s.id)
 
+-- so of each row with this id, whatever is in it
+pub record HasRenumbered (t : Tables) (id : ℕ) (span : Span) : Type 0 where
+  pub has : IsWider span full ⊎ ((s : Service) → s.id ≡ id → HasNumbered t s span)
+
 -- of the line over ports
 pub record HasPorts (t : Tables) (c : Change) (span : Span) : Type 0 where
   pub service : (s : Service) → c ≡ change.PutService s → HasNumbered t s span
@@ -114,6 +119,12 @@ pub record AddingUpdated (t : Tables) (left : List Service) (span : Span) : Type
 -- the ones cover what the others do of these tables, at any time
 abbrev pub ServiceTimeLaw : Tables → ServiceSpans → ServiceSpans → Type 0
 ServiceTimeLaw t spans wide = (clock : ℕ) → AreCovered t spans → AreCovered (at_time clock t) wide
+
+-- where the others cover these tables, the ones do what a row of this service makes of them, whatever is in it
+abbrev pub ServicePutLaw : ℕ → Tables → ServiceSpans → ServiceSpans → Type 0
+ServicePutLaw id t spans wide =
+    (s : Service) → s.id ≡ id → IsUsable (apply_change t (change.PutService s)) → AreCovered t spans
+    → AreCovered (apply_change t (change.PutService s)) wide
 
 -- the ones cover what the others do, where services come from this id on
 abbrev pub NewServicesLaw : ℕ → ServiceSpans → ServiceSpans → Type 0

@@ -1,17 +1,12 @@
-use Rattle.std.proofs.Common.{sym, ◌∙◌}
-use Rattle.swarm_world.proofs.Coming.{made_marked}
-use Rattle.swarm_world.proofs.NewNodes.{nodes_marked}
+use Rattle.std.proofs.Common.{[], ap, subst, ◌∙◌, ◌∷◌}
+use Rattle.swarm_objects.specs.declared.calls.Call.TheVariants as call
+use Rattle.swarm_world.proofs.Renewing.{only_one}
 use Rattle.swarm_world.proofs.marks.Marks.touch_ops.Goals as goal
+use Rattle.swarm_world.specs.Inside.Marks.{IsAfterCall}
 
-pub returns-then-make_services : goal.returns-then-make_services
-returns-then-make_services c =
-    made_marked c.args.self.now c.touch_services.new.self c.args.ops.now c.args.parts.now c.next_id-first.result
-    c.next_id-first.ensures (sym c.if-make_services.true ∙ c.make_services.ensures)
-    c.touch_services.ensures.tasks c.touch_services.ensures.services c.touch_services.ensures.agents
-    c.touch_services.ensures.nodes
-
-pub returns-then-make_nodes : goal.returns-then-make_nodes
-returns-then-make_nodes c =
-    nodes_marked c.args.self.now c.touch_nodes.new.self c.args.ops.now c.args.parts.now c.next_id-first.result
-    c.next_id-first.ensures (sym c.if-make_nodes.true ∙ c.make_nodes.ensures) c.touch_nodes.ensures.tasks
-    c.touch_nodes.ensures.services c.touch_nodes.ensures.agents c.touch_nodes.ensures.nodes
+pub returns-in-UpdateService : goal.returns-in-UpdateService
+returns-in-UpdateService c = λ h q legal stands marked is after.
+    c.touch_update.ensures c.in-UpdateService.field-1 c.in-UpdateService.field-2 h q legal stands marked is
+    (subst (λ ops. IsAfterCall h (call.Txn ops) q)
+    (only_one c.args.ops.now c.op-item.result c.in-len1.len_at_least c.in-len1.len_below c.op-item.is
+    ∙ ap (λ o. o ∷ []) c.in-UpdateService.is) after)
