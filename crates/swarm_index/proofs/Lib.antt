@@ -1,10 +1,13 @@
 pub mod ForStores
+pub mod InPage
 pub mod Indexing
 pub mod MarkLemmas
 pub mod Merging
 pub mod Nexts
+pub mod PageNext
+pub mod PageSteps
+pub mod Paged
 pub mod Places
 pub mod RowsAt
 pub mod Tables
 pub mod Trees
-pub mod Unboxed

@@ -5,6 +5,7 @@ mod boxes;
 mod indexed;
 pub mod keys;
 mod marks;
+mod pages;
 mod rows;
 mod spare;
 mod table;

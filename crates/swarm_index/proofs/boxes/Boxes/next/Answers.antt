@@ -1,12 +1,10 @@
-use Rattle.std.proofs.Common.{Some, ap, sym, ◌∙◌}
-use Rattle.std.specs.Option.{option_map}
-use Rattle.std.specs.declared.ops.Bound.TheVariants.{Excluded, Unbounded}
-use Rattle.swarm_index.proofs.Unboxed.{first_row}
-use Rattle.swarm_objects.specs.Rows.{first_of}
+use Rattle.std.proofs.Common.{arith}
+use Rattle.std.specs.Option.{option_copied}
+use Rattle.swarm_index.proofs.PageNext.{next_here, next_past}
 use Rattle.swarm_index.proofs.boxes.Boxes.next.Goals as goal
 
 pub returns-in-Some : goal.returns-in-Some
-returns-in-Some g c = ap Some c.deref.ensures ∙ ap (λ es. option_map (λ b. b.value) (option_map (λ e. e.1) (first_of es))) (sym c.in-Some.ensures.steps ∙ c.range.ensures.between tt) ∙ sym (first_row (Excluded c.args.after) Unbounded c.self.inside.map.entries c.args.self.now c.self.view_is)
+returns-in-Some g c = next_here c.self.inside.pages.entries c.args.self.now c.self.view_is c.self.invariant c.args.after c.page_of-key.result c.place_of-at.result (omega (arith, c.place_of-at.ensures)) (omega (arith, c.page_of-key.ensures, c.place_of-at.ensures)) c.in-Some.row.now c.in-Some.ensures
 
 pub returns-in-None : goal.returns-in-None
-returns-in-None g c = ap (λ es. option_map (λ b. b.value) (option_map (λ e. e.1) (first_of es))) (sym c.in-None.ensures.steps.0 ∙ c.range.ensures.between tt) ∙ sym (first_row (Excluded c.args.after) Unbounded c.self.inside.map.entries c.args.self.now c.self.view_is)
+returns-in-None g c = next_past c.self.inside.pages.entries c.args.self.now c.self.view_is c.self.invariant c.args.after c.page_of-key.result c.place_of-at.result (omega (arith, c.place_of-at.ensures)) (omega (arith, c.page_of-key.ensures, c.place_of-at.ensures)) (option_copied c.first_past.result) c.in-None.ensures c.first_past.ensures
