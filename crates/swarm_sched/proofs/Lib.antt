@@ -5,6 +5,7 @@ mod Classing
 mod Halving
 mod Knowing
 pub mod KnownAlike
+mod OneAnswer
 mod Preferring
 mod Scheduling
 mod Totalling

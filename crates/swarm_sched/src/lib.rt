@@ -1,6 +1,7 @@
 // The scheduler's duties over any rows: the first, and what each changes. What is remembered of nodes need not be found by scans again.
 #![tactic(auto)]
 
+mod alike;
 mod branches;
 mod changing;
 mod class_loads;
@@ -20,6 +21,7 @@ ghost use Rattle.swarm_sched.specs.Inside.Known.{Knows};
 ghost use Rattle.swarm_sched.specs.Inside.KnownNodes.{KnowsNodes};
 
 use crate::known::{KnownLoads, KnownTotals};
+pub use alike::{schedule_after, waits_alike};
 pub use changing::changes;
 pub use filters::Filters;
 pub use keys::{agrees, value_cmp};

@@ -2,11 +2,11 @@ use Rattle.swarm_objects.specs.Loops.Scheduler.{schedule}
 use Rattle.swarm_spans.proofs.Firsts.{less_tasks, task_duty}
 use Rattle.swarm_world.proofs.scheduling.first_scheduled.Goals as goal
 
-pub returns-in-Some-schedule-clause-first : goal.returns-in-Some-schedule-clause-first
-returns-in-Some-schedule-clause-first g c =
+pub returns-in-Some-schedule_after-clause-first : goal.returns-in-Some-schedule_after-clause-first
+returns-in-Some-schedule_after-clause-first g c =
     let t = g.R.Rows.tables c.args.rows.now in
-    task_duty (schedule t) t c.loop-task.span c.in-Some.task.now c.in-Some-schedule.duty c.loop-task.invariant.covers
-    c.in-Some.ensures c.in-Some-schedule.ensures.first
+    task_duty (schedule t) t c.loop-task.span c.in-Some.task.now c.in-Some-schedule_after.duty
+    c.loop-task.invariant.covers c.in-Some.ensures c.in-Some-schedule_after.ensures.first
 
 pub loop-task-smaller : goal.loop-task-smaller
 loop-task-smaller g c =
