@@ -1,15 +1,17 @@
 -- What is remembered of nodes: a slot that is filled or emptied, and what changes of rows leave true.
-use Rattle.std.proofs.Common.{◌≡◌, ◌∙◌, ◌∷◌, ◌<◌, ◌⊎◌, ℕ, Bool, List, None, Option, Some, [], ap, arith, cond, eqb, false, get_or, inl, inr, length, not, refl, replicate, set, subst, suc, sym, true, zero}
+use Rattle.std.proofs.Common.{◌≡◌, ◌∙◌, ◌∷◌, ◌<◌, ◌⊎◌, ℕ, Bool, List, None, Option, Some, [], ap, arith, cond, eqb, false, get_or, inl, inr, length, not, refl, replicate, set, subst, suc, sym, true, zero, fold, is_some}
 use Rattle.std.proofs.lemmas.Bool.Decides.{nat_tests}
 use Rattle.std.proofs.lemmas.List.{get_or-set_other, get_or-set_same, length-set}
 use Rattle.std.specs.Option.{option_eq}
-use Rattle.std.specs.Prelude.{IfSome, count_by, filter, sum_by, ◌%◌, ◌&&◌, ◌++◌}
+use Rattle.std.specs.Prelude.{IfSome, ◌+◌, count_by, filter, sum_by, ◌%◌, ◌&&◌, ◌++◌}
 use Rattle.swarm_objects.proofs.Placing.{here_is, load_is}
-use Rattle.swarm_objects.proofs.RowLemmas.{Has-append_cases, Has-filter_cases, Has-map_cases, row_at-Some}
+use Rattle.swarm_objects.proofs.RowLemmas.{Has-append_cases, Has-filter_cases, Has-from_row_at, Has-map_cases, row_at-Some, sum_by-change_row, sum_by-filter}
 use Rattle.swarm_objects.proofs.Tests.{both_are}
 use Rattle.swarm_objects.specs.ChangeLists.{apply_change, apply_changes}
+use Rattle.swarm_objects.specs.Nodes.BestNode.{load}
+use Rattle.swarm_objects.specs.Nodes.Filters.{here}
 use Rattle.swarm_objects.specs.Nodes.Holdings.{is_placed_on, task_cpu, task_mem, tasks_placed_on}
-use Rattle.swarm_objects.specs.Rows.{Has, drop_row, has_row, put_row, row_at, task_id}
+use Rattle.swarm_objects.specs.Rows.{Has, change_row, drop_row, has_row, put_row, row_at, task_id}
 use Rattle.swarm_objects.specs.Same.{same_number}
 use Rattle.swarm_objects.specs.Tasks.New.{with_task}
 use Rattle.swarm_objects.specs.Tasks.Words.{is_live, is_of, is_on, is_placed}
@@ -18,7 +20,8 @@ use Rattle.swarm_objects.specs.World.{Tables}
 use Rattle.swarm_objects.specs.declared.rows.Change.TheVariants as change
 use Rattle.swarm_objects.specs.declared.rows.Change.{Change}
 use Rattle.swarm_objects.specs.declared.tasks.Task.{Task}
-use Rattle.swarm_sched.specs.Inside.Known.{AreCounted, AreFewer, Forgets, ForgetsAll, ForgetsChange, Forgetting, Knows, if_of, recalled}
+use Rattle.swarm_sched.specs.Inside.Known.{AreCounted, AreFewer, AreMoved, Forgets, ForgetsAll, ForgetsChange, Forgetting, IsExchanged, Knows, adds, if_of, one_if, recalled}
+use Rattle.swarm_sched.specs.declared.known.Moved.{Moved}
 use Rattle.swarm_sched.specs.declared.known.NodeTotals.{NodeTotals}
 
 -- One slot.
@@ -321,6 +324,97 @@ counted-alike t u node k same are = (
     are.1.2 ∙ sym (load_is t node) ∙ ap (count_by is_live) (sym same) ∙ load_is u node,
   ),
 )
+
+-- What will be known of a node with one task in the place of another one.
+
+sum-put : (t : Tables) (x y : Task) (node : ℕ) (f : Task → ℕ) → IsUsable t → row_at task_id x.id t.tasks ≡ Some y →
+    sum_by f (filter (is_placed_on node) (put_row task_id x t.tasks)) + adds f node y
+    ≡ sum_by f (tasks_placed_on t node) + adds f node x
+sum-put t x y node f usable at =
+    let there = Has-from_row_at task_id x.id t.tasks y at in
+    let new = subst (λ (n : ℕ). sum_by (adds f node) (change_row task_id n (λ z. x) t.tasks) + adds f node y
+      ≡ sum_by (adds f node) t.tasks + adds f node x) there.1
+      (sum_by-change_row task_id (adds f node) 0 (λ z. x) t.tasks y usable.sound.ordered.tasks there.0) in
+    omega (arith, new, sum_by-filter f (is_placed_on node) (put_row task_id x t.tasks), sum_by-filter f (is_placed_on node) t.tasks)
+
+after-is : (after less count more before sum is : ℕ) → sum + less ≡ before + more → after + less ≡ count + more →
+    count ≡ before → sum ≡ is → after ≡ is
+after-is after less count more before sum is e f g h = omega (arith, e, f, g, h)
+
+counted-put : (t : Tables) (x y : Task) (k r : NodeTotals) → IsUsable t → row_at task_id x.id t.tasks ≡ Some y →
+    AreCounted t k.node k → IsExchanged k y x r → AreCounted (record t { tasks = put_row task_id x t.tasks }) k.node r
+counted-put t x y k r usable at are is =
+    let sums = λ (f : Task → ℕ). sum-put t x y k.node f usable at in
+    let own : Task → Bool = λ z. is_of k.service z && is_live z in (
+      after-is r.here (adds (one_if own) k.node y) k.here (adds (one_if own) k.node x)
+      (sum_by (one_if own) (tasks_placed_on t k.node)) (sum_by (one_if own) (tasks_placed_on u k.node))
+      (here u k.node k.service)
+      (sums (one_if own)) is.here (are.0 ∙ sym (here_is t k.node k.service)) (here_is u k.node k.service)
+      ∙ ap (here u k.node) (sym is.service),
+      (
+        omega (arith, sums task_cpu, is.cpu, are.1.0),
+        omega (arith, sums task_mem, is.mem, are.1.1),
+        after-is r.totals.load (adds (one_if is_live) k.node y) k.totals.load (adds (one_if is_live) k.node x)
+        (sum_by (one_if is_live) (tasks_placed_on t k.node)) (sum_by (one_if is_live) (tasks_placed_on u k.node))
+        (load u k.node)
+        (sums (one_if is_live)) is.load (are.1.2 ∙ sym (load_is t k.node)) (load_is u k.node),
+      ),
+    )
+  where
+    u : Tables
+    u = record t { tasks = put_row task_id x t.tasks }
+
+if-own : (node : ℕ) (o : Option NodeTotals) (k : NodeTotals) → Some k ≡ if_of node o → k.node ≡ node
+if-own node None k e = absurd cc
+if-own node (Some j) k e = go (eqb j.node node) refl e
+  where
+    go : (b : Bool) → eqb j.node node ≡ b → Some k ≡ cond b (Some j) None → k.node ≡ node
+    go true is same = let one : k ≡ j = cc in ap (λ (z : NodeTotals). z.node) one ∙ grind (arith, nat_tests, is)
+    go false is same = absurd cc
+
+exchanged_counted : (t : Tables) (all : List (Option NodeTotals)) (node : ℕ) (x y : Task) (k r : NodeTotals) →
+    IsUsable t → Knows t all → row_at task_id x.id t.tasks ≡ Some y → Some k ≡ recalled all node → IsExchanged k y x r →
+    AreCounted (apply_changes t (change.PutTask x ∷ [])) r.node r
+exchanged_counted t all node x y k r usable knows at held is =
+    subst (λ n. AreCounted (apply_changes t (change.PutTask x ∷ [])) n r) (sym is.node) (go (has_row task_id x.id t.tasks) (ap is_some at))
+  where
+    own : AreCounted t k.node k
+    own =
+        subst (λ n. AreCounted t n k) (sym (if-own node (get_or all (node % length all) None) k held))
+        (subst (λ o. IfSome o (AreCounted t node)) (sym held) (knows.each node))
+
+    go : (b : Bool) → b ≡ true → AreCounted (cond b (record t { tasks = put_row task_id x t.tasks }) (with_task t x)) k.node r
+    go true e = counted-put t x y k r usable at own is
+    go false e = absurd cc
+
+pub exchange_counts : (all : List (Option NodeTotals)) (node : ℕ) (x y : Task) (k : NodeTotals) (o : Option NodeTotals) →
+    Some k ≡ recalled all node → IfSome o (IsExchanged k y x) → (t : Tables) → IsUsable t → Knows t all →
+    row_at task_id x.id t.tasks ≡ Some y →
+    IfSome o (λ r. AreCounted (apply_changes t (change.PutTask x ∷ [])) r.node r)
+exchange_counts all node x y k None held is t usable knows at = tt
+exchange_counts all node x y k (Some r) held is t usable knows at =
+    exchanged_counted t all node x y k r usable knows at held is
+
+pub none_moved : (t : Tables) (m : Moved) → m.from ≡ None → m.to ≡ None → AreMoved t m
+none_moved t m from to = record {
+  from = subst (λ o. IfSome o (λ k. AreCounted t k.node k)) (sym from) tt;
+  to = subst (λ o. IfSome o (λ k. AreCounted t k.node k)) (sym to) tt;
+}
+
+pub one_moved : (t : Tables) (cs : List Change) (x y : Task) (m : Moved) → cs ≡ change.PutTask x ∷ [] →
+    IfSome m.from (λ k. AreCounted (apply_changes t (change.PutTask x ∷ [])) k.node k) →
+    IfSome m.to (λ k. AreCounted (apply_changes t (change.PutTask x ∷ [])) k.node k) → AreMoved (apply_changes t cs) m
+one_moved t cs x y m is from to = subst (λ l. AreMoved (apply_changes t l) m) (sym is) (record { from = from; to = to })
+
+pub alone_moved : (t : Tables) (cs others : List Change) (c : Change) (m : Moved) → cs ≡ c ∷ others → length others ≡ 0 →
+    AreMoved (apply_changes t (c ∷ [])) m → AreMoved (apply_changes t cs) m
+alone_moved t cs others c m is none =
+    subst (λ l. AreMoved (apply_changes t l) m) (ap (λ l. c ∷ l) (sym (is-empty others none)) ∙ sym is)
+
+pub ruleset moved_steps = (none_moved, one_moved, alone_moved)
+
+pub moved_knows : (t : Tables) (m : Moved) → AreMoved t m → IfSome m.from (λ k. AreCounted t k.node k) × IfSome m.to (λ k. AreCounted t k.node k)
+moved_knows t m are = (are.from, are.to)
 
 misses-known : (t : Tables) (all : List (Option NodeTotals)) (node : ℕ) (k : NodeTotals) (c : Change) → IsUsable t →
     recalled all node ≡ Some k → ForgetsChange t all c → Misses (is_placed_on node) t.tasks c

@@ -1,11 +1,14 @@
 // What the tasks on nodes come to, as far as it is remembered from one placement to the next.
-ghost use Rattle.std.specs.Prelude.{◌≡◌, [], None, Some};
+ghost use Rattle.std.specs.Prelude.{◌≡◌, ◌≤◌, ◌+◌, ◌&&◌, ◌∷◌, [], IfSome, None, Some, length};
 ghost use Rattle.swarm_objects.specs.ChangeLists.{apply_changes};
 ghost use Rattle.swarm_objects.specs.Nodes.Filters.{here};
+ghost use Rattle.swarm_objects.specs.Nodes.Holdings.{is_placed_on, task_cpu, task_mem};
+ghost use Rattle.swarm_objects.specs.Tasks.Words.{is_live, is_of};
+ghost use Rattle.swarm_objects.specs.declared.rows.Change.TheVariants as change;
 ghost use Rattle.swarm_objects.specs.Rows.{row_at, task_id};
 ghost use Rattle.swarm_objects.specs.Usable.{IsUsable};
 ghost use Rattle.swarm_objects.specs.World.{Tables};
-ghost use Rattle.swarm_sched.specs.Inside.Known.{AreCounted, AreFewer, Forgets, ForgetsAll, ForgetsChange, Knows, if_of, recalled};
+ghost use Rattle.swarm_sched.specs.Inside.Known.{AreCounted, AreFewer, AreMoved, Forgets, ForgetsAll, ForgetsChange, IsExchanged, Knows, adds, if_of, one_if, recalled};
 ghost use Rattle.swarm_sched.specs.Inside.Totals.{AreTotals};
 
 use crate::totals::{Totals, count_up};
@@ -15,8 +18,11 @@ use swarm_objects::loads::Loads;
 use swarm_objects::placed::{here, load, reserved_cpu, reserved_mem};
 use swarm_objects::{Change, Id, Rows, Task};
 
-// More than a cluster has nodes.
-const SLOTS: usize = 1024;
+// How many slots there are at first.
+const SLOTS: usize = 64;
+
+// They are doubled up to so many, some megabyte, where two nodes want one slot.
+const MOST_SLOTS: usize = 16384;
 
 /// A node's totals, and how many of its live tasks are of the service that asked last.
 #[derive(Clone, Copy)]
@@ -27,8 +33,8 @@ pub struct NodeTotals {
     here: u64,
 }
 
-/// The totals of nodes that were asked for last. Each node has one slot, by the rest of its id; of nodes with the same slot the
-/// last one is remembered. Contracts see the slots, or none where nothing is remembered.
+/// The totals of nodes that were asked for last. Each node has one slot, by the rest of its id. Of nodes with the same slot the
+/// last one is remembered, where there can't be more slots. Contracts see the slots, or none where nothing is remembered.
 #[derive(Drop)]
 pub struct KnownTotals {
     // None for want of memory: then nothing is ever remembered
@@ -55,6 +61,132 @@ fn if_of(node: Id, slot: Option<NodeTotals>) -> Option<NodeTotals>
         Some(known) if known.node == node => Some(known),
         _ => None,
     }
+}
+
+// The slot is that of another node.
+fn is_taken(node: Id, slot: Option<NodeTotals>) -> bool {
+    match slot {
+        Some(known) => known.node != node,
+        None => false,
+    }
+}
+
+// Twice as many slots, all empty. For want of memory they stay as they are.
+#[tactic(auto, using(crate::proofs::Knowing::remember_steps))]
+fn double(slots: &mut Vec<Option<NodeTotals>>)
+    ensures knows { (t : Tables) → Knows t slots.old.items → Knows t slots.new.items }
+    ensures some { length slots.old.items ≤ length slots.new.items }
+{
+    let twice = slots.len().saturating_mul(2);
+    if slots.resize(twice, None).is_ok() {
+        slots.fill(None);
+    }
+}
+
+// It is placed, and on this node.
+fn is_placed_on(task: &Task, node: Id) -> bool
+    ensures { result ≡ is_placed_on node task.now }
+{
+    task.is_placed() && task.node == Some(node)
+}
+
+fn added_cpu(node: Id, task: &Task) -> u64
+    ensures { result ≡ adds task_cpu node task.now }
+{
+    if is_placed_on(task, node) {
+        task.template.cpu
+    } else {
+        0
+    }
+}
+
+fn added_mem(node: Id, task: &Task) -> u64
+    ensures { result ≡ adds task_mem node task.now }
+{
+    if is_placed_on(task, node) {
+        task.template.mem
+    } else {
+        0
+    }
+}
+
+fn added_load(node: Id, task: &Task) -> u64
+    ensures { result ≡ adds (one_if is_live) node task.now }
+{
+    if is_placed_on(task, node) && task.is_live() {
+        1
+    } else {
+        0
+    }
+}
+
+fn added_here(node: Id, service: Id, task: &Task) -> u64
+    ensures { result ≡ adds (one_if (λ x. is_of service x && is_live x)) node task.now }
+{
+    if is_placed_on(task, node) && task.is_of(service) && task.is_live() {
+        1
+    } else {
+        0
+    }
+}
+
+// The sum with the one number more and the other one less.
+fn exchange_sum(sum: u128, more: u64, less: u64) -> Option<u128>
+    ensures { IfSome result (λ after. after + less ≡ sum + more) }
+{
+    let with = sum.checked_add(u128::from(more))?;
+    with.checked_sub(u128::from(less))
+}
+
+// The same of a count.
+fn exchange_count(count: u64, more: u64, less: u64) -> Option<u64>
+    ensures { IfSome result (λ after. after + less ≡ count + more) }
+{
+    let with = count.checked_add(more)?;
+    with.checked_sub(less)
+}
+
+impl NodeTotals {
+    // The node's totals with one task in the place of another one.
+    fn exchange(self, old: &Task, new: &Task) -> Option<NodeTotals>
+        ensures { IfSome result (IsExchanged self old.now new.now) }
+    {
+        let NodeTotals {
+            node,
+            totals,
+            service,
+            here,
+        } = self;
+        let cpu = exchange_sum(totals.cpu, added_cpu(node, new), added_cpu(node, old))?;
+        let mem = exchange_sum(totals.mem, added_mem(node, new), added_mem(node, old))?;
+        let load = exchange_count(totals.load, added_load(node, new), added_load(node, old))?;
+        let here = exchange_count(
+            here,
+            added_here(node, service, new),
+            added_here(node, service, old),
+        )?;
+        Some(NodeTotals {
+            node,
+            totals: Totals { cpu, mem, load },
+            service,
+            here,
+        })
+    }
+}
+
+/// What will be known of the nodes that a task leaves and enters, once it is put in its place.
+#[derive(Clone, Copy)]
+pub struct Moved {
+    from: Option<NodeTotals>,
+    to: Option<NodeTotals>,
+}
+
+impl Moved {
+    // Of no node.
+    const NONE: Moved = Moved {
+        from: None,
+        to: None,
+    };
 }
 
 impl KnownTotals {
@@ -123,6 +255,11 @@ impl KnownTotals {
         if slots.is_empty() {
             return;
         }
+        if is_taken(known.node, slots[known.node as usize % slots.len()])
+            && slots.len() < MOST_SLOTS
+        {
+            double(slots);
+        }
         let slot = known.node as usize % slots.len();
         slots[slot] = Some(known);
     }
@@ -133,6 +270,67 @@ impl KnownTotals {
     {
         self.refresh();
         self.put(known);
+    }
+
+    // What will be remembered of the node with one task in the place of another one.
+    fn exchanged(&self, node: Option<Id>, old: &Task, new: &Task) -> Option<NodeTotals>
+        ensures { (t : Tables) → IsUsable t → Knows t self.now → row_at task_id new.now.id t.tasks ≡ Some old.now →
+            IfSome result (λ k. AreCounted (apply_changes t (change.PutTask new.now ∷ [])) k.node k) }
+    {
+        let Some(node) = node else {
+            return None;
+        };
+        let Some(known) = self.recall(node) else {
+            return None;
+        };
+        known.exchange(old, new)
+    }
+
+    // What will be remembered of the nodes of the task that the change puts in its place.
+    #[tactic(auto, using(crate::proofs::Knowing::moved_steps))]
+    fn moved_by<R: Rows>(&self, rows: &R, change: &Change) -> Moved
+        requires usable { IsUsable (R.tables rows.now) }
+        requires knows { Knows (R.tables rows.now) self.now }
+        ensures { AreMoved (apply_changes (R.tables rows.now) (change.now ∷ [])) result }
+    {
+        let Change::PutTask(new) = change else {
+            return Moved::NONE;
+        };
+        let Some(old) = rows.task(new.id) else {
+            return Moved::NONE;
+        };
+        Moved {
+            from: self.exchanged(old.node, old, new),
+            to: self.exchanged(new.node, old, new),
+        }
+    }
+
+    // The same of one change alone. Of more nothing is foreseen.
+    #[tactic(auto, using(crate::proofs::Knowing::moved_steps))]
+    fn moved<R: Rows>(&self, rows: &R, changes: &[Change]) -> Moved
+        requires usable { IsUsable (R.tables rows.now) }
+        requires knows { Knows (R.tables rows.now) self.now }
+        ensures { AreMoved (apply_changes (R.tables rows.now) changes.now) result }
+    {
+        let Some((change, others)) = changes.split_first() else {
+            return Moved::NONE;
+        };
+        if !others.is_empty() {
+            return Moved::NONE;
+        }
+        self.moved_by(rows, change)
+    }
+
+    /// Remembers of the nodes what is so by now.
+    pub fn remember_moved(&mut self, moved: Moved)
+        ensures { (t : Tables) → Knows t self.old → AreMoved t moved → Knows t self.new }
+    {
+        if let Some(from) = moved.from {
+            self.remember(from);
+        }
+        if let Some(to) = moved.to {
+            self.remember(to);
+        }
     }
 
     // Forgets what is remembered of the node.
@@ -201,15 +399,19 @@ impl KnownTotals {
         }
     }
 
-    /// Forgets what these changes of the rows make untrue. It is asked before they are made.
+    /// Forgets what these changes of the rows make untrue. It is asked before they are made, and gives what will be so of
+    /// the nodes that are forgotten.
     #[tactic(auto, using(crate::proofs::Knowing::changed_steps))]
-    pub fn forget_changed<R: Rows>(&mut self, rows: &R, changes: &[Change])
+    pub fn forget_changed<R: Rows>(&mut self, rows: &R, changes: &[Change]) -> Moved
         requires usable { IsUsable (R.tables rows.now) }
         requires knows { Knows (R.tables rows.now) self.old }
         ensures stays { Knows (R.tables rows.now) self.new }
         ensures goes_on { Knows (apply_changes (R.tables rows.now) changes.now) self.new }
+        ensures moved { AreMoved (apply_changes (R.tables rows.now) changes.now) result }
     {
+        let moved = self.moved(rows, changes);
         self.forget_each(rows, changes);
+        moved
     }
 
     /// Forgets all.

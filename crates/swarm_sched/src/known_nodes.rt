@@ -2,10 +2,11 @@
 ghost use Rattle.swarm_objects.specs.ChangeLists.{apply_changes};
 ghost use Rattle.swarm_objects.specs.Usable.{IsUsable};
 ghost use Rattle.swarm_objects.specs.World.{Tables};
+ghost use Rattle.swarm_sched.specs.Inside.Known.{AreMoved};
 ghost use Rattle.swarm_sched.specs.Inside.KnownNodes.{KnowsNodes};
 
 use crate::classes::NodeClasses;
-use crate::known::KnownTotals;
+use crate::known::{KnownTotals, Moved};
 use std::alloc::Global;
 use swarm_objects::{Change, Rows};
 
@@ -37,15 +38,25 @@ impl KnownNodes {
         }
     }
 
-    /// Forgets what these changes of the rows make untrue. It is asked before they are made.
-    pub fn forget_changed<R: Rows>(&mut self, rows: &R, changes: &[Change])
+    /// Forgets what these changes of the rows make untrue. It is asked before they are made, and gives what will be so of
+    /// the nodes that are forgotten.
+    pub fn forget_changed<R: Rows>(&mut self, rows: &R, changes: &[Change]) -> Moved
         requires usable { IsUsable (R.tables rows.now) }
         requires knows { KnowsNodes (R.tables rows.now) self.old }
         ensures stays { KnowsNodes (R.tables rows.now) self.new }
         ensures goes_on { KnowsNodes (apply_changes (R.tables rows.now) changes.now) self.new }
+        ensures moved { AreMoved (apply_changes (R.tables rows.now) changes.now) result }
     {
-        self.totals.forget_changed(rows, changes);
+        let moved = self.totals.forget_changed(rows, changes);
         self.classes.forget_changed(changes);
+        moved
+    }
+
+    /// Remembers of the nodes what is so by now.
+    pub fn remember(&mut self, moved: Moved)
+        ensures { (t : Tables) → KnowsNodes t self.old → AreMoved t moved → KnowsNodes t self.new }
+    {
+        self.totals.remember_moved(moved);
     }
 
     /// Forgets all.

@@ -25,6 +25,7 @@ pub use alike::{schedule_after, waits_alike};
 pub use changing::changes;
 pub use filters::Filters;
 pub use keys::{agrees, value_cmp};
+pub use known::Moved;
 pub use known_nodes::KnownNodes;
 pub use placing::{best_node, best_node_by};
 use swarm_filters::counts_by;

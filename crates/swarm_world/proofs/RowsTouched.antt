@@ -1,5 +1,5 @@
 -- What a duty leaves of the spans over the rows.
-use Rattle.std.proofs.Common.{◌≡◌, ◌∙◌, ◌⊎◌, ℕ, Bool, true, false, cond, eqb, List, Result, Ok, Err, ap, arith, inl, inr, refl, subst, sym}
+use Rattle.std.proofs.Common.{◌≡◌, ◌∙◌, ◌⊎◌, ℕ, Bool, true, false, cond, eqb, List, Result, Ok, Err, ap, arith, inl, inr, is_ok, refl, subst, sym}
 use Rattle.std.proofs.lemmas.Bool.Decides.{nat_tests}
 use Rattle.std.specs.Option.{option_map}
 use Rattle.swarm_model.specs.History.{replay}
@@ -15,7 +15,9 @@ use Rattle.swarm_objects.specs.declared.sessions.NodeSession.{NodeSession}
 use Rattle.swarm_objects.specs.declared.tasks.Task.{Task}
 use Rattle.swarm_sessions.specs.OnRecord.{OnRecord, tables_with}
 use Rattle.swarm_sched.proofs.KnownAlike.{knows_alike}
+use Rattle.swarm_sched.specs.Inside.Known.{AreMoved}
 use Rattle.swarm_sched.specs.Inside.KnownNodes.{KnowsNodes}
+use Rattle.swarm_sched.specs.declared.known.Moved.{Moved}
 use Rattle.swarm_spans.proofs.Services.GoesOn.{come_goes_on, create_goes_on, down_goes_on, leave_goes_on, next_goes_on}
 use Rattle.swarm_spans.proofs.Services.Trimmed.{trim_goes_on}
 use Rattle.swarm_spans.proofs.Services.Updated.{update_goes_on}
@@ -115,18 +117,27 @@ beat_marked node now heartbeat id before after r s are marked law services nodes
 
 -- Changes of rows that were touched before.
 
+made : (touched cs : List Change) (p : Parts) (is : HasHistory p) (r : Records) → touched ≡ cs
+    → HasRecords r (with_tables (replay is.history) (apply_changes (replay is.history).tables cs))
+    → tables_of r ≡ apply_changes (tables_of p.records) touched
+made all cs p is r are has =
+    let w = replay is.history in
+    tables_are r (with_tables w (apply_changes w.tables cs)) has
+    ∙ ap (λ (u : Tables). apply_changes u cs) (sym (tables_are p.records w is.stands.has.records))
+    ∙ ap (apply_changes (tables_of p.records)) (sym are)
+
 pub committed : (touched cs : List Change) (p : Parts) (is : HasHistory p) (r : Records) (m : Marks) → touched ≡ cs
     → HasRecords r (with_tables (replay is.history) (apply_changes (replay is.history).tables cs))
     → (IsUsable (apply_changes (tables_of p.records) touched)
     → AreMarked m (apply_changes (tables_of p.records) touched)) → IsUsable (tables_of r) → AreMarked m (tables_of r)
 committed all cs p is r m are has touched usable =
-    let w = replay is.history in
-    let t = tables_of p.records in
-    let same : tables_of r ≡ apply_changes t all =
-    tables_are r (with_tables w (apply_changes w.tables cs)) has
-    ∙ ap (λ (u : Tables). apply_changes u cs) (sym (tables_are p.records w is.stands.has.records))
-    ∙ ap (apply_changes t) (sym are) in
+    let same = made all cs p is r are has in
     subst (AreMarked m) (sym same) (touched (subst IsUsable same usable))
+
+pub committed_moved : (touched cs : List Change) (p : Parts) (is : HasHistory p) (r : Records) (m : Moved) → touched ≡ cs
+    → HasRecords r (with_tables (replay is.history) (apply_changes (replay is.history).tables cs))
+    → AreMoved (apply_changes (tables_of p.records) touched) m → AreMoved (tables_of r) m
+committed_moved all cs p is r m are has = subst (λ (t : Tables). AreMoved t m) (sym (made all cs p is r are has))
 
 -- or memory was wanting
 pub not_committed : (p : Parts) (is : HasHistory p) (r : Records) (m : Marks) → HasRecords r (replay is.history)
@@ -144,3 +155,11 @@ commit_marked version all cs p is r heard (Ok done) m are did stays touched usab
     committed all cs p is r m are (did (replay is.history) is.stands.has.records).0 touched usable
 commit_marked version all cs p is r heard (Err wanting) m are did stays touched usable =
     not_committed p is r m (did.0 (replay is.history) is.stands.has.records) stays
+
+pub commit_moved : {X E : Type 0} (version : ℕ) (touched cs : List Change) (p : Parts) (is : HasHistory p)
+    (r : Records) (heard : Watchings) (result : Result X E) (m : Moved) → touched ≡ cs
+    → Commits version cs p.records p.watches result r heard → AreMoved (apply_changes (tables_of p.records) touched) m
+    → is_ok result ≡ true → AreMoved (tables_of r) m
+commit_moved version all cs p is r heard (Ok done) m are did moved yes_made =
+    committed_moved all cs p is r m are (did (replay is.history) is.stands.has.records).0 moved
+commit_moved version all cs p is r heard (Err wanting) m are did moved yes_made = absurd cc

@@ -158,10 +158,11 @@ impl Parts {
         let Ok(changes) = raise_state(self.alloc, &self.records, version, task, state) else {
             return Err(NoMemory);
         };
-        marks.touch(&self.records, changes.as_slice());
+        let moved = marks.touch(&self.records, changes.as_slice());
         let Ok(()) = commit(&mut self.records, &mut self.watches, version, changes) else {
             return Err(NoMemory);
         };
+        marks.remember(moved, true);
         self.agents.reported(node, task);
         Ok(())
     }

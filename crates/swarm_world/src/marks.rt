@@ -1,5 +1,5 @@
 // Where a duty of the control loops over the rows may be: for each line of duties the span of the rows that may have one.
-ghost use Rattle.std.specs.Prelude.{◌≡◌, ◌++◌, ◌∷◌, List as Seq, Option as Optional, [], false, flat_map, ℕ};
+ghost use Rattle.std.specs.Prelude.{◌≡◌, ◌++◌, ◌∷◌, List as Seq, Option as Optional, [], false, flat_map, true, ℕ};
 ghost use Rattle.std.specs.List.{list_all};
 ghost use Rattle.swarm_model.specs.History.{IsLegal, replay};
 ghost use Rattle.swarm_objects.specs.declared.calls.Entry.{Entry};
@@ -11,6 +11,7 @@ ghost use Rattle.swarm_objects.specs.Loops.Allocator.{port_duties};
 ghost use Rattle.swarm_objects.specs.Rows.{first_of};
 ghost use Rattle.swarm_objects.specs.Usable.{IsUsable};
 ghost use Rattle.swarm_objects.specs.World.{Tables};
+ghost use Rattle.swarm_sched.specs.Inside.Known.{AreMoved};
 ghost use Rattle.swarm_sched.specs.Inside.KnownNodes.{KnowsNodes};
 ghost use Rattle.swarm_spans.specs.Lines.{addresses, deletes, expires, goes, notes, olds, orphans, raises, rejects, restarts};
 ghost use Rattle.swarm_spans.specs.Services.Lines.{comes, creates, downs, job_creates, leaves, trims, updates};
@@ -37,7 +38,7 @@ use crate::scheduling::first_scheduled;
 use std::alloc::Global;
 use swarm_agent::theorems::times_that_no_step_looks_at;
 use swarm_objects::{Call, Change, Duty, Id, Name, Op, Role, Rows};
-use swarm_sched::KnownNodes;
+use swarm_sched::{KnownNodes, Moved};
 use swarm_spans::{
     ServiceSpans, Span, TaskSpans, first_of_nodes, first_of_services, first_of_tasks, narrowed,
 };
@@ -293,18 +294,31 @@ impl Marks {
         let _ = first_of_tasks::<Unallocated, R>(rows, &mut self.tasks.to_allocate);
     }
 
-    /// With what these changes touch of the rows: asked before they are made. What agents owe is touched apart.
-    pub fn touch(&mut self, records: &Records, changes: &[Change])
+    /// With what these changes touch of the rows: asked before they are made. What agents owe is touched apart. Gives what
+    /// will be known of the nodes.
+    pub fn touch(&mut self, records: &Records, changes: &[Change]) -> Moved
         requires usable { IsUsable (tables_of records.now) }
         requires marks { AreMarked self.old (tables_of records.now) }
         ensures stays { AreMarked self.new (tables_of records.now) }
         ensures goes_on { let u = apply_changes (tables_of records.now) changes.now in IsUsable u → AreMarked self.new u }
+        ensures moved { AreMoved (apply_changes (tables_of records.now) changes.now) result }
         ensures agents { self.new.agents ≡ self.old.agents }
     {
         self.pass_waiting(records);
-        self.nodes.forget_changed(records, changes);
+        let moved = self.nodes.forget_changed(records, changes);
         self.tasks.touch(records, changes);
         self.services.touch(records, changes);
+        moved
+    }
+
+    /// What is known of the nodes now is remembered, if the changes were made.
+    pub fn remember(&mut self, moved: Moved, are_made: bool)
+        ensures marks { (t : Tables) → AreMarked self.old t → (are_made ≡ true → AreMoved t moved) → AreMarked self.new t }
+        ensures agents { self.new.agents ≡ self.old.agents }
+    {
+        if are_made {
+            self.nodes.remember(moved);
+        }
     }
 
     /// With what may have a duty as time goes by. No message becomes due by that: what a node is told doesn't hang on the

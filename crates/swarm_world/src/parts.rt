@@ -121,9 +121,11 @@ impl Parts {
             return Err(NoMemory);
         };
         entries_are_noted();
-        marks.touch(&self.records, changes.as_slice());
+        let moved = marks.touch(&self.records, changes.as_slice());
         touch_agents(&self.records, changes.as_slice(), &mut marks.agents);
-        commit(&mut self.records, &mut self.watches, version, changes)
+        let committed = commit(&mut self.records, &mut self.watches, version, changes);
+        marks.remember(moved, committed.is_ok());
+        committed
     }
 
     // Shows what the query asks for.

@@ -1,13 +1,15 @@
 -- What is remembered of the tasks on nodes.
-use Rattle.std.specs.Prelude.{Bool, IfSome, List, None, Option, Some, Vec, [], false, get_or, if◌then◌else◌, length, true, ℕ, ◌%◌, ◌==◌, ◌≡◌, ◌⊎◌}
+use Rattle.std.specs.Prelude.{Bool, IfSome, List, None, Option, Some, Vec, [], false, get_or, if◌then◌else◌, length, true, ℕ, ◌%◌, ◌==◌, ◌≡◌, ◌⊎◌, ◌+◌, ◌&&◌}
 use Rattle.swarm_objects.specs.Nodes.Filters.{here}
+use Rattle.swarm_objects.specs.Nodes.Holdings.{is_placed_on, task_cpu, task_mem}
 use Rattle.swarm_objects.specs.Rows.{Has, row_at, task_id}
-use Rattle.swarm_objects.specs.Tasks.Words.{is_on}
+use Rattle.swarm_objects.specs.Tasks.Words.{is_live, is_of, is_on}
 use Rattle.swarm_objects.specs.World.{Tables}
 use Rattle.swarm_objects.specs.declared.rows.Change.{Change}
 use Rattle.swarm_objects.specs.declared.rows.Change.TheVariants as change
 use Rattle.swarm_objects.specs.declared.tasks.Task.{Task}
 use Rattle.swarm_sched.specs.Inside.Totals.{AreTotals}
+use Rattle.swarm_sched.specs.declared.known.Moved.{Moved}
 use Rattle.swarm_sched.specs.declared.known.NodeTotals.{NodeTotals}
 
 -- the slots, where they are there and hold what is true
@@ -32,6 +34,28 @@ AreCounted t node k = (k.here ≡ here t node k.service) × AreTotals t node k.t
 -- whatever is remembered of a node is so
 pub record Knows (t : Tables) (all : List (Option NodeTotals)) : Type 0 where
   pub each : (node : ℕ) → IfSome (recalled all node) (AreCounted t node)
+
+-- what the task adds to such a sum over the node's tasks
+abbrev pub adds : (Task → ℕ) → ℕ → Task → ℕ
+adds f node x = if is_placed_on node x then f x else 0
+
+abbrev pub one_if : (Task → Bool) → Task → ℕ
+one_if p x = if p x then 1 else 0
+
+-- the same with one task in the place of another one
+pub record IsExchanged (k : NodeTotals) (old new : Task) (r : NodeTotals) : Type 0 where
+  pub node : r.node ≡ k.node
+  pub service : r.service ≡ k.service
+  pub cpu : r.totals.cpu + adds task_cpu k.node old ≡ k.totals.cpu + adds task_cpu k.node new
+  pub mem : r.totals.mem + adds task_mem k.node old ≡ k.totals.mem + adds task_mem k.node new
+  pub load : r.totals.load + adds (one_if is_live) k.node old ≡ k.totals.load + adds (one_if is_live) k.node new
+  pub here : let own = one_if (λ x. is_of k.service x && is_live x) in
+    r.here + adds own k.node old ≡ k.here + adds own k.node new
+
+-- what will be known of the nodes that a task leaves and enters
+pub record AreMoved (t : Tables) (m : Moved) : Type 0 where
+  pub from : IfSome m.from (λ k. AreCounted t k.node k)
+  pub to : IfSome m.to (λ k. AreCounted t k.node k)
 
 -- what is remembered was remembered before
 pub record AreFewer (before after : List (Option NodeTotals)) : Type 0 where
