@@ -1,5 +1,5 @@
 -- What is remembered of nodes: a slot that is filled or emptied, and what changes of rows leave true.
-use Rattle.std.proofs.Common.{◌≡◌, ◌∙◌, ◌∷◌, ◌<◌, ◌⊎◌, ℕ, Bool, List, None, Option, Some, [], ap, arith, cond, eqb, false, get_or, inl, inr, length, not, refl, replicate, set, subst, suc, sym, true, zero, fold, is_some}
+use Rattle.std.proofs.Common.{◌≡◌, ◌∙◌, ◌∷◌, ◌<◌, ◌⊎◌, ℕ, Bool, List, None, Option, Some, [], ap, arith, cond, eqb, false, get_or, inl, inr, length, not, refl, replicate, set, subst, suc, sym, true, zero, is_some}
 use Rattle.std.proofs.lemmas.Bool.Decides.{nat_tests}
 use Rattle.std.proofs.lemmas.List.{get_or-set_other, get_or-set_same, length-set}
 use Rattle.std.specs.Option.{option_eq}
@@ -333,8 +333,8 @@ sum-put : (t : Tables) (x y : Task) (node : ℕ) (f : Task → ℕ) → IsUsable
 sum-put t x y node f usable at =
     let there = Has-from_row_at task_id x.id t.tasks y at in
     let new = subst (λ (n : ℕ). sum_by (adds f node) (change_row task_id n (λ z. x) t.tasks) + adds f node y
-      ≡ sum_by (adds f node) t.tasks + adds f node x) there.1
-      (sum_by-change_row task_id (adds f node) 0 (λ z. x) t.tasks y usable.sound.ordered.tasks there.0) in
+    ≡ sum_by (adds f node) t.tasks + adds f node x) there.1
+    (sum_by-change_row task_id (adds f node) 0 (λ z. x) t.tasks y usable.sound.ordered.tasks there.0) in
     omega (arith, new, sum_by-filter f (is_placed_on node) (put_row task_id x t.tasks), sum_by-filter f (is_placed_on node) t.tasks)
 
 after-is : (after less count more before sum is : ℕ) → sum + less ≡ before + more → after + less ≡ count + more →
@@ -347,17 +347,17 @@ counted-put t x y k r usable at are is =
     let sums = λ (f : Task → ℕ). sum-put t x y k.node f usable at in
     let own : Task → Bool = λ z. is_of k.service z && is_live z in (
       after-is r.here (adds (one_if own) k.node y) k.here (adds (one_if own) k.node x)
-      (sum_by (one_if own) (tasks_placed_on t k.node)) (sum_by (one_if own) (tasks_placed_on u k.node))
-      (here u k.node k.service)
-      (sums (one_if own)) is.here (are.0 ∙ sym (here_is t k.node k.service)) (here_is u k.node k.service)
-      ∙ ap (here u k.node) (sym is.service),
+          (sum_by (one_if own) (tasks_placed_on t k.node)) (sum_by (one_if own) (tasks_placed_on u k.node))
+          (here u k.node k.service)
+          (sums (one_if own)) is.here (are.0 ∙ sym (here_is t k.node k.service)) (here_is u k.node k.service)
+          ∙ ap (here u k.node) (sym is.service),
       (
         omega (arith, sums task_cpu, is.cpu, are.1.0),
         omega (arith, sums task_mem, is.mem, are.1.1),
         after-is r.totals.load (adds (one_if is_live) k.node y) k.totals.load (adds (one_if is_live) k.node x)
-        (sum_by (one_if is_live) (tasks_placed_on t k.node)) (sum_by (one_if is_live) (tasks_placed_on u k.node))
-        (load u k.node)
-        (sums (one_if is_live)) is.load (are.1.2 ∙ sym (load_is t k.node)) (load_is u k.node),
+            (sum_by (one_if is_live) (tasks_placed_on t k.node)) (sum_by (one_if is_live) (tasks_placed_on u k.node))
+            (load u k.node)
+            (sums (one_if is_live)) is.load (are.1.2 ∙ sym (load_is t k.node)) (load_is u k.node),
       ),
     )
   where

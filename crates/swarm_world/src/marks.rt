@@ -234,13 +234,6 @@ impl Marks {
         Marks::with_nodes(KnownNodes::new(alloc))
     }
 
-    /// Every row may have a duty. It takes no memory, and nothing will be remembered of the nodes.
-    pub fn all() -> Marks
-        ensures { (p : Whole) → HasHistory p → IsMarked result p }
-    {
-        Marks::with_nodes(KnownNodes::none())
-    }
-
     /// The same spans for one look. It takes no memory.
     pub fn apart(&self) -> Marks
         ensures { (p : Whole) → IsMarked self.now p → IsMarked result p }

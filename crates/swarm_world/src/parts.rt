@@ -13,7 +13,7 @@ ghost use Rattle.swarm_objects.specs.declared.calls.Call.TheVariants as call;
 ghost use Rattle.swarm_objects.specs.Effects.{is_agents};
 ghost use Rattle.swarm_objects.specs.Usable.{IsUsable};
 ghost use Rattle.swarm_store.specs.Stored.{row_count};
-ghost use Rattle.swarm_world.specs.Inside.Marks.{AreMarked};
+ghost use Rattle.swarm_world.specs.Inside.Marks.{AreMarked, IsMarked};
 ghost use Rattle.swarm_world.specs.Inside.Parts.{Answers, Enters, HasHistory, IsAt, Replies, StandsFor, Tells, is_watch_call};
 ghost use Rattle.swarm_world.specs.Inside.Records.{tables_of};
 ghost use Rattle.swarm_world.specs.Inside.Spanned.{CoversAgents};
@@ -192,8 +192,9 @@ impl Parts {
     }
 
     // The answer to the call, as the entry with this number, before it is counted.
-    fn answer(&mut self, version: Version, call: &Call) -> Result<Reply, Refusal>
+    fn answer(&mut self, marks: &Marks, version: Version, call: &Call) -> Result<Reply, Refusal>
         requires at { HasHistory self.old }
+        requires marks { IsMarked marks.now self.old }
         requires other { is_watch_call call.now ≡ false }
         requires running { is_halt call.now ≡ false }
         ensures { (h : Seq Entry) → IsAt version self.old h →
@@ -203,7 +204,7 @@ impl Parts {
             Call::Txn(ops) => self.transact(version, ops.as_slice()),
             Call::Tick(ms) => self.tick(*ms),
             Call::View(query) => self.view(query),
-            Call::Settle(budget) => self.settle(*budget),
+            Call::Settle(budget) => self.settle(marks, *budget),
             Call::NodeFail(name) => self.fail_node(name),
             Call::NodeStart(name) => self.start_node(name),
             Call::AgentStop(name) => self.stop_agent(name),
@@ -222,14 +223,20 @@ impl Parts {
     }
 
     // A call that isn't on watchers becomes the entry with this number.
-    fn enter_answered(&mut self, version: Version, call: &Call) -> Result<Reply, NoMemory>
+    fn enter_answered(
+        &mut self,
+        marks: &Marks,
+        version: Version,
+        call: &Call,
+    ) -> Result<Reply, NoMemory>
         requires at { HasHistory self.old }
+        requires marks { IsMarked marks.now self.old }
         requires other { is_watch_call call.now ≡ false }
         requires running { is_halt call.now ≡ false }
         ensures { (h : Seq Entry) → IsAt version self.old h → Replies h (what.Call call.now) result self.new }
     {
         entries_are_noted();
-        match self.answer(version, call) {
+        match self.answer(marks, version, call) {
             Ok(reply) => Ok(reply),
             Err(refusal) => told(refusal),
         }
@@ -274,8 +281,9 @@ impl Parts {
     }
 
     /// The call, which isn't Halt, becomes the entry with this number, and is answered; or memory is wanting.
-    pub fn enter(&mut self, version: Version, call: &Call) -> Result<Reply, NoMemory>
+    pub fn enter(&mut self, marks: &Marks, version: Version, call: &Call) -> Result<Reply, NoMemory>
         requires at { HasHistory self.old }
+        requires marks { IsMarked marks.now self.old }
         requires running { is_halt call.now ≡ false }
         ensures { (h : Seq Entry) → IsAt version self.old h → Replies h (what.Call call.now) result self.new }
     {
@@ -283,7 +291,7 @@ impl Parts {
             Call::WatchBegin(filter) => self.watch(*filter),
             Call::WatchPoll(id) => self.poll(*id),
             Call::WatchFinish(id) => self.finish(*id),
-            _ => self.enter_answered(version, call),
+            _ => self.enter_answered(marks, version, call),
         }
     }
 }

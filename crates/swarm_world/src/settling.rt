@@ -65,11 +65,13 @@ impl Parts {
     }
 
     /// A settle line that may take so many duties is answered. Nothing changes.
-    pub fn settle(&self, budget: u64) -> Result<Reply, Refusal>
+    pub fn settle(&self, marks: &Marks, budget: u64) -> Result<Reply, Refusal>
         requires at { HasHistory self.now }
+        requires marks { IsMarked marks.now self.now }
         ensures { (version : ℕ) (h : Seq Entry) → StandsFor self.now (replay h) →
             Answers version h (call.Settle budget) self.now result self.now }
     {
-        Ok(Reply::Settle(budget, Marks::all().settle(self)))
+        let mut marks = marks.apart();
+        Ok(Reply::Settle(budget, marks.settle(self)))
     }
 }

@@ -106,9 +106,10 @@ impl World {
             return Reply::Refused(Refusal::NoMemory);
         };
         let version = self.history.len() as u64 + 1;
-        self.marks.touch_call(&self.parts, &call);
+        let marks = &mut *self.marks;
+        marks.touch_call(&self.parts, &call);
         self.known = None;
-        let Ok(reply) = self.parts.enter(version, &call) else {
+        let Ok(reply) = self.parts.enter(marks, version, &call) else {
             return Reply::Refused(Refusal::NoMemory);
         };
         let entry = Entry {

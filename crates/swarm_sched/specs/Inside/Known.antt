@@ -50,7 +50,7 @@ pub record IsExchanged (k : NodeTotals) (old new : Task) (r : NodeTotals) : Type
   pub mem : r.totals.mem + adds task_mem k.node old ≡ k.totals.mem + adds task_mem k.node new
   pub load : r.totals.load + adds (one_if is_live) k.node old ≡ k.totals.load + adds (one_if is_live) k.node new
   pub here : let own = one_if (λ x. is_of k.service x && is_live x) in
-    r.here + adds own k.node old ≡ k.here + adds own k.node new
+      r.here + adds own k.node old ≡ k.here + adds own k.node new
 
 -- what will be known of the nodes that a task leaves and enters
 pub record AreMoved (t : Tables) (m : Moved) : Type 0 where
