@@ -1,10 +1,10 @@
 pub mod ForStores
+pub mod IdLemmas
 pub mod InPage
 pub mod Indexing
 pub mod MarkLemmas
 pub mod Merging
 pub mod Nexts
-pub mod PageNext
 pub mod PageSteps
 pub mod Paged
 pub mod Places

@@ -2,14 +2,11 @@
 use Rattle.std.proofs.Common.{◌≡◌, ℕ, ◌+◌, ◌<◌, ◌≤◌, Bool, true, false, cond, eqb, ltb, ◌&&◌, ◌||◌, List, [], ◌∷◌, Option, Some, None, refl, sym, ap, ◌∙◌, subst, arith}
 use Rattle.std.proofs.lemmas.Bool.Decides.{nat_tests}
 use Rattle.std.proofs.lemmas.Slice.Eq.{bytes_eq-Decides}
-use Rattle.std.specs.BTreeMap.{BTreeMap, get, is_at}
-use Rattle.std.specs.BTreeMap.Range.{IsRangeOf}
-use Rattle.std.specs.Option.{IsSome, option_eq, option_map}
-use Rattle.std.specs.Ordering.{is_gt}
-use Rattle.std.specs.Prelude.{Err, Ok, OnOk, Result, filter, is_some, not}
-use Rattle.std.specs.declared.cmp.Ordering.TheVariants.{Less}
-use Rattle.std.specs.declared.ops.Bound.TheVariants.{Excluded, Unbounded}
-use Rattle.swarm_index.specs.Inside.Marks.{AddsMarks, AreMarksOf, DropsMarks, ExchangesMarks, HasNone, IsNextMark, KeepsMarks, digest, digest_at, fresh, fresh_digests, has_mark, id_of_mark, is_mark, is_mark_at, is_marked, mark_cmp, same_mark}
+use Rattle.std.specs.HashMap.{HashMap, WritesThrough, get}
+use Rattle.std.specs.Option.{option_eq, option_map}
+use Rattle.std.specs.Prelude.{Err, Ok, OnErr, OnOk, Result, filter, is_some, not}
+use Rattle.swarm_index.specs.Inside.Ids.{has_id}
+use Rattle.swarm_index.specs.Inside.Marks.{AddsMarks, AreMarksOf, DropsMarks, ExchangesMarks, HasNone, IsNextMark, KeepsMarks, digest, digest_at, fresh, fresh_digests, has_id_in, has_mark, is_mark, is_mark_at, is_marked, same_mark, same_pair}
 use Rattle.swarm_index.specs.Keys.{KeyValue, Num, Pair, Text, has_key, same_key}
 use Rattle.swarm_index.proofs.Nexts.{IsNext, next_holds, next_is}
 use Rattle.swarm_index.proofs.RowsAt.{at_drop, at_member, at_put, at_with}
@@ -22,83 +19,72 @@ pub on_ok : {T E : Type 0} (r : Result T E) (P Q : Type 0) → (P → Q) → OnO
 on_ok (Ok x) P Q f p = f p
 on_ok (Err e) P Q f p = tt
 
--- one mark
+-- what is said of the Err of a call
+pub on_err : {T E : Type 0} (r : Result T E) (P Q : Type 0) → (P → Q) → OnErr r P → OnErr r Q
+on_err (Ok x) P Q f p = tt
+on_err (Err e) P Q f p = f p
 
-mark_at : (a b c w d i : ℕ) → is_at (mark_cmp (a, b, c)) (w, d, i) ≡ same_mark a b c w d i
-mark_at a b c w d i = grind (arith, nat_tests)
+-- the ids of one key's number and digest change
 
-pub one_more : {X : Type 0} (old new : BTreeMap (ℕ × ℕ × ℕ) X) (a b c : ℕ) (x : X)
-    → ((q : ℕ × ℕ × ℕ) → get mark_cmp new q ≡ cond (is_at (mark_cmp (a, b, c)) q) (Some x) (get mark_cmp old q)) → AddsMarks old new (same_mark a b c)
-one_more old new a b c x h w d i = ap is_some (h (w, d, i)) ∙ ap (λ t. is_some (cond t (Some x) (get mark_cmp old (w, d, i)))) (mark_at a b c w d i) ∙ go (same_mark a b c w d i)
-  where
-    go : (t : Bool) → is_some (cond t (Some x) (get mark_cmp old (w, d, i))) ≡ (t || has_mark old w d i)
-    go true = refl
-    go false = refl
+module _ {S : Type 0} (old new : HashMap (ℕ × ℕ) (List ℕ) S) (a b : ℕ) (o p : Option (List ℕ)) (was : get same_pair old (a, b) ≡ o)
+    (is : (q : ℕ × ℕ) → get same_pair new q ≡ cond (same_pair (a, b) q) p (get same_pair old q)) where
+  was_at : (w d : ℕ) → same_pair (a, b) (w, d) ≡ true → get same_pair old (w, d) ≡ o
+  was_at w d e =
+      let one : a ≡ w = grind (arith, nat_tests, e) in
+      let two : b ≡ d = grind (arith, nat_tests, e) in
+      ap (λ n. get same_pair old (n, d)) (sym one) ∙ ap (λ n. get same_pair old (a, n)) (sym two) ∙ was
 
-pub one_less : {X : Type 0} (old new : BTreeMap (ℕ × ℕ × ℕ) X) (a b c : ℕ)
-    → ((q : ℕ × ℕ × ℕ) → get mark_cmp new q ≡ cond (is_at (mark_cmp (a, b, c)) q) None (get mark_cmp old q)) → DropsMarks old new (same_mark a b c)
-one_less old new a b c h w d i = ap is_some (h (w, d, i)) ∙ ap (λ t. is_some (cond t None (get mark_cmp old (w, d, i)))) (mark_at a b c w d i) ∙ go (same_mark a b c w d i)
-  where
-    go : (t : Bool) → is_some (cond t None (get mark_cmp old (w, d, i))) ≡ (not t && has_mark old w d i)
-    go true = refl
-    go false = refl
+  pub ids_add : (c : ℕ) → ((i : ℕ) → has_id_in p i ≡ (eqb c i || has_id_in o i)) → AddsMarks old new (same_mark a b c)
+  ids_add c has w d i = ap (λ t. has_id_in t i) (is (w, d)) ∙ go (same_pair (a, b) (w, d)) refl
+    where
+      go : (t : Bool) → same_pair (a, b) (w, d) ≡ t → has_id_in (cond t p (get same_pair old (w, d))) i ≡ ((t && eqb c i) || has_mark old w d i)
+      go true e = has i ∙ ap (λ t. eqb c i || has_id_in t i) (sym (was_at w d e))
+      go false e = refl
 
--- the next mark
+  pub ids_drop : (c : ℕ) → ((i : ℕ) → has_id_in p i ≡ (not (eqb c i) && has_id_in o i)) → DropsMarks old new (same_mark a b c)
+  ids_drop c has w d i = ap (λ t. has_id_in t i) (is (w, d)) ∙ go (same_pair (a, b) (w, d)) refl
+    where
+      go : (t : Bool) → same_pair (a, b) (w, d) ≡ t → has_id_in (cond t p (get same_pair old (w, d))) i ≡ (not (t && eqb c i) && has_mark old w d i)
+      go true e = has i ∙ ap (λ t. not (eqb c i) && has_id_in t i) (sym (was_at w d e))
+      go false e = refl
 
-less_mark : (w d a i : ℕ) → a < i → mark_cmp (w, d, a) (w, d, i) ≡ Less
-less_mark w d a i lt = grind (arith, nat_tests)
+  pub ids_stay : p ≡ o → KeepsMarks old new
+  ids_stay same w d i = ap (λ t. has_id_in t i) (is (w, d)) ∙ go (same_pair (a, b) (w, d)) refl
+    where
+      go : (t : Bool) → same_pair (a, b) (w, d) ≡ t → has_id_in (cond t p (get same_pair old (w, d))) i ≡ has_mark old w d i
+      go true e = ap (λ t. has_id_in t i) (same ∙ sym (was_at w d e))
+      go false e = refl
 
-some_of : {X : Type 0} (o : Option X) (x : X) → o ≡ Some x → is_some o ≡ true
-some_of o x e = ap is_some e
+twice : (t : Bool) (p o : Option (List ℕ)) → cond t None (cond t p o) ≡ cond t None o
+twice true p o = refl
+twice false p o = refl
 
-pub next_none : {X : Type 0} (m : BTreeMap (ℕ × ℕ × ℕ) X) (w d after : ℕ) (r : List ((ℕ × ℕ × ℕ) × X)) → IsRangeOf mark_cmp (Excluded (w, d, after)) Unbounded m r → r ≡ [] → IsNextMark m w d after None
-next_none m w d after r h e i lt = ap is_some (h.5 e (w, d, i) (less_mark w d after i lt, tt))
+module _ {S : Type 0} (old new : HashMap (ℕ × ℕ) (List ℕ) S) (a b c : ℕ) (ids more : List ℕ) (was : get same_pair old (a, b) ≡ Some ids)
+    (writes : WritesThrough same_pair (same_pair (a, b)) old more new) where
+  written : (q : ℕ × ℕ) → get same_pair new q ≡ cond (same_pair (a, b) q) (Some more) (get same_pair old q)
+  written = (writes.3 (ap is_some was)).0
 
--- what a first mark beyond says
-between : (w d after x y z i : ℕ) → mark_cmp (w, d, after) (x, y, z) ≡ Less → is_gt (mark_cmp (x, y, z) (w, d, i)) ≡ false → (eqb x w && eqb y d) ≡ true
-between w d after x y z i below least = grind (arith, nat_tests)
+  pub written_adds : ((i : ℕ) → has_id more i ≡ (eqb c i || has_id ids i)) → AddsMarks old new (same_mark a b c)
+  written_adds has = ids_add old new a b (Some ids) (Some more) was written c has
 
-above_of : (w d after z : ℕ) → mark_cmp (w, d, after) (w, d, z) ≡ Less → after < z
-above_of w d after z below = grind (arith, nat_tests)
+  pub written_keeps : more ≡ ids → KeepsMarks old new
+  written_keeps same = ids_stay old new a b (Some ids) (Some more) was written (ap Some same)
 
-least_of : (w d z j : ℕ) → is_gt (mark_cmp (w, d, z) (w, d, j)) ≡ false → z ≤ j
-least_of w d z j least = grind (arith, nat_tests)
+  pub written_drops : ((i : ℕ) → has_id more i ≡ (not (eqb c i) && has_id ids i)) → DropsMarks old new (same_mark a b c)
+  written_drops has = ids_drop old new a b (Some ids) (Some more) was written c has
 
-is_there : {X : Type 0} (o : Option X) → is_some o ≡ true → (x : X) × (o ≡ Some x)
-is_there None e = let no : false ≡ true = e in absurd cc
-is_there (Some x) e = (x, refl)
+  -- the last id went, and so does the entry
+  pub emptied_drops : (last : HashMap (ℕ × ℕ) (List ℕ) S) → ((i : ℕ) → has_id more i ≡ (not (eqb c i) && has_id ids i)) → more ≡ []
+      → ((q : ℕ × ℕ) → get same_pair last q ≡ cond (same_pair (a, b) q) None (get same_pair new q)) → DropsMarks old last (same_mark a b c)
+  emptied_drops last has none gone = ids_drop old last a b (Some ids) None was (λ q. gone q ∙ over q) c (λ i. ap (λ l. has_id l i) (sym none) ∙ has i)
+    where
+      over : (q : ℕ × ℕ) → cond (same_pair (a, b) q) None (get same_pair new q) ≡ cond (same_pair (a, b) q) None (get same_pair old q)
+      over q = ap (λ o. cond (same_pair (a, b) q) None o) (written q) ∙ twice (same_pair (a, b) q) (Some more) (get same_pair old q)
 
-some_fact : {X : Type 0} (o : Option X) → is_some o ≡ true → IsSome o
-some_fact o e = e
-
-found : {X : Type 0} (m : BTreeMap (ℕ × ℕ × ℕ) X) (w d after z : ℕ) (v : X) (t : List ((ℕ × ℕ × ℕ) × X)) → IsRangeOf mark_cmp (Excluded (w, d, after)) Unbounded m (((w, d, z), v) ∷ t) → IsNextMark m w d after (Some z)
-found m w d after z v t h = (above_of w d after z h.1.0.0, ap is_some h.1.1, λ j lt there. least_of w d z j (h.2 (w, d, j) (less_mark w d after j lt, tt) (some_fact (get mark_cmp m (w, d, j)) there)))
-
-none_beyond : {X : Type 0} (m : BTreeMap (ℕ × ℕ × ℕ) X) (w d after : ℕ) (mark : ℕ × ℕ × ℕ) (v : X) (t : List ((ℕ × ℕ × ℕ) × X)) → IsRangeOf mark_cmp (Excluded (w, d, after)) Unbounded m ((mark, v) ∷ t)
-    → (eqb mark.0 w && eqb mark.1 d) ≡ false → IsNextMark m w d after None
-none_beyond m w d after mark v t h other i lt = go (has_mark m w d i) refl
-  where
-    go : (b : Bool) → has_mark m w d i ≡ b → b ≡ false
-    go false e = refl
-    go true e =
-        let least : is_gt (mark_cmp mark (w, d, i)) ≡ false = h.2 (w, d, i) (less_mark w d after i lt, tt) (some_fact (get mark_cmp m (w, d, i)) e) in
-        let same : (eqb mark.0 w && eqb mark.1 d) ≡ true = between w d after mark.0 mark.1 mark.2 i h.1.0.0 least in
-        sym same ∙ other
-
-pub next_first : {X : Type 0} (m : BTreeMap (ℕ × ℕ × ℕ) X) (w d after : ℕ) (r t : List ((ℕ × ℕ × ℕ) × X)) (mark : ℕ × ℕ × ℕ) (v : X) (o : Option ℕ) → IsRangeOf mark_cmp (Excluded (w, d, after)) Unbounded m r
-    → r ≡ (mark, v) ∷ t → o ≡ id_of_mark mark w d → IsNextMark m w d after o
-next_first {X} m w d after r t mark v o h e is = subst (λ p. IsNextMark m w d after p) (sym is) (go (eqb mark.0 w && eqb mark.1 d) refl)
-  where
-    here : IsRangeOf mark_cmp (Excluded (w, d, after)) Unbounded m ((mark, v) ∷ t)
-    here = subst (λ (l : List ((ℕ × ℕ × ℕ) × X)). IsRangeOf mark_cmp (Excluded (w, d, after)) Unbounded m l) e h
-
-    go : (b : Bool) → (eqb mark.0 w && eqb mark.1 d) ≡ b → IsNextMark m w d after (cond b (Some mark.2) None)
-    go true f =
-        let one : mark.0 ≡ w = grind (arith, nat_tests, f) in
-        let two : mark.1 ≡ d = grind (arith, nat_tests, f) in
-        let same : mark ≡ (w, d, mark.2) = ap (λ (a : ℕ). (a, mark.1, mark.2)) one ∙ ap (λ (b : ℕ). (w, b, mark.2)) two in
-        found m w d after mark.2 v t (subst (λ (k : ℕ × ℕ × ℕ). IsRangeOf mark_cmp (Excluded (w, d, after)) Unbounded m ((k, v) ∷ t)) same here)
-    go false f = none_beyond m w d after mark v t here f
+-- a first id came
+pub entry_adds : {S : Type 0} (old mid new : HashMap (ℕ × ℕ) (List ℕ) S) (a b c : ℕ) (ids : List ℕ) → get same_pair old (a, b) ≡ None → mid ≡ old → ids ≡ c ∷ []
+    → ((q : ℕ × ℕ) → get same_pair new q ≡ cond (same_pair (a, b) q) (Some ids) (get same_pair mid q)) → AddsMarks old new (same_mark a b c)
+entry_adds old mid new a b c ids was same one put = ids_add old new a b None (Some ids) was (λ q. put q ∙ ap (λ m. cond (same_pair (a, b) q) (Some ids) (get same_pair m q)) same) c (λ i. ap (λ l. has_id l i) one)
 
 -- the marks of one key
 
@@ -131,16 +117,16 @@ no_mark_of_key digests k id w d i e = ap (λ b. eqb id i && b) (go (eqb k w) ref
     last true = refl
     last false = refl
 
-pub adds_key : {X : Type 0} (old new : BTreeMap (ℕ × ℕ × ℕ) X) (digests : ℕ → Option ℕ) (k d0 id : ℕ) → digests k ≡ Some d0 → AddsMarks old new (same_mark k d0 id) → AddsMarks old new (is_mark_at digests k id)
+pub adds_key : {S : Type 0} (old new : HashMap (ℕ × ℕ) (List ℕ) S) (digests : ℕ → Option ℕ) (k d0 id : ℕ) → digests k ≡ Some d0 → AddsMarks old new (same_mark k d0 id) → AddsMarks old new (is_mark_at digests k id)
 adds_key old new digests k d0 id e h w d i = h w d i ∙ ap (λ b. b || has_mark old w d i) (mark_of_key digests k d0 id w d i e)
 
-pub adds_no_key : {X : Type 0} (old : BTreeMap (ℕ × ℕ × ℕ) X) (digests : ℕ → Option ℕ) (k id : ℕ) → digests k ≡ None → AddsMarks old old (is_mark_at digests k id)
+pub adds_no_key : {S : Type 0} (old : HashMap (ℕ × ℕ) (List ℕ) S) (digests : ℕ → Option ℕ) (k id : ℕ) → digests k ≡ None → AddsMarks old old (is_mark_at digests k id)
 adds_no_key old digests k id e w d i = ap (λ b. b || has_mark old w d i) (sym (no_mark_of_key digests k id w d i e))
 
-pub drops_key : {X : Type 0} (old new : BTreeMap (ℕ × ℕ × ℕ) X) (digests : ℕ → Option ℕ) (k d0 id : ℕ) → digests k ≡ Some d0 → DropsMarks old new (same_mark k d0 id) → DropsMarks old new (is_mark_at digests k id)
+pub drops_key : {S : Type 0} (old new : HashMap (ℕ × ℕ) (List ℕ) S) (digests : ℕ → Option ℕ) (k d0 id : ℕ) → digests k ≡ Some d0 → DropsMarks old new (same_mark k d0 id) → DropsMarks old new (is_mark_at digests k id)
 drops_key old new digests k d0 id e h w d i = h w d i ∙ ap (λ b. not b && has_mark old w d i) (mark_of_key digests k d0 id w d i e)
 
-pub drops_no_key : {X : Type 0} (old : BTreeMap (ℕ × ℕ × ℕ) X) (digests : ℕ → Option ℕ) (k id : ℕ) → digests k ≡ None → DropsMarks old old (is_mark_at digests k id)
+pub drops_no_key : {S : Type 0} (old : HashMap (ℕ × ℕ) (List ℕ) S) (digests : ℕ → Option ℕ) (k id : ℕ) → digests k ≡ None → DropsMarks old old (is_mark_at digests k id)
 drops_no_key old digests k id e w d i = ap (λ b. not b && has_mark old w d i) (sym (no_mark_of_key digests k id w d i e))
 
 -- the marks of one key more
@@ -152,10 +138,10 @@ no_key_yet digests id w d i = go (eqb id i)
     go true = let none : ltb w 0 ≡ false = grind (arith, nat_tests) in ap (λ b. b && option_eq same_number (digests w) (Some d)) none
     go false = refl
 
-pub adds_none : {X : Type 0} (old : BTreeMap (ℕ × ℕ × ℕ) X) (digests : ℕ → Option ℕ) (id : ℕ) → AddsMarks old old (is_mark digests 0 id)
+pub adds_none : {S : Type 0} (old : HashMap (ℕ × ℕ) (List ℕ) S) (digests : ℕ → Option ℕ) (id : ℕ) → AddsMarks old old (is_mark digests 0 id)
 adds_none old digests id w d i = ap (λ b. b || has_mark old w d i) (sym (no_key_yet digests id w d i))
 
-pub drops_none : {X : Type 0} (old : BTreeMap (ℕ × ℕ × ℕ) X) (digests : ℕ → Option ℕ) (id : ℕ) → DropsMarks old old (is_mark digests 0 id)
+pub drops_none : {S : Type 0} (old : HashMap (ℕ × ℕ) (List ℕ) S) (digests : ℕ → Option ℕ) (id : ℕ) → DropsMarks old old (is_mark digests 0 id)
 drops_none old digests id w d i = ap (λ b. not b && has_mark old w d i) (sym (no_key_yet digests id w d i))
 
 spread : (a b c e : Bool) → (a && ((b || c) && e)) ≡ ((a && (b && e)) || (a && (c && e)))
@@ -180,12 +166,12 @@ not_both : (a b c : Bool) → (not a && (not b && c)) ≡ (not (a || b) && c)
 not_both true b c = refl
 not_both false b c = refl
 
-pub adds_more : {X : Type 0} (a b c : BTreeMap (ℕ × ℕ × ℕ) X) (digests : ℕ → Option ℕ) (k id : ℕ) → AddsMarks a b (is_mark digests k id) → AddsMarks b c (is_mark_at digests k id) → AddsMarks a c (is_mark digests (k + 1) id)
+pub adds_more : {S : Type 0} (a b c : HashMap (ℕ × ℕ) (List ℕ) S) (digests : ℕ → Option ℕ) (k id : ℕ) → AddsMarks a b (is_mark digests k id) → AddsMarks b c (is_mark_at digests k id) → AddsMarks a c (is_mark digests (k + 1) id)
 adds_more a b c digests k id h g w d i =
     g w d i ∙ ap (λ t. is_mark_at digests k id w d i || t) (h w d i) ∙ or_assoc (is_mark_at digests k id w d i) (is_mark digests k id w d i) (has_mark a w d i)
     ∙ ap (λ t. t || has_mark a w d i) (sym (mark_more digests k id w d i))
 
-pub drops_more : {X : Type 0} (a b c : BTreeMap (ℕ × ℕ × ℕ) X) (digests : ℕ → Option ℕ) (k id : ℕ) → DropsMarks a b (is_mark digests k id) → DropsMarks b c (is_mark_at digests k id) → DropsMarks a c (is_mark digests (k + 1) id)
+pub drops_more : {S : Type 0} (a b c : HashMap (ℕ × ℕ) (List ℕ) S) (digests : ℕ → Option ℕ) (k id : ℕ) → DropsMarks a b (is_mark digests k id) → DropsMarks b c (is_mark_at digests k id) → DropsMarks a c (is_mark digests (k + 1) id)
 drops_more a b c digests k id h g w d i =
     g w d i ∙ ap (λ t. not (is_mark_at digests k id w d i) && t) (h w d i) ∙ not_both (is_mark_at digests k id w d i) (is_mark digests k id w d i) (has_mark a w d i)
     ∙ ap (λ t. not t && has_mark a w d i) (sym (mark_more digests k id w d i))
@@ -205,7 +191,7 @@ taken_back : (m a : Bool) → (m ≡ true → a ≡ false) → (not m && (m || a
 taken_back true a h = sym (h refl)
 taken_back false a h = refl
 
-pub undone : {X : Type 0} (a b c e : BTreeMap (ℕ × ℕ × ℕ) X) (digests : ℕ → Option ℕ) (k n id : ℕ) → k ≤ n → HasNone a (is_mark digests n id) → AddsMarks a b (is_mark digests k id) → KeepsMarks b c → DropsMarks c e (is_mark digests k id) → KeepsMarks a e
+pub undone : {S : Type 0} (a b c e : HashMap (ℕ × ℕ) (List ℕ) S) (digests : ℕ → Option ℕ) (k n id : ℕ) → k ≤ n → HasNone a (is_mark digests n id) → AddsMarks a b (is_mark digests k id) → KeepsMarks b c → DropsMarks c e (is_mark digests k id) → KeepsMarks a e
 undone a b c e digests k n id le none h same g w d i =
     g w d i ∙ ap (λ t. not (is_mark digests k id w d i) && t) (same w d i ∙ h w d i)
     ∙ taken_back (is_mark digests k id w d i) (has_mark a w d i) (λ t. none w d i (still_mark digests k n id w d i le t))
@@ -270,18 +256,18 @@ one_digest (Text s) (Text t) e = ap Text ((bytes_eq-Decides s t).0 e)
 below_count : (w count : ℕ) → w < count → ltb w count ≡ true
 below_count w count lt = grind (arith, nat_tests)
 
-module _ {R X : Type 0} (id_of : R → ℕ) (key_of : ℕ → R → Option KeyValue) (count : ℕ) where
-  pub none_of_new : (rows : List R) (marks : BTreeMap (ℕ × ℕ × ℕ) X) (digests : ℕ → Option ℕ) (id : ℕ) → AreMarksOf id_of key_of count rows marks → row_at id_of id rows ≡ None → HasNone marks (is_mark digests count id)
+module _ {R S : Type 0} (id_of : R → ℕ) (key_of : ℕ → R → Option KeyValue) (count : ℕ) where
+  pub none_of_new : (rows : List R) (marks : HashMap (ℕ × ℕ) (List ℕ) S) (digests : ℕ → Option ℕ) (id : ℕ) → AreMarksOf id_of key_of count rows marks → row_at id_of id rows ≡ None → HasNone marks (is_mark digests count id)
   none_of_new rows marks digests id are none w d i t =
       are w d i ∙ ap (λ o. is_marked key_of count o w d) (subst (λ n. row_at id_of n rows ≡ None) (mark_parts digests count id w d i t).0 none)
 
-  pub none_of_fresh : (rows : List R) (marks : BTreeMap (ℕ × ℕ × ℕ) X) (new old : R) (id : ℕ) → AreMarksOf id_of key_of count rows marks → row_at id_of id rows ≡ Some old → HasNone marks (is_mark (fresh_digests key_of new (Some old)) count id)
+  pub none_of_fresh : (rows : List R) (marks : HashMap (ℕ × ℕ) (List ℕ) S) (new old : R) (id : ℕ) → AreMarksOf id_of key_of count rows marks → row_at id_of id rows ≡ Some old → HasNone marks (is_mark (fresh_digests key_of new (Some old)) count id)
   none_of_fresh rows marks new old id are there w d i t =
       let parts = mark_parts (fresh_digests key_of new (Some old)) count id w d i t in
       are w d i ∙ ap (λ o. is_marked key_of count o w d) (subst (λ n. row_at id_of n rows ≡ Some old) parts.0 there)
       ∙ fresh_is_not (digest_at key_of w new) (digest_at key_of w old) (ltb w count) d parts.1
 
-  pub marked_with : (rows : List R) (old new : BTreeMap (ℕ × ℕ × ℕ) X) (row : R) → AreMarksOf id_of key_of count rows old → row_at id_of (id_of row) rows ≡ None
+  pub marked_with : (rows : List R) (old new : HashMap (ℕ × ℕ) (List ℕ) S) (row : R) → AreMarksOf id_of key_of count rows old → row_at id_of (id_of row) rows ≡ None
       → AddsMarks old new (is_mark (fresh_digests key_of row None) count (id_of row)) → AreMarksOf id_of key_of count (with_row id_of row rows) new
   marked_with rows old new row are none h w d i = h w d i ∙ go (eqb (id_of row) i) refl ∙ ap (λ o. is_marked key_of count o w d) (sym (at_with id_of row rows i))
     where
@@ -292,7 +278,7 @@ module _ {R X : Type 0} (id_of : R → ℕ) (key_of : ℕ → R → Option KeyVa
           ∙ ap (λ o. ltb w count && option_eq same_number o (Some d)) (fresh_of_none (digest_at key_of w row))
       go false f = are w d i
 
-  pub marked_without : (rows : List R) (old new : BTreeMap (ℕ × ℕ × ℕ) X) (row : R) (id : ℕ) → AreMarksOf id_of key_of count rows old → row_at id_of id rows ≡ Some row
+  pub marked_without : (rows : List R) (old new : HashMap (ℕ × ℕ) (List ℕ) S) (row : R) (id : ℕ) → AreMarksOf id_of key_of count rows old → row_at id_of id rows ≡ Some row
       → DropsMarks old new (is_mark (fresh_digests key_of row None) count id) → AreMarksOf id_of key_of count (drop_row id_of id rows) new
   marked_without rows old new row id are there h w d i = h w d i ∙ go (eqb id i) refl ∙ ap (λ o. is_marked key_of count o w d) (sym (at_drop id_of id rows i))
     where
@@ -304,7 +290,7 @@ module _ {R X : Type 0} (id_of : R → ℕ) (key_of : ℕ → R → Option KeyVa
           ∙ ap (λ o. ltb w count && option_eq same_number o (Some d)) (sym (fresh_of_none (digest_at key_of w row))))
       go false f = are w d i
 
-  pub marked_put : (rows : List R) (a c : BTreeMap (ℕ × ℕ × ℕ) X) (new old : R) (id : ℕ) → AreMarksOf id_of key_of count rows a → id ≡ id_of new → row_at id_of id rows ≡ Some old
+  pub marked_put : (rows : List R) (a c : HashMap (ℕ × ℕ) (List ℕ) S) (new old : R) (id : ℕ) → AreMarksOf id_of key_of count rows a → id ≡ id_of new → row_at id_of id rows ≡ Some old
       → ExchangesMarks a c (is_mark (fresh_digests key_of new (Some old)) count id) (is_mark (fresh_digests key_of old (Some new)) count id) → AreMarksOf id_of key_of count (put_row id_of new rows) c
   marked_put rows a c new old id are is there g w d i =
       g w d i
@@ -328,7 +314,7 @@ module _ {R X : Type 0} (id_of : R → ℕ) (key_of : ℕ → R → Option KeyVa
 
   -- a row is marked with its keys
 
-  pub marked_row : (rows : List R) (marks : BTreeMap (ℕ × ℕ × ℕ) X) (w : ℕ) (key : KeyValue) (row : R) → AreMarksOf id_of key_of count rows marks → IsRising id_of rows → w < count → Has rows row → has_key key_of w key row ≡ true
+  pub marked_row : (rows : List R) (marks : HashMap (ℕ × ℕ) (List ℕ) S) (w : ℕ) (key : KeyValue) (row : R) → AreMarksOf id_of key_of count rows marks → IsRising id_of rows → w < count → Has rows row → has_key key_of w key row ≡ true
       → has_mark marks w (digest key) (id_of row) ≡ true
   marked_row rows marks w key row are r lt there has =
       are w (digest key) (id_of row) ∙ ap (λ o. is_marked key_of count o w (digest key)) (at_member id_of rows row r there)
@@ -339,7 +325,7 @@ module _ {R X : Type 0} (id_of : R → ℕ) (key_of : ℕ → R → Option KeyVa
       go None e = let no : false ≡ true = e in absurd cc
       go (Some k) e = let same : digest k ≡ digest key = ap digest (one_digest k key e) in grind (arith, nat_tests, same)
 
-  module _ (rows : List R) (marks : BTreeMap (ℕ × ℕ × ℕ) X) (w after : ℕ) (key : KeyValue) (are : AreMarksOf id_of key_of count rows marks) (rises : IsRising id_of rows) (lt : w < count) where
+  module _ (rows : List R) (marks : HashMap (ℕ × ℕ) (List ℕ) S) (w after : ℕ) (key : KeyValue) (are : AreMarksOf id_of key_of count rows marks) (rises : IsRising id_of rows) (lt : w < count) where
     -- no mark, no row
     pub none_marked : IsNextMark marks w (digest key) after None → None ≡ row_above id_of after (filter (has_key key_of w key) rows)
     none_marked none = next_is id_of (has_key key_of w key) after rows None rises (λ y there t a. let yes = marked_row rows marks w key y are rises lt there t in let no = none (id_of y) a in let bad : true ≡ false = sym yes ∙ no in cc)

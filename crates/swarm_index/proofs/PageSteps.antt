@@ -1,254 +1,247 @@
--- What becomes of the rows as a place of a page is filled or emptied, and as pages come and go.
-use Rattle.std.proofs.Common.{◌≡◌, ◌<◌, ◌+◌, ◌*◌, ◌∷◌, ◌∙◌, ℕ, zero, suc, Bool, true, false, cond, eqb, List, [], None, Option, Some, length, set, replicate, refl, sym, ap, subst, arith}
-use Rattle.std.proofs.lemmas.Bool.Decides.{nat_tests}
-use Rattle.std.proofs.lemmas.List.{get_or-replicate, get_or-set_other, get_or-set_same, length-replicate, length-set, set-get_or}
-use Rattle.std.specs.BTreeMap.{BTreeMap, insert_entry, is_at}
+-- The places of pages one behind the other: a place of a page is one of them, and further pages without rows change nothing.
+use Rattle.std.proofs.Common.{◌≡◌, ◌<◌, ◌≤◌, ◌+◌, ◌-◌, ◌*◌, ◌++◌, ◌∷◌, ◌∙◌, Bool, cond, ℕ, zero, suc, true, false, List, [], None, Option, Some, length, drop, get_or, set, replicate, refl, sym, ap, subst, arith}
+use Rattle.std.proofs.lemmas.List.{drop-append-le, drop-drop, drop-replicate, drop_all, drop_at, drop_more, get_or-append_right, get_or-replicate, get_or_append_left, get_or_past, get_or_read, length-append, length-replicate, length-set, append-nil, append_assoc, set-append_left, set-append_right, set-get_or, set-set}
+use Rattle.std.specs.BTreeMap.{insert_entry, is_at}
 use Rattle.std.specs.Map.{remove_entry, set_value}
-use Rattle.std.specs.Option.{option_and_then}
 use Rattle.std.specs.Ordering.{nat_cmp}
-use Rattle.std.specs.Prelude.{is_some, ◌/◌, ◌%◌}
-use Rattle.swarm_index.proofs.Paged.{found, found_inserted, found_on, found_removed, found_set, found_unpaged, is_page, insert_pages, remove_pages, removed_none, rises, row_on, same_found, set_pages, set_removed, set_same, starts_pages, starts_rows}
-use Rattle.swarm_index.specs.Inside.Boxes.{ArePages, IsPage, first_in, row_in, unpaged}
-use Rattle.swarm_objects.specs.MapEntries.{entry_key}
-use Rattle.swarm_objects.specs.Rows.{IsRising}
-use Rattle.swarm_objects.proofs.MapEntries.{put-rising, remove-rising, set-rising}
-
--- equal maps have equal entries
-pub same_entries : {V : Type 0} (m n : BTreeMap ℕ V) → m ≡ n → m.entries ≡ n.entries
-same_entries {V} m n same = ap (λ (map : BTreeMap ℕ V). map.entries) same
+use Rattle.std.specs.Prelude.{◌/◌, ◌%◌, is_some}
+use Rattle.swarm_index.proofs.Paged.{first_above, found, next_row, no_more_rows, row_changes, row_comes, row_found, row_goes}
+use Rattle.swarm_index.specs.Inside.Boxes.{ArePages, Pages, all_places, first_from, first_in, on_page, page_in, row_in, rows_in, unpaged}
+use Rattle.swarm_index.specs.Inside.Merged.{first_some}
 
 module _ {R : Type 0} where
-  -- places of one page
+  -- places without rows
 
-  first_none : (page : List (Option R)) (i : ℕ) → first_in page ≡ None → row_in page i ≡ None
-  first_none [] i none = refl
-  first_none (None ∷ places) zero none = refl
-  first_none (None ∷ places) (suc i) none = first_none places i none
-  first_none (Some row ∷ places) i none = let some : Some row ≡ None = none in cc
+  none_in : (n : ℕ) → ◌≡◌ {A = Option R} (first_in (replicate n None)) None
+  none_in zero = refl
+  none_in (suc n) = none_in n
 
-  first_set : (page : List (Option R)) (i : ℕ) (row : R) → i < length page → is_some (first_in (set page i (Some row))) ≡ true
-  first_set [] i row lt = absurd (omega (arith, lt))
-  first_set (None ∷ places) zero row lt = refl
-  first_set (Some other ∷ places) zero row lt = refl
-  first_set (None ∷ places) (suc i) row lt = first_set places i row (omega (arith, lt))
-  first_set (Some other ∷ places) (suc i) row lt = refl
+  none_from : (i n : ℕ) → ◌≡◌ {A = Option R} (first_from i (replicate n None)) None
+  none_from i n = ap first_in (drop-replicate i n None) ∙ none_in (n - i)
 
-  row_set : (page : List (Option R)) (i : ℕ) (o : Option R) (j : ℕ) → i < length page → row_in (set page i o) j ≡ cond (eqb i j) o (row_in page j)
-  row_set page i o j lt = go (eqb i j) refl
-    where
-      go : (b : Bool) → eqb i j ≡ b → row_in (set page i o) j ≡ cond b o (row_in page j)
-      go true is = let same : j ≡ i = grind (arith, nat_tests, is) in ap (row_in (set page i o)) same ∙ get_or-set_same page i o None lt
-      go false is = get_or-set_other page i j o None (λ same. grind (arith, nat_tests, is, same))
+  empty_page : (page : List (Option R)) → first_in page ≡ None → page ≡ replicate (length page) None
+  empty_page [] none = refl
+  empty_page (None ∷ places) none = ap (λ (p : List (Option R)). None ∷ p) (empty_page places none)
+  empty_page (Some row ∷ places) none = let some : Some row ≡ None = none in cc
 
-  pub filled_page : (page : List (Option R)) (i : ℕ) (row : R) → IsPage page → i < 64 → IsPage (set page i (Some row))
-  filled_page page i row is lt = record { whole = length-set page i (Some row) ∙ is.whole; filled = first_set page i row (omega (arith, lt, is.whole)) }
+  first_joined : (places rest : List (Option R)) → first_in (places ++ rest) ≡ first_some (first_in places) (first_in rest)
+  first_joined [] rest = refl
+  first_joined (None ∷ places) rest = first_joined places rest
+  first_joined (Some row ∷ places) rest = refl
 
-  pub new_page : (i : ℕ) (row : R) → i < 64 → IsPage (set (replicate 64 None) i (Some row))
-  new_page i row lt = record {
-    whole = length-set (replicate 64 None) i (Some row) ∙ length-replicate 64 (let nothing : Option R = None in nothing);
-    filled = first_set (replicate 64 None) i row (subst (λ (n : ℕ). i < n) (sym (length-replicate 64 (let nothing : Option R = None in nothing))) lt);
-  }
+  -- the place of an id, among all and on its page
 
-  pub left_page : (page : List (Option R)) (i : ℕ) → IsPage page → is_some (first_in (set page i None)) ≡ true → IsPage (set page i None)
-  left_page page i is some = record { whole = length-set page i None ∙ is.whole; filled = some }
+  places_count : (pages : Pages R) → ArePages pages → length (all_places pages) ≡ 64 * length pages
+  places_count [] are = refl
+  places_count (page ∷ pages) are =
+      length-append (on_page page) (all_places pages)
+      ∙ (let rest = places_count pages are.1 in let e : length (on_page page) + length (all_places pages) ≡ 64 * suc (length pages) = omega (arith, are.0, rest) in e)
 
-  -- what is found at a place is put back there
-  pub same_page : (page : List (Option R)) (i : ℕ) (o : Option R) → row_in page i ≡ o → set page i o ≡ page
-  same_page page i o is = ap (set page i) (sym is) ∙ set-get_or page i None
+  at_place : (pages : Pages R) (key at id : ℕ) → ArePages pages → at < 64 → id ≡ 64 * key + at → row_in (page_in pages key) at ≡ row_in (all_places pages) id
+  at_place [] key at id are lt e = get_or-replicate 64 at None None lt
+  at_place (page ∷ pages) zero at id are lt e =
+      ap (row_in (on_page page)) (let same : at ≡ id = omega (arith, e) in same)
+      ∙ sym (get_or_append_left (on_page page) (all_places pages) None id (omega (arith, e, lt, are.0)))
+  at_place (page ∷ pages) (suc key) at id are lt e =
+      at_place pages key at (id - 64) are.1 lt (omega (arith, e))
+      ∙ sym (get_or-append_right (on_page page) (all_places pages) 64 id None are.0 (omega (arith, e)))
 
-  -- of all places, that of the id has this now
-  abbrev Sets : List (ℕ × List (Option R)) → List (ℕ × List (Option R)) → ℕ → Option R → Type 0
-  Sets es new id o = (k i : ℕ) → i < 64 → row_on new k i ≡ cond (eqb (64 * k + i) id) o (row_on es k i)
+  set_place : (pages : Pages R) (key at id : ℕ) (o : Option R) → ArePages pages → key < length pages → at < 64 → id ≡ 64 * key + at
+      → all_places (set pages key (Some (set (page_in pages key) at o))) ≡ set (all_places pages) id o
+  set_place [] key at id o are there lt e = absurd (omega (arith, there))
+  set_place (page ∷ pages) zero at id o are there lt e =
+      sym (set-append_left (on_page page) (all_places pages) at o (omega (arith, lt, are.0)))
+      ∙ ap (λ (i : ℕ). set (on_page page ++ all_places pages) i o) (let same : at ≡ id = omega (arith, e) in same)
+  set_place (page ∷ pages) (suc key) at id o are there lt e =
+      ap (λ (places : List (Option R)). on_page page ++ places) (set_place pages key at (id - 64) o are.1 (omega (arith, there)) lt (omega (arith, e)))
+      ∙ sym (set-append_right (on_page page) (all_places pages) 64 id o are.0 (omega (arith, e)))
 
-  -- .. since its page has, or goes
-  by_page : (es new : List (ℕ × List (Option R))) (id key at : ℕ) → at < 64 → id ≡ 64 * key + at → (w : Option (List (Option R))) (o : Option R)
-      → ((k : ℕ) → found new k ≡ cond (eqb key k) w (found es k))
-      → ((i : ℕ) → i < 64 → option_and_then (λ (page : List (Option R)). row_in page i) w ≡ cond (eqb at i) o (row_on es key i))
-      → Sets es new id o
-  by_page es new id key at within parts w o maps places k i lt = ap (option_and_then (λ (page : List (Option R)). row_in page i)) (maps k) ∙ go (eqb key k) refl
-    where
-      go : (b : Bool) → eqb key k ≡ b → option_and_then (λ (page : List (Option R)). row_in page i) (cond b w (found es k)) ≡ cond (eqb (64 * k + i) id) o (row_on es k i)
-      go true is =
-          let same : key ≡ k = grind (arith, nat_tests, is) in
-          places i lt ∙ ap (λ (b : Bool). cond b o (row_on es key i)) (test same) ∙ ap (λ (m : ℕ). cond (eqb (64 * k + i) id) o (row_on es m i)) same
-        where
-          test : key ≡ k → eqb at i ≡ eqb (64 * k + i) id
-          test same = both (eqb at i) refl (eqb (64 * k + i) id) refl
-            where
-              both : (a : Bool) → eqb at i ≡ a → (b : Bool) → eqb (64 * k + i) id ≡ b → a ≡ b
-              both true p true q = refl
-              both false p false q = refl
-              both true p false q = let e : at ≡ i = grind (arith, nat_tests, p) in let f : 64 * k + i ≡ id = omega (arith, e, same, parts) in grind (arith, nat_tests, q, f)
-              both false p true q = let f : 64 * k + i ≡ id = grind (arith, nat_tests, q) in let e : at ≡ i = omega (arith, f, same, lt, within, parts) in grind (arith, nat_tests, p, e)
-      go false is = ap (λ (b : Bool). cond b o (row_on es k i)) (sym (other (eqb (64 * k + i) id) refl))
-        where
-          other : (b : Bool) → eqb (64 * k + i) id ≡ b → b ≡ false
-          other false q = refl
-          other true q = let f : 64 * k + i ≡ id = grind (arith, nat_tests, q) in let e : key ≡ k = omega (arith, f, lt, within, parts) in grind (arith, nat_tests, is, e)
+  from_place : (pages : Pages R) (key at id : ℕ) → ArePages pages → at ≤ 64 → id ≡ 64 * key + at
+      → first_from id (all_places pages) ≡ first_some (first_from at (page_in pages key)) (first_in (all_places (drop (suc key) pages)))
+  from_place [] key at id are le e = ap first_in (drop_all id [] (omega arith)) ∙ ap (λ (o : Option R). first_some o None) (sym (none_from at 64))
+  from_place (page ∷ pages) zero at id are le e =
+      ap (λ (i : ℕ). first_from i (on_page page ++ all_places pages)) (let same : id ≡ at = omega (arith, e) in same)
+      ∙ ap first_in (drop-append-le at (on_page page) (all_places pages) (omega (arith, le, are.0)))
+      ∙ first_joined (drop at (on_page page)) (all_places pages)
+  from_place (page ∷ pages) (suc key) at id are le e =
+      ap (λ (i : ℕ). first_from i (on_page page ++ all_places pages)) (let same : id ≡ 64 + (64 * key + at) = omega (arith, e) in same)
+      ∙ ap first_in (sym (drop-drop (64 * key + at) 64 (on_page page ++ all_places pages)))
+      ∙ ap (λ (places : List (Option R)). first_from (64 * key + at) places) (drop_at (on_page page) (all_places pages) 64 are.0)
+      ∙ from_place pages key at (64 * key + at) are.1 le refl
 
-  sets_place : (es : List (ℕ × List (Option R))) (id key at : ℕ) → at < 64 → id ≡ 64 * key + at → (page : List (Option R)) (o : Option R) → found es key ≡ Some page → length page ≡ 64
-      → Sets es (set_value (is_at (nat_cmp key)) es (set page at o)) id o
-  sets_place es id key at within parts page o there long =
-      by_page es (set_value (is_at (nat_cmp key)) es (set page at o)) id key at within parts (Some (set page at o)) o
-      (λ k. found_set es key page (set page at o) k there)
-      (λ i lt. row_set page at o i (omega (arith, long, within))
-      ∙ ap (λ (p : Option (List (Option R))). cond (eqb at i) o (option_and_then (λ (q : List (Option R)). row_in q i) p)) (sym there))
+  -- pages that are set
 
-  sets_new : (es : List (ℕ × List (Option R))) (id key at : ℕ) → at < 64 → id ≡ 64 * key + at → (row : R) → found es key ≡ None
-      → Sets es (insert_entry nat_cmp es key (set (replicate 64 None) at (Some row))) id (Some row)
-  sets_new es id key at within parts row none =
-      by_page es (insert_entry nat_cmp es key (set (replicate 64 None) at (Some row))) id key at within parts (Some (set (replicate 64 None) at (Some row))) (Some row)
-      (λ k. found_inserted es key (set (replicate 64 None) at (Some row)) k)
-      (λ i lt. row_set (replicate 64 None) at (Some row) i (subst (λ (n : ℕ). at < n) (sym (length-replicate 64 (let nothing : Option R = None in nothing))) within)
-      ∙ ap (cond (eqb at i) (Some row)) (get_or-replicate 64 i None None lt)
-      ∙ ap (λ (p : Option (List (Option R))). cond (eqb at i) (Some row) (option_and_then (λ (q : List (Option R)). row_in q i) p)) (sym none))
+  same_pages : (pages : Pages R) (key : ℕ) (a b : Option (List (Option R))) → on_page a ≡ on_page b → all_places (set pages key a) ≡ all_places (set pages key b)
+  same_pages [] key a b e = refl
+  same_pages (page ∷ pages) zero a b e = ap (λ (places : List (Option R)). places ++ all_places pages) e
+  same_pages (page ∷ pages) (suc key) a b e = ap (λ (places : List (Option R)). on_page page ++ places) (same_pages pages key a b e)
 
-  sets_gone : (es : List (ℕ × List (Option R))) (id key at : ℕ) → at < 64 → id ≡ 64 * key + at → (page : List (Option R)) → ArePages 0 es → found es key ≡ Some page → length page ≡ 64
-      → first_in (set page at None) ≡ None → Sets es (remove_entry (is_at (nat_cmp key)) es) id None
-  sets_gone es id key at within parts page are there long none =
-      by_page es (remove_entry (is_at (nat_cmp key)) es) id key at within parts None None
-      (λ k. found_removed 0 es key k (starts_pages 0 es are))
-      (λ i lt. sym (first_none (set page at None) i none) ∙ row_set page at None i (omega (arith, long, within))
-      ∙ ap (λ (p : Option (List (Option R))). cond (eqb at i) None (option_and_then (λ (q : List (Option R)). row_in q i) p)) (sym there))
+  set_pages : (pages : Pages R) (key : ℕ) (page : Option (List (Option R))) → ArePages pages → length (on_page page) ≡ 64 → ArePages (set pages key page)
+  set_pages [] key page are long = tt
+  set_pages (p ∷ pages) zero page are long = (long, are.1)
+  set_pages (p ∷ pages) (suc key) page are long = (are.0, set_pages pages key page are.1 long)
 
-  -- what is found then, and so what becomes of the rows
+  own_long : (pages : Pages R) (key : ℕ) → ArePages pages → length (page_in pages key) ≡ 64
+  own_long [] key are = length-replicate 64 (let nothing : Option R = None in nothing)
+  own_long (page ∷ pages) zero are = are.0
+  own_long (page ∷ pages) (suc key) are = own_long pages key are.1
 
-  found_sets : (es new : List (ℕ × List (Option R))) (id : ℕ) (o : Option R) → ArePages 0 es → ArePages 0 new → Sets es new id o
-      → (q : ℕ) → found (unpaged new) q ≡ cond (eqb id q) o (found (unpaged es) q)
-  found_sets es new id o are are_new sets q =
-      found_unpaged new q are_new ∙ sets (q / 64) (q % 64) (omega arith)
-      ∙ ap (λ (n : ℕ). cond (eqb n id) o (row_on es (q / 64) (q % 64))) (let e : 64 * (q / 64) + q % 64 ≡ q = omega arith in e)
-      ∙ ap (λ (b : Bool). cond b o (row_on es (q / 64) (q % 64))) (let e : eqb q id ≡ eqb id q = grind (arith, nat_tests) in e)
-      ∙ ap (cond (eqb id q) o) (sym (found_unpaged es q are))
+  -- the directory gets longer
 
-  module _ (es new : List (ℕ × List (Option R))) (id : ℕ) (are : ArePages 0 es) (are_new : ArePages 0 new) where
-    before : IsRising entry_key (unpaged es)
-    before = rises (64 * 0) (unpaged es) (starts_rows 0 es are)
+  more_pages : (pages : Pages R) → ArePages pages → ArePages (pages ++ None ∷ [])
+  more_pages [] are = (length-replicate 64 (let nothing : Option R = None in nothing), tt)
+  more_pages (page ∷ pages) are = (are.0, more_pages pages are.1)
 
-    after : IsRising entry_key (unpaged new)
-    after = rises (64 * 0) (unpaged new) (starts_rows 0 new are_new)
+  more_places : (pages : Pages R) → all_places (pages ++ None ∷ []) ≡ all_places pages ++ replicate 64 None
+  more_places [] = append-nil (replicate 64 None)
+  more_places (page ∷ pages) = ap (λ (places : List (Option R)). on_page page ++ places) (more_places pages) ∙ sym (append_assoc (on_page page) (all_places pages) (replicate 64 None))
 
-    row_comes : (row : R) → Sets es new id (Some row) → unpaged new ≡ insert_entry nat_cmp (unpaged es) id row
-    row_comes row sets = same_found (unpaged new) (insert_entry nat_cmp (unpaged es) id row) after (put-rising id row (unpaged es) before)
-        (λ q. found_sets es new id (Some row) are are_new sets q ∙ sym (found_inserted (unpaged es) id row q))
+  more_rows : (pages : Pages R) → unpaged (pages ++ None ∷ []) ≡ unpaged pages
+  more_rows pages = ap (rows_in 0) (more_places pages) ∙ no_more_rows 0 64 (all_places pages)
 
-    row_changes : (old row : R) → found (unpaged es) id ≡ Some old → Sets es new id (Some row) → unpaged new ≡ set_value (is_at (nat_cmp id)) (unpaged es) row
-    row_changes old row there sets = same_found (unpaged new) (set_value (is_at (nat_cmp id)) (unpaged es) row) after (set-rising id row (unpaged es) before)
-        (λ q. found_sets es new id (Some row) are are_new sets q ∙ sym (found_set (unpaged es) id old row q there))
+  -- .. if there is memory
+  pub pushed_rows : (old new : Pages R) (b : Bool) → new ≡ cond b (old ++ None ∷ []) old → unpaged new ≡ unpaged old
+  pushed_rows old new true is = ap unpaged is ∙ more_rows old
+  pushed_rows old new false is = ap unpaged is
 
-    row_goes : Sets es new id None → unpaged new ≡ remove_entry (is_at (nat_cmp id)) (unpaged es)
-    row_goes sets = same_found (unpaged new) (remove_entry (is_at (nat_cmp id)) (unpaged es)) after (remove-rising id (unpaged es) before)
-        (λ q. found_sets es new id None are are_new sets q ∙ sym (found_removed (64 * 0) (unpaged es) id q (starts_rows 0 es are)))
+  pub pushed_pages : (old new : Pages R) (b : Bool) → new ≡ cond b (old ++ None ∷ []) old → ArePages old → ArePages new
+  pushed_pages old new true is are = subst (λ (pages : Pages R). ArePages pages) (sym is) (more_pages old are)
+  pushed_pages old new false is are = subst (λ (pages : Pages R). ArePages pages) (sym is) are
 
-  -- a page that was made for a row
-  module _ (made : List (Option R)) (at : ℕ) (none : made ≡ replicate 64 None) (within : at < 64) where
-    pub made_long : at < length made
-    made_long = subst (λ (n : ℕ). at < n) (sym (ap length none ∙ length-replicate 64 (let nothing : Option R = None in nothing))) within
+  -- a walk over the directory: the row that is found at a place, or else none there
+  module _ (pages : Pages R) (key : ℕ) where
+    step : key < length pages → first_in (all_places (drop key pages)) ≡ first_some (first_from 0 (page_in pages key)) (first_in (all_places (drop (key + 1) pages)))
+    step lt =
+        ap (λ (ps : Pages R). first_in (all_places ps)) (drop_more pages key None lt)
+        ∙ first_joined (page_in pages key) (all_places (drop (key + 1) pages))
 
-    module _ (page : List (Option R)) (row : R) (is : page ≡ set made at (Some row)) where
-      pub put_long : at < length page
-      put_long = subst (λ (n : ℕ). at < n) (sym (ap length is ∙ length-set made at (Some row))) made_long
+    pub finds : (row : R) (t : Option R) → key < length pages → Some row ≡ first_from 0 (page_in pages key) → first_in (all_places (drop key pages)) ≡ t → Some row ≡ t
+    finds row t lt some so = ap (λ (o : Option R). first_some o (first_in (all_places (drop (key + 1) pages)))) some ∙ sym (step lt) ∙ so
 
-      pub put_there : row_in page at ≡ Some row
-      put_there = ap (λ (p : List (Option R)). row_in p at) is ∙ get_or-set_same made at (Some row) None made_long
+    pub goes_on : (t : Option R) → key < length pages → None ≡ first_from 0 (page_in pages key) → first_in (all_places (drop key pages)) ≡ t → first_in (all_places (drop (key + 1) pages)) ≡ t
+    goes_on t lt none so = ap (λ (o : Option R). first_some o (first_in (all_places (drop (key + 1) pages)))) none ∙ sym (step lt) ∙ so
 
-  -- of a map whose pages are seen as rows
-  module _ (es : List (ℕ × List (Option R))) (seen : List (ℕ × R)) (view : unpaged es ≡ seen) (are : ArePages 0 es) (id key at : ℕ) (within : at < 64) (parts : id ≡ 64 * key + at) where
-    here : found (unpaged es) id ≡ row_on es key at
-    here = ap (found (unpaged es)) parts ∙ found_on 0 es key at are within
+  -- where the page isn't there
+  pub no_first : (pages : Pages R) (key at : ℕ) → None ≡ get_or pages key None → None ≡ first_from at (page_in pages key)
+  no_first pages key at none = sym (none_from at 64) ∙ ap (λ (p : Option (List (Option R))). first_from at (on_page p)) none
 
-    pub row_there : (page : List (Option R)) → found es key ≡ Some page → row_in page at ≡ found seen id
-    row_there page there = ap (option_and_then (λ (p : List (Option R)). row_in p at)) (sym there) ∙ sym here ∙ ap (λ (rows : List (ℕ × R)). found rows id) view
+  -- of a directory that is seen as rows
+  module _ (pages : Pages R) (seen : List (ℕ × R)) (view : unpaged pages ≡ seen) (are : ArePages pages) (id key at : ℕ) (its_key : key ≡ id / 64) (its_at : at ≡ id % 64) where
+    within : at < 64
+    within = omega (arith, its_at)
 
-    pub no_row : found es key ≡ None → None ≡ found seen id
-    no_row none = ap (option_and_then (λ (p : List (Option R)). row_in p at)) (sym none) ∙ sym here ∙ ap (λ (rows : List (ℕ × R)). found rows id) view
+    parts : id ≡ 64 * key + at
+    parts = omega (arith, its_key, its_at)
 
-    pub long_page : (page : List (Option R)) → found es key ≡ Some page → at < length page
-    long_page page there = let is = is_page 0 es key page are there in omega (arith, is.whole, within)
+    row_there : row_in (page_in pages key) at ≡ found seen id
+    row_there = at_place pages key at id are within parts ∙ row_found 0 id id (all_places pages) (omega arith) ∙ ap (λ (rows : List (ℕ × R)). found rows id) view
 
-    module _ (page : List (Option R)) (there : found es key ≡ Some page) where
-      its_page : IsPage page
-      its_page = is_page 0 es key page are there
+    pub no_row : None ≡ get_or pages key None → None ≡ found seen id
+    no_row none = sym (get_or-replicate 64 at None None within) ∙ ap (λ (p : Option (List (Option R))). row_in (on_page p) at) none ∙ row_there
 
-      its_sets : (new : List (ℕ × List (Option R))) (o : Option R) → new ≡ set_value (is_at (nat_cmp key)) es (set page at o) → Sets es new id o
-      its_sets new o is = subst (λ (xs : List (ℕ × List (Option R))). Sets es xs id o) (sym is) (sets_place es id key at within parts page o there its_page.whole)
+    -- its page
+    module _ (page : List (Option R)) (own : page_in pages key ≡ page) where
+      pub at_row : row_in page at ≡ found seen id
+      at_row = ap (λ (p : List (Option R)). row_in p at) (sym own) ∙ row_there
 
-      -- the page as it is left
-      module _ (new : List (ℕ × List (Option R))) (left : List (Option R)) (is : new ≡ set_value (is_at (nat_cmp key)) es left) where
-        so : (p : List (Option R)) → left ≡ p → new ≡ set_value (is_at (nat_cmp key)) es p
-        so p e = is ∙ ap (set_value (is_at (nat_cmp key)) es) e
+      its_long : length page ≡ 64
+      its_long = ap length (sym own) ∙ own_long pages key are
 
-        pages_so : (p : List (Option R)) → left ≡ p → IsPage p → ArePages 0 new
-        pages_so p e page_is = subst (λ (xs : List (ℕ × List (Option R))). ArePages 0 xs) (sym (so p e)) (set_pages 0 es key p are page_is)
+      pub at_long : at < length page
+      at_long = omega (arith, its_long, within)
 
-        -- .. with a row
-        pub put_pages : (row : R) → left ≡ set page at (Some row) → ArePages 0 new
-        put_pages row e = pages_so (set page at (Some row)) e (filled_page page at row its_page within)
-
-        pub put_rows : (row : R) → left ≡ set page at (Some row) → unpaged new ≡ insert_entry nat_cmp seen id row
-        put_rows row e =
-            row_comes es new id are (put_pages row e) row (its_sets new (Some row) (so (set page at (Some row)) e))
-            ∙ ap (λ (rows : List (ℕ × R)). insert_entry nat_cmp rows id row) view
-
-        pub changed_rows : (old row : R) → row_in page at ≡ Some old → left ≡ set page at (Some row) → unpaged new ≡ set_value (is_at (nat_cmp id)) seen row
-        changed_rows old row had e =
-            row_changes es new id are (put_pages row e) old row (ap (λ (rows : List (ℕ × R)). found rows id) view ∙ sym (row_there page there) ∙ had) (its_sets new (Some row) (so (set page at (Some row)) e))
-            ∙ ap (λ (rows : List (ℕ × R)). set_value (is_at (nat_cmp id)) rows row) view
-
-        -- .. as it was
-        kept : left ≡ page → new ≡ es
-        kept e = so page e ∙ set_same (is_at (nat_cmp key)) es page there
-
-        pub kept_pages : left ≡ page → ArePages 0 new
-        kept_pages e = subst (λ (xs : List (ℕ × List (Option R))). ArePages 0 xs) (sym (kept e)) are
-
-        pub kept_rows : left ≡ page → unpaged new ≡ seen
-        kept_rows e = ap unpaged (kept e) ∙ view
-
-        -- .. without a row, but with others
-        module _ (e : left ≡ set page at None) where
-          pub nothing_taken : None ≡ row_in page at → left ≡ page
-          nothing_taken none = e ∙ same_page page at None (sym none)
-
-          pub left_pages : is_some (first_in left) ≡ true → ArePages 0 new
-          left_pages some = pages_so (set page at None) e (left_page page at its_page (ap (λ (p : List (Option R)). is_some (first_in p)) (sym e) ∙ some))
-
-          pub left_rows : is_some (first_in left) ≡ true → unpaged new ≡ remove_entry (is_at (nat_cmp id)) seen
-          left_rows some = row_goes es new id are (left_pages some) (its_sets new None (so (set page at None) e)) ∙ ap (remove_entry (is_at (nat_cmp id))) view
-
-          -- .. and then it goes
-          module _ (rest : List (ℕ × List (Option R))) (goes : rest ≡ remove_entry (is_at (nat_cmp key)) new) where
-            without : rest ≡ remove_entry (is_at (nat_cmp key)) es
-            without = goes ∙ ap (remove_entry (is_at (nat_cmp key))) is ∙ set_removed (is_at (nat_cmp key)) es left
-
-            pub gone_pages : ArePages 0 rest
-            gone_pages = subst (λ (xs : List (ℕ × List (Option R))). ArePages 0 xs) (sym without) (remove_pages 0 es key are)
-
-            pub gone_rows : is_some (first_in left) ≡ false → unpaged rest ≡ remove_entry (is_at (nat_cmp id)) seen
-            gone_rows none =
-                ap unpaged without
-                ∙ row_goes es (remove_entry (is_at (nat_cmp key)) es) id are (remove_pages 0 es key are)
-                (sets_gone es id key at within parts page are there its_page.whole (nothing (first_in (set page at None)) (ap (λ (p : List (Option R)). is_some (first_in p)) (sym e) ∙ none)))
-                ∙ ap (remove_entry (is_at (nat_cmp id))) view
-              where
-                nothing : (o : Option R) → is_some o ≡ false → o ≡ None
-                nothing None f = refl
-                nothing (Some row) f = let t : true ≡ false = f in cc
-
-    -- a row in a new page
-    module _ (new : List (ℕ × List (Option R))) (made page : List (Option R)) (row : R) (none : made ≡ replicate 64 None) (put : page ≡ set made at (Some row)) (is : new ≡ insert_entry nat_cmp es key page) where
-      anew : new ≡ insert_entry nat_cmp es key (set (replicate 64 None) at (Some row))
-      anew = is ∙ ap (insert_entry nat_cmp es key) (put ∙ ap (λ (p : List (Option R)). set p at (Some row)) none)
-
-      pub new_pages : ArePages 0 new
-      new_pages = subst (λ (xs : List (ℕ × List (Option R))). ArePages 0 xs) (sym anew)
-          (insert_pages 0 es key (set (replicate 64 None) at (Some row)) (omega arith) are (new_page at row within))
-
-      pub new_rows : found es key ≡ None → unpaged new ≡ insert_entry nat_cmp seen id row
-      new_rows away =
-          row_comes es new id are new_pages row (subst (λ (xs : List (ℕ × List (Option R))). Sets es xs id (Some row)) (sym anew) (sets_new es id key at within parts row away))
-          ∙ ap (λ (rows : List (ℕ × R)). insert_entry nat_cmp rows id row) view
+    pub none_past : length pages ≤ key → None ≡ found seen id
+    none_past le = no_row (sym (get_or_past pages key None le))
 
     -- where no row was, none is removed
-    pub same_rows_left : None ≡ found seen id → seen ≡ remove_entry (is_at (nat_cmp id)) seen
-    same_rows_left none = sym (removed_none seen id (sym none))
+    pub none_left : None ≡ found seen id → seen ≡ remove_entry (is_at (nat_cmp id)) seen
+    none_left none =
+        let is : row_in (all_places pages) id ≡ None = row_found 0 id id (all_places pages) (omega arith) ∙ ap (λ (rows : List (ℕ × R)). found rows id) view ∙ sym none in
+        sym view ∙ ap (rows_in 0) (sym (set-get_or (all_places pages) id None) ∙ ap (set (all_places pages) id) is)
+        ∙ row_goes 0 id id (all_places pages) (omega arith) ∙ ap (remove_entry (is_at (nat_cmp id))) view
+
+    -- the next row is on its own page, or else the first one behind
+    next_there : first_some (first_from (at + 1) (page_in pages key)) (first_in (all_places (drop (key + 1) pages))) ≡ first_above id seen
+    next_there =
+        ap (λ (n : ℕ). first_some (first_from (at + 1) (page_in pages key)) (first_in (all_places (drop n pages)))) (let e : key + 1 ≡ suc key = omega arith in e)
+        ∙ sym (from_place pages key (at + 1) (id + 1) are (omega (arith, within)) (omega (arith, parts)))
+        ∙ next_row 0 (id + 1) id (all_places pages) (omega arith) ∙ ap (first_above id) view
+
+    pub next_here : (row : R) → Some row ≡ first_from (at + 1) (page_in pages key) → Some row ≡ first_above id seen
+    next_here row some = ap (λ (o : Option R). first_some o (first_in (all_places (drop (key + 1) pages)))) some ∙ next_there
+
+    pub next_past : (o : Option R) → None ≡ first_from (at + 1) (page_in pages key) → o ≡ first_in (all_places (drop (key + 1) pages)) → o ≡ first_above id seen
+    next_past o none is = is ∙ ap (λ (o : Option R). first_some o (first_in (all_places (drop (key + 1) pages)))) none ∙ next_there
+
+    -- what was read at the page's number
+    module _ (there : key < length pages) (read : Option (List (Option R))) (is_read : read ≡ get_or pages key read) where
+      is_page : read ≡ get_or pages key None
+      is_page = get_or_read pages key read there is_read None
+
+      pub none_read : read ≡ None → None ≡ found seen id
+      none_read none = no_row (sym none ∙ is_page)
+
+      pub put_back : unpaged (set pages key read) ≡ seen
+      put_back = ap (λ (p : Option (List (Option R))). unpaged (set pages key p)) is_page ∙ ap unpaged (set-get_or pages key None) ∙ view
+
+      -- .. or is made anew, if it isn't there
+      module _ (page : List (Option R)) (shown : on_page read ≡ page) where
+        own : page_in pages key ≡ page
+        own = ap on_page (sym is_page) ∙ shown
+
+        pub page_row : row_in page at ≡ found seen id
+        page_row = at_row page own
+
+        pub page_long : at < length page
+        page_long = at_long page own
+
+        -- of which a place is set
+        module _ (left : List (Option R)) (o : Option R) (is : left ≡ set page at o) where
+          left_long : length left ≡ 64
+          left_long = ap length is ∙ length-set page at o ∙ its_long page own
+
+          pub left_pages : ArePages (set pages key (Some left))
+          left_pages = set_pages pages key (Some left) are left_long
+
+          left_places : all_places (set pages key (Some left)) ≡ set (all_places pages) id o
+          left_places =
+              ap (λ (p : List (Option R)). all_places (set pages key (Some p))) (is ∙ ap (λ (p : List (Option R)). set p at o) (sym own))
+              ∙ set_place pages key at id o are there within parts
+
+          pub gone_pages : ArePages (set (set pages key (Some left)) key None)
+          gone_pages = set_pages (set pages key (Some left)) key None left_pages (length-replicate 64 (let nothing : Option R = None in nothing))
+
+        module _ (left : List (Option R)) (row : R) (is : left ≡ set page at (Some row)) where
+          pub rows_with : unpaged (set pages key (Some left)) ≡ insert_entry nat_cmp seen id row
+          rows_with =
+              ap (rows_in 0) (left_places left (Some row) is)
+              ∙ row_comes 0 id id (all_places pages) row (omega arith) (let count = places_count pages are in omega (arith, count, there, within, parts))
+              ∙ ap (λ (rows : List (ℕ × R)). insert_entry nat_cmp rows id row) view
+
+          pub rows_changed : (old : R) → row_in page at ≡ Some old → unpaged (set pages key (Some left)) ≡ set_value (is_at (nat_cmp id)) seen row
+          rows_changed old had =
+              ap (rows_in 0) (left_places left (Some row) is)
+              ∙ row_changes 0 id id (all_places pages) old row (omega arith) (sym (at_place pages key at id are within parts) ∙ ap (λ (p : List (Option R)). row_in p at) own ∙ had)
+              ∙ ap (λ (rows : List (ℕ × R)). set_value (is_at (nat_cmp id)) rows row) view
+
+          -- .. where another page was there for a while
+          pub pages_anew : ArePages (set (set pages key read) key (Some left))
+          pages_anew = subst (λ (ps : Pages R). ArePages ps) (sym (set-set pages key read (Some left))) (left_pages left (Some row) is)
+
+          pub rows_anew : unpaged (set (set pages key read) key (Some left)) ≡ insert_entry nat_cmp seen id row
+          rows_anew = ap unpaged (set-set pages key read (Some left)) ∙ rows_with
+
+        module _ (left : List (Option R)) (is : left ≡ set page at None) where
+          pub rows_without : unpaged (set pages key (Some left)) ≡ remove_entry (is_at (nat_cmp id)) seen
+          rows_without = ap (rows_in 0) (left_places left None is) ∙ row_goes 0 id id (all_places pages) (omega arith) ∙ ap (remove_entry (is_at (nat_cmp id))) view
+
+          -- .. and the page goes
+          pub rows_gone : is_some (first_in left) ≡ false → unpaged (set (set pages key (Some left)) key None) ≡ remove_entry (is_at (nat_cmp id)) seen
+          rows_gone none =
+              ap unpaged (set-set pages key (Some left) None)
+              ∙ ap (rows_in 0) (same_pages pages key None (Some left) (sym (empty_page left (nothing (first_in left) none) ∙ ap (λ (n : ℕ). replicate n None) (left_long left None is))))
+              ∙ rows_without
+            where
+              nothing : (o : Option R) → is_some o ≡ false → o ≡ None
+              nothing None f = refl
+              nothing (Some row) f = let t : true ≡ false = f in cc

@@ -1,3 +1,4 @@
 pub mod Boxes
+pub mod Ids
 pub mod Marks
 pub mod Merged

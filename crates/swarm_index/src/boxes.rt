@@ -1,12 +1,13 @@
-// A map from ids to rows, by pages of 64 places: a look-up walks a small tree of pages and then reads one place.
-ghost use Rattle.std.specs.Prelude.{◌≡◌, ◌/◌, ◌%◌, IfErr, IfNone, IsTrue, OnErr, OnOk, Some, [], is_some};
-ghost use Rattle.std.specs.BTreeMap.{get, insert_entry, is_at};
+// A map from ids to rows, by pages of 64 places. Ids are given out in order, so the directory of pages is a vector by their numbers: a
+// look-up reads a place there and one on the page.
+ghost use Rattle.std.specs.Prelude.{◌≡◌, ◌≤◌, ◌/◌, ◌%◌, IfErr, IfNone, IsTrue, None, OnErr, OnOk, Some, [], drop, is_some, length, slice_index_or};
+ghost use Rattle.std.specs.BTreeMap.{insert_entry, is_at};
 ghost use Rattle.std.specs.BTreeMap.Range.{entries_between};
 ghost use Rattle.std.specs.Map.{lookup, remove_entry, set_value};
-ghost use Rattle.std.specs.Option.{option_and_then, option_copied, option_map};
+ghost use Rattle.std.specs.Option.{option_copied, option_map};
 ghost use Rattle.std.specs.Ordering.{nat_cmp};
 ghost use Rattle.std.specs.declared.ops.Bound.TheVariants.{Excluded, Unbounded};
-ghost use Rattle.swarm_index.specs.Inside.Boxes.{first_from, first_on, row_of};
+ghost use Rattle.swarm_index.specs.Inside.Boxes.{ArePages, all_places, first_from, first_in, page_in, row_of, unpaged};
 ghost use Rattle.swarm_index.specs.Inside.Marks.{ExchangesMarks, HasNone, KeepsMarks, fresh_digests, is_mark};
 ghost use Rattle.swarm_objects.specs.Rows.{first_of};
 
@@ -14,15 +15,13 @@ use crate::Row;
 use crate::marks::Marks;
 use crate::pages::{PLACES, Page};
 use std::alloc::Global;
-use std::collections::BTreeMap;
 use std::marker::Model;
-use std::ops::Bound;
 use swarm_objects::{Id, NoMemory};
 
 #[derive(Drop)]
 pub struct Boxes<R: Drop> {
-    // the pages that have rows, by their ids' quotients
-    pages: BTreeMap<u64, Page<R>>,
+    // the pages by their ids' quotients; one without rows is None, and takes no memory of its own
+    pages: Vec<Option<Page<R>>>,
     alloc: Global,
 }
 
@@ -32,16 +31,16 @@ impl<R: Drop> Model for Boxes<R> {
 
     ghost Value = { Seq (ℕ × R) };
 
-    ghost view = { λ b. unpaged b.pages.entries };
+    ghost view = { λ b. unpaged b.pages.items };
 
-    ghost invariant = { λ b. ArePages 0 b.pages.entries };
+    ghost invariant = { λ b. ArePages b.pages.items };
 }
 
 // The number of the page that has the place for this id.
-fn page_of(id: Id) -> u64
+fn page_of(id: Id) -> usize
     ensures { result ≡ id / 64 }
 {
-    id / PLACES
+    (id / PLACES) as usize
 }
 
 // Its place there.
@@ -51,24 +50,60 @@ fn place_of(id: Id) -> usize
     (id % PLACES) as usize
 }
 
-// The row at the first place from this one on that has one, on the page with this number.
-fn first_from<R: Drop>(pages: &BTreeMap<u64, Page<R>>, key: u64, at: usize) -> Option<&R>
-    ensures { option_copied result ≡ option_and_then (first_from at) (get nat_cmp pages.now key) }
+// The page with this number, where it is there.
+fn page_at<R: Drop>(pages: &Vec<Option<Page<R>>>, key: usize) -> Option<&Page<R>>
+    ensures { option_copied result ≡ slice_index_or pages.now.items key None }
 {
-    match pages.get(&key) {
+    if key >= pages.len() {
+        return None;
+    }
+    match &pages[key] {
+        Some(page) => Some(page),
+        None => None,
+    }
+}
+
+// The row at the first place from this one on that has one, on the page with this number.
+fn first_from<R: Drop>(pages: &Vec<Option<Page<R>>>, key: usize, at: usize) -> Option<&R>
+    ensures { option_copied result ≡ first_from at (page_in pages.now.items key) }
+{
+    match page_at(pages, key) {
         Some(page) => page.first(at),
         None => None,
     }
 }
 
-// The first row of the pages above this number.
-fn first_past<R: Drop>(pages: &BTreeMap<u64, Page<R>>, key: u64) -> Option<&R>
-    ensures { option_copied result ≡ first_on (entries_between nat_cmp (Excluded key) Unbounded pages.now.entries) }
+// The first row of the pages from this number on.
+fn first_past<R: Drop>(pages: &Vec<Option<Page<R>>>, from: usize) -> Option<&R>
+    ensures { option_copied result ≡ first_in (all_places (drop from pages.now.items)) }
 {
-    match pages.range((Bound::Excluded(key), Bound::Unbounded)).next() {
-        Some((_, page)) => page.first(0),
-        None => None,
+    for key in from..pages.len() {
+        if let Some(row) = first_from(pages, key, 0) {
+            return Some(row);
+        }
     }
+    None
+}
+
+// Makes the directory so long. All memory is taken before the first place, so a number beyond it fails at once.
+fn lengthen<R: Drop>(pages: &mut Vec<Option<Page<R>>>, count: usize) -> Result<(), NoMemory>
+    ensures ok { OnOk result (count ≤ length pages.new.items) }
+    ensures rows { unpaged pages.new.items ≡ unpaged pages.old.items }
+    ensures whole { ArePages pages.old.items → ArePages pages.new.items }
+{
+    let from = pages.len();
+    if count <= from {
+        return Ok(());
+    }
+    if pages.reserve(count - from).is_err() {
+        return Err(NoMemory);
+    }
+    for key in from..count {
+        if pages.push(None).is_err() {
+            return Err(NoMemory);
+        }
+    }
+    Ok(())
 }
 
 impl<R: Drop> Boxes<R> {
@@ -77,7 +112,7 @@ impl<R: Drop> Boxes<R> {
         ensures { result ≡ [] }
     {
         Boxes {
-            pages: BTreeMap::new(alloc),
+            pages: Vec::new(alloc),
             alloc,
         }
     }
@@ -106,7 +141,10 @@ impl<R: Drop> Boxes<R> {
     {
         let key = page_of(id);
         let at = place_of(id);
-        if let Some(page) = self.pages.get_mut(&key) {
+        let Ok(()) = lengthen(&mut self.pages, key + 1) else {
+            return Err(row);
+        };
+        if let Some(page) = &mut self.pages[key] {
             page.put(at, row);
             return Ok(());
         }
@@ -114,16 +152,8 @@ impl<R: Drop> Boxes<R> {
             return Err(row);
         };
         page.put(at, row);
-        match self.pages.insert(key, page) {
-            Ok(_) => Ok(()),
-            Err(refused) => {
-                let (_, mut page) = refused.value;
-                match page.take(at) {
-                    Some(row) => Err(row),
-                    None => unreachable!(),
-                }
-            }
-        }
+        self.pages[key] = Some(page);
+        Ok(())
     }
 
     // The row with this id goes, if it is there.
@@ -134,7 +164,10 @@ impl<R: Drop> Boxes<R> {
     {
         let key = page_of(id);
         let at = place_of(id);
-        let Some(page) = self.pages.get_mut(&key) else {
+        if key >= self.pages.len() {
+            return None;
+        }
+        let Some(page) = &mut self.pages[key] else {
             return None;
         };
         let Some(row) = page.take(at) else {
@@ -143,7 +176,7 @@ impl<R: Drop> Boxes<R> {
         if page.has_row() {
             return Some(Box::into_inner(row));
         }
-        self.pages.remove(&key);
+        self.pages[key] = None;
         Some(Box::into_inner(row))
     }
 
@@ -153,7 +186,7 @@ impl<R: Drop> Boxes<R> {
     {
         let key = page_of(id);
         let at = place_of(id);
-        match self.pages.get(&key) {
+        match page_at(&self.pages, key) {
             Some(page) => page.get(at),
             None => None,
         }
@@ -168,7 +201,7 @@ impl<R: Drop> Boxes<R> {
         let at = place_of(after);
         match first_from(&self.pages, key, at + 1) {
             Some(row) => Some(row),
-            None => first_past(&self.pages, key),
+            None => first_past(&self.pages, key + 1),
         }
     }
 }
@@ -197,7 +230,10 @@ impl<R: Row + Drop> Boxes<R> {
         let id = row.id();
         let key = page_of(id);
         let at = place_of(id);
-        match self.pages.get_mut(&key) {
+        if key >= self.pages.len() {
+            unreachable!()
+        }
+        match &mut self.pages[key] {
             Some(page) => {
                 let Ok(()) = page.exchange(at, marks, row) else {
                     return Err(NoMemory);

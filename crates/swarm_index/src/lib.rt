@@ -2,6 +2,7 @@
 #![tactic(auto)]
 
 mod boxes;
+mod ids;
 mod indexed;
 pub mod keys;
 mod marks;

@@ -15,7 +15,6 @@ ghost use Rattle.swarm_index.specs.Inside.Marks.{
   digest_in,
   fresh_digests,
   has_mark,
-  id_of_mark,
   is_mark,
   is_mark_at,
   same_mark,
@@ -23,15 +22,17 @@ ghost use Rattle.swarm_index.specs.Inside.Marks.{
 ghost use Rattle.swarm_index.specs.Keys.{value_of};
 ghost use Rattle.swarm_objects.specs.Same.{same_number};
 
+use crate::ids::Ids;
 use crate::{IndexKey, Row};
 use std::alloc::Global;
-use std::collections::BTreeMap;
-use std::ops::Bound;
+use std::collections::HashMap;
 use swarm_objects::{Id, NoMemory};
 
 #[derive(Drop)]
 pub struct Marks {
-    map: BTreeMap<(u32, u64, u64), ()>,
+    // the ids of the rows with a digest of the key of a number
+    map: HashMap<(u32, u64), Ids>,
+    alloc: Global,
 }
 
 impl Marks {
@@ -40,7 +41,8 @@ impl Marks {
         ensures { (w d i : ℕ) → has_mark result.map w d i ≡ false }
     {
         Marks {
-            map: BTreeMap::new(alloc),
+            map: HashMap::new(alloc),
+            alloc,
         }
     }
 
@@ -49,7 +51,14 @@ impl Marks {
         ensures ok { OnOk result (AddsMarks self.old.map self.new.map (same_mark which digest id)) }
         ensures err { OnErr result (KeepsMarks self.old.map self.new.map) }
     {
-        match self.map.insert((which, digest, id), ()) {
+        let key = (which, digest);
+        if let Some(ids) = self.map.get_mut(&key) {
+            return ids.add(id);
+        }
+        let Ok(ids) = Ids::with(self.alloc, id) else {
+            return Err(NoMemory);
+        };
+        match self.map.insert(key, ids) {
             Ok(_) => Ok(()),
             Err(_) => Err(NoMemory),
         }
@@ -59,33 +68,24 @@ impl Marks {
     pub fn remove(&mut self, which: u32, digest: u64, id: Id)
         ensures { DropsMarks self.old.map self.new.map (same_mark which digest id) }
     {
-        self.map.remove(&(which, digest, id));
+        let key = (which, digest);
+        let Some(ids) = self.map.get_mut(&key) else {
+            return;
+        };
+        ids.remove(id);
+        if ids.is_empty() {
+            self.map.remove(&key);
+        }
     }
 
     // The least id above the number with this mark.
     pub fn next(&self, which: u32, digest: u64, after: Id) -> Option<Id>
         ensures { IsNextMark self.now.map which digest after result }
     {
-        let least = (which, digest, after);
-        match self
-            .map
-            .range((Bound::Excluded(least), Bound::Unbounded))
-            .next()
-        {
-            Some((mark, _)) => id_of_mark(mark, which, digest),
+        match self.map.get(&(which, digest)) {
+            Some(ids) => ids.next(after),
             None => None,
         }
-    }
-}
-
-// The id of the mark, if it is of this key and digest.
-fn id_of_mark(mark: &(u32, u64, u64), which: u32, digest: u64) -> Option<Id>
-    ensures { result ≡ id_of_mark mark.now which digest }
-{
-    if mark.0 == which && mark.1 == digest {
-        Some(mark.2)
-    } else {
-        None
     }
 }
 

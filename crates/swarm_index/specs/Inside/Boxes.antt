@@ -1,5 +1,5 @@
 -- Rows in pages of 64 places, by their ids.
-use Rattle.std.specs.Prelude.{ℕ, ◌≡◌, ◌≤◌, ◌*◌, suc, ⊤, drop, true, List, [], ◌∷◌, ◌++◌, length, map, slice_index_or, Option, None, Some, is_some}
+use Rattle.std.specs.Prelude.{ℕ, ◌≡◌, suc, ⊤, drop, List, [], ◌∷◌, ◌++◌, length, map, replicate, slice_index_or, Option, None, Some}
 use Rattle.std.specs.Option.{option_map}
 use Rattle.std.specs.declared.boxed.Box.{Box}
 
@@ -31,22 +31,29 @@ rows_in id [] = []
 rows_in id (None ∷ places) = rows_in (suc id) places
 rows_in id (Some row ∷ places) = (id, row) ∷ rows_in (suc id) places
 
+-- pages by their numbers, where they are there
+abbrev pub Pages : Type 0 → Type 0
+Pages R = List (Option (List (Option R)))
+
+-- the places of a page, which has no rows if it isn't there
+abbrev pub on_page : {R : Type 0} → Option (List (Option R)) → List (Option R)
+on_page None = replicate 64 None
+on_page (Some page) = page
+
+-- the page with this number
+abbrev pub page_in : {R : Type 0} → Pages R → ℕ → List (Option R)
+page_in pages key = on_page (slice_index_or pages key None)
+
+-- the places of all pages
+abbrev pub all_places : {R : Type 0} → Pages R → List (Option R)
+all_places [] = []
+all_places (page ∷ pages) = on_page page ++ all_places pages
+
 -- the rows of all pages
-abbrev pub unpaged : {R : Type 0} → List (ℕ × List (Option R)) → List (ℕ × R)
-unpaged [] = []
-unpaged (page ∷ pages) = rows_in (64 * page.0) page.1 ++ unpaged pages
+abbrev pub unpaged : {R : Type 0} → Pages R → List (ℕ × R)
+unpaged pages = rows_in 0 (all_places pages)
 
--- the first row of the first page
-abbrev pub first_on : {R : Type 0} → List (ℕ × List (Option R)) → Option R
-first_on [] = None
-first_on (page ∷ pages) = first_in page.1
-
--- a page that the map has: each has a row
-pub record IsPage {R : Type 0} (page : List (Option R)) : Type 0 where
-  pub whole : length page ≡ 64
-  pub filled : is_some (first_in page) ≡ true
-
--- pages by rising numbers, from this one on
-abbrev pub ArePages : {R : Type 0} → ℕ → List (ℕ × List (Option R)) → Type 0
-ArePages least [] = ⊤
-ArePages least (page ∷ pages) = (least ≤ page.0) × IsPage page.1 × ArePages (suc page.0) pages
+-- each page has its 64 places
+abbrev pub ArePages : {R : Type 0} → Pages R → Type 0
+ArePages [] = ⊤
+ArePages (page ∷ pages) = (length (on_page page) ≡ 64) × ArePages pages

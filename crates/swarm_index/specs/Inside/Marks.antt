@@ -1,10 +1,9 @@
 -- The marks by which rows are found: for each key of each row its number, its digest and the row's id.
-use Rattle.std.specs.Prelude.{ℕ, ◌≡◌, ◌<◌, ◌≤◌, ◌+◌, ◌*◌, ◌%◌, ◌^◌, Bool, false, true, not, is_some, nat_lt, ◌==◌, ◌&&◌, ◌||◌, List, fold, map, Option, None, Some, if◌then◌else◌}
-use Rattle.std.specs.BTreeMap.{BTreeMap, get}
+use Rattle.std.specs.Prelude.{ℕ, ◌≡◌, ◌<◌, ◌≤◌, ◌+◌, ◌*◌, ◌%◌, ◌^◌, Bool, false, true, not, nat_lt, ◌==◌, ◌&&◌, ◌||◌, List, fold, map, Option, None, Some, if◌then◌else◌}
+use Rattle.std.specs.HashMap.{HashMap, get}
 use Rattle.std.specs.Map.{values_of}
 use Rattle.std.specs.Option.{option_eq, option_map}
-use Rattle.std.specs.Ordering.{nat_cmp, ordering_then}
-use Rattle.std.specs.declared.cmp.Ordering.{Ordering}
+use Rattle.swarm_index.specs.Inside.Ids.{has_id}
 use Rattle.swarm_index.specs.Keys.{KeyValue, Num, Pair, Text}
 use Rattle.swarm_objects.specs.Rows.{IsRising, row_at}
 use Rattle.swarm_objects.specs.Same.{same_number}
@@ -19,12 +18,18 @@ digest (Num n) = n
 digest (Pair a b) = mix a b
 digest (Text bytes) = fold mix 0 bytes
 
-abbrev pub mark_cmp : ℕ × ℕ × ℕ → ℕ × ℕ × ℕ → Ordering
-mark_cmp x y = ordering_then (ordering_then (nat_cmp x.0 y.0) (nat_cmp x.1 y.1)) (nat_cmp x.2 y.2)
+-- both are the same key's number and digest
+abbrev pub same_pair : ℕ × ℕ → ℕ × ℕ → Bool
+same_pair x y = x.0 == y.0 && x.1 == y.1
+
+-- the id is among the ids that were found, if any were
+abbrev pub has_id_in : Option (List ℕ) → ℕ → Bool
+has_id_in None id = false
+has_id_in (Some ids) id = has_id ids id
 
 -- the row with this id is marked with this digest of the key of this number
-abbrev pub has_mark : {X : Type 0} → BTreeMap (ℕ × ℕ × ℕ) X → ℕ → ℕ → ℕ → Bool
-has_mark marks which digest id = is_some (get mark_cmp marks (which, digest, id))
+abbrev pub has_mark : {S : Type 0} → HashMap (ℕ × ℕ) (List ℕ) S → ℕ → ℕ → ℕ → Bool
+has_mark marks which digest id = has_id_in (get same_pair marks (which, digest)) id
 
 abbrev pub same_mark : ℕ → ℕ → ℕ → ℕ → ℕ → ℕ → Bool
 same_mark which digest id w d i = (which == w && digest == d) && id == i
@@ -60,7 +65,7 @@ abbrev pub is_marked : {R : Type 0} → (ℕ → R → Option KeyValue) → ℕ 
 is_marked key_of count None w d = false
 is_marked key_of count (Some row) w d = nat_lt w count && option_eq same_number (digest_at key_of w row) (Some d)
 
-module _ {X : Type 0} (old new : BTreeMap (ℕ × ℕ × ℕ) X) where
+module _ {S : Type 0} (old new : HashMap (ℕ × ℕ) (List ℕ) S) where
   abbrev pub KeepsMarks : Type 0
   KeepsMarks = (w d i : ℕ) → has_mark new w d i ≡ has_mark old w d i
 
@@ -76,22 +81,18 @@ module _ {X : Type 0} (old new : BTreeMap (ℕ × ℕ × ℕ) X) where
       (w d i : ℕ) → has_mark new w d i ≡ (not (is_old w d i) && (is_new w d i || has_mark old w d i))
 
 -- the least id above the number with this mark
-abbrev pub IsNextMark : {X : Type 0} → BTreeMap (ℕ × ℕ × ℕ) X → ℕ → ℕ → ℕ → Option ℕ → Type 0
+abbrev pub IsNextMark : {S : Type 0} → HashMap (ℕ × ℕ) (List ℕ) S → ℕ → ℕ → ℕ → Option ℕ → Type 0
 IsNextMark marks w d after None = (i : ℕ) → after < i → has_mark marks w d i ≡ false
 IsNextMark marks w d after (Some i) =
     (after < i) × (has_mark marks w d i ≡ true) × ((j : ℕ) → after < j → has_mark marks w d j ≡ true → i ≤ j)
 
--- what a mark that was found says: its id, if it is of this key and digest
-abbrev pub id_of_mark : ℕ × ℕ × ℕ → ℕ → ℕ → Option ℕ
-id_of_mark mark w d = if mark.0 == w && mark.1 == d then Some mark.2 else None
-
 -- none of these marks is there
-abbrev pub HasNone : {X : Type 0} → BTreeMap (ℕ × ℕ × ℕ) X → (ℕ → ℕ → ℕ → Bool) → Type 0
+abbrev pub HasNone : {S : Type 0} → HashMap (ℕ × ℕ) (List ℕ) S → (ℕ → ℕ → ℕ → Bool) → Type 0
 HasNone marks is_new = (w d i : ℕ) → is_new w d i ≡ true → has_mark marks w d i ≡ false
 
 module _ {R : Type 0} (id_of : R → ℕ) (key_of : ℕ → R → Option KeyValue) (count : ℕ) where
   -- the marks are those of the rows
-  abbrev pub AreMarksOf : {X : Type 0} → List R → BTreeMap (ℕ × ℕ × ℕ) X → Type 0
+  abbrev pub AreMarksOf : {S : Type 0} → List R → HashMap (ℕ × ℕ) (List ℕ) S → Type 0
   AreMarksOf rows marks = (w d i : ℕ) → has_mark marks w d i ≡ is_marked key_of count (row_at id_of i rows) w d
 
 -- a row with its id
@@ -100,12 +101,12 @@ with_id id_of row = (id_of row, row)
 
 -- rows by their ids, and the marks of their keys
 pub record IsTable
-    {R X : Type 0}
+    {R S : Type 0}
     (id_of : R → ℕ)
     (key_of : ℕ → R → Option KeyValue)
     (count : ℕ)
     (entries : List (ℕ × R))
-    (marks : BTreeMap (ℕ × ℕ × ℕ) X)
+    (marks : HashMap (ℕ × ℕ) (List ℕ) S)
     : Type 0 where
   pub by_id : entries ≡ map (with_id id_of) (values_of entries)
   pub rising : IsRising id_of (values_of entries)
