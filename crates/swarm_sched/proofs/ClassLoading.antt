@@ -1,26 +1,30 @@
 -- Tasks counted class by class: task by task, and that a class is a branch.
 use Rattle.std.proofs.Common.{◌≡◌, ◌∙◌, ◌+◌, ◌<◌, ◌≤◌, ◌∷◌, ◌⊎◌, ℕ, Bool, List, None, Option, Some, [], ap, arith, cond, eqb, false, get_or, inl, inr, length, map, refl, replicate, set, subst, sym, true}
 use Rattle.std.proofs.lemmas.Bool.Decides.{nat_tests}
+use Rattle.std.proofs.lemmas.List.Sums.{count_by-le-length, sum_by-cons}
 use Rattle.std.proofs.lemmas.List.{get_or-replicate, get_or-set_other, get_or-set_same, length-set}
 use Rattle.std.specs.List.{list_any}
 use Rattle.std.specs.Option.{option_eq}
-use Rattle.std.specs.Prelude.{count_by, filter, is_some, ◌&&◌, ◌^◌, ◌||◌}
+use Rattle.std.specs.Prelude.{IsTrue, count_by, filter, is_some, ◌&&◌, ◌^◌, ◌||◌}
 use Rattle.swarm_objects.proofs.Few.{few_among}
-use Rattle.swarm_objects.proofs.RowLemmas.{Has-from_row_at}
-use Rattle.swarm_objects.proofs.Tests.{same_test}
+use Rattle.swarm_objects.proofs.RowLemmas.{Has-from_row_at, row_at-Some}
+use Rattle.swarm_objects.proofs.Tests.{both_are, same_test}
 use Rattle.swarm_objects.proofs.WalkLemmas.{count_by_no, count_by_yes}
 use Rattle.swarm_objects.specs.Nodes.BestNode.{agrees, branch_load}
-use Rattle.swarm_objects.specs.Rows.{is_row_and, is_some_and, node_id, row_at}
+use Rattle.swarm_objects.specs.Nodes.Filters.{here}
+use Rattle.swarm_objects.specs.Nodes.Holdings.{is_placed_on}
+use Rattle.swarm_objects.specs.Rows.{Has, is_row_and, is_some_and, node_id, row_at}
 use Rattle.swarm_objects.specs.Same.{same_number}
-use Rattle.swarm_objects.specs.Tasks.Words.{is_live, is_of, is_placed}
+use Rattle.swarm_objects.specs.Tasks.Words.{is_live, is_of, is_on, is_placed}
 use Rattle.swarm_objects.specs.Usable.{IsUsable}
 use Rattle.swarm_objects.specs.World.{Tables}
 use Rattle.swarm_objects.specs.declared.nodes.Node.{Node}
 use Rattle.swarm_objects.specs.declared.tasks.Task.{Task}
 use Rattle.swarm_objects.specs.declared.templates.Key.{Key}
 use Rattle.swarm_sched.proofs.Branching.{at_place, branch_is}
+use Rattle.swarm_sched.proofs.Halving.{entries_rise}
 use Rattle.swarm_sched.specs.Inside.Branches.{Preferences, is_of_branch}
-use Rattle.swarm_sched.specs.Inside.ClassLoads.{AreCounting, AreLoads, class_of_node, class_or_none, is_of_class, task_class}
+use Rattle.swarm_sched.specs.Inside.ClassLoads.{AreCounting, AreLoads, AreMost, class_of_node, class_or_none, is_of_class, task_class}
 use Rattle.swarm_sched.specs.Inside.Classes.{AreFew, AreSorted, IsEntry, entry_id}
 use Rattle.swarm_sched.specs.declared.classes.ClassedNode.{ClassedNode}
 
@@ -190,3 +194,87 @@ told_at t p sorted loads i d n usable same are some so lt row =
 pub place_few : (nodes : List Node) (keys : List Key) (sorted : List ClassedNode) (i : ℕ) (d : ClassedNode) →
     AreSorted nodes keys sorted → i < length sorted → (get_or sorted i d).class < 16
 place_few nodes keys sorted i d are lt = are.few (get_or sorted i d) (at_place sorted i d lt)
+
+-- Where none of the service's tasks counts in a class, none is on its nodes.
+
+count-among : {X : Type 0} (p q r : X → Bool) (xs : List X) →
+    ((x : X) → p x ≡ true → (r x ≡ true) × (q x ≡ true)) → count_by p xs ≤ count_by q (filter r xs)
+count-among p q r [] each = omega arith
+count-among p q r (x ∷ xs) each = go (p x) refl (r x) refl (count-among p q r xs each)
+  where
+    go : (a : Bool) → p x ≡ a → (b : Bool) → r x ≡ b → count_by p xs ≤ count_by q (filter r xs) →
+        count_by p (x ∷ xs) ≤ count_by q (cond b (x ∷ filter r xs) (filter r xs))
+    go true e true f rest =
+        omega (arith, count_by_yes p x xs e, count_by_yes q x (filter r xs) (each x e).1, rest)
+    go true e false f rest = let differ : false ≡ true = sym f ∙ (each x e).0 in absurd cc
+    go false e true f rest =
+        omega (arith, count_by_no p x xs e, sum_by-cons (λ y. cond (q y) 1 0) x (filter r xs), rest)
+    go false e false f rest = omega (arith, count_by_no p x xs e, rest)
+
+pub most_all : (t : Tables) (service : ℕ) (sorted : List ClassedNode) (n : ℕ) → IsUsable t → 2 ^ 60 ≤ n →
+    AreMost sorted (filter (is_of service) t.tasks) (replicate 16 n)
+most_all t service sorted n usable many = record {
+  each = λ k lt.
+      omega (
+        arith,
+        many,
+        few_among t (is_of service) usable,
+        count_by-le-length (is_of_class sorted k) (filter (is_of service) t.tasks),
+        get_or-replicate {A = ℕ} 16 k n 0 lt,
+      );
+  all = refl;
+}
+
+pub most_of : (sorted : List ClassedNode) (tasks : List Task) (loads : List ℕ) → AreLoads sorted tasks loads →
+    AreMost sorted tasks loads
+most_of sorted tasks loads so = record { each = λ k lt. omega (arith, so.each k lt); all = so.all }
+
+pub none_here : (t : Tables) (service : ℕ) (keys : List Key) (sorted : List ClassedNode) (most : List ℕ) (i : ℕ)
+    (d : ClassedNode) (n : Node) → IsUsable t → AreSorted t.nodes keys sorted →
+    AreMost sorted (filter (is_of service) t.tasks) most → i < length sorted →
+    row_at node_id (get_or sorted i d).id t.nodes ≡ Some n → IsTrue (eqb (get_or most (get_or sorted i d).class 0) 0) →
+    here t n.id service ≡ 0
+none_here t service keys sorted most i d n usable are so lt row zero =
+    omega (
+      arith,
+      none,
+      so.each c.class (are.few c there),
+      count-among (λ x. is_of service x && is_live x && is_placed_on n.id x) (is_of_class sorted c.class)
+          (is_of service) t.tasks counts,
+    )
+  where
+    c : ClassedNode
+    c = get_or sorted i d
+
+    none : get_or most c.class 0 ≡ 0
+    none = grind (arith, nat_tests, zero)
+
+    there : Has sorted c
+    there = at_place sorted i d lt
+
+    found : row_at entry_id n.id sorted ≡ Some c
+    found =
+        ap (λ k. row_at entry_id k sorted) (Has-from_row_at node_id c.id t.nodes n row).1
+        ∙ row_at-Some entry_id 0 sorted c (entries_rise 0 sorted t.nodes are.ids usable.sound.ordered.nodes) there
+
+    own : (k : ℕ) → option_eq same_number (Some k) (Some k) ≡ true
+    own k = grind (arith, nat_tests)
+
+    of-class : (a b : Bool) (o : Option ℕ) → a ≡ true → b ≡ true → option_eq same_number o (Some n.id) ≡ true →
+        option_eq same_number (cond (a && b) (class_of_node sorted o) None) (Some c.class) ≡ true
+    of-class false b o live placed on = absurd cc
+    of-class true false o live placed on = absurd cc
+    of-class true true None live placed on = absurd cc
+    of-class true true (Some k) live placed on =
+        let same : k ≡ n.id = grind (arith, nat_tests, on) in
+        ap (λ r. option_eq same_number (class_or_none r) (Some c.class))
+        (ap (λ j. row_at entry_id j sorted) same ∙ found)
+        ∙ own c.class
+
+    counts : (x : Task) → (is_of service x && is_live x && is_placed_on n.id x) ≡ true →
+        (is_of service x ≡ true) × (is_of_class sorted c.class x ≡ true)
+    counts x is =
+        let parts = both_are (is_of service x && is_live x) (is_placed_on n.id x) is in
+        let first = both_are (is_of service x) (is_live x) parts.0 in
+        let second = both_are (is_placed x) (is_on n.id x) parts.1 in
+        (first.0, of-class (is_live x) (is_placed x) x.node first.1 second.0 second.1)

@@ -4,13 +4,15 @@ use Rattle.std.proofs.lemmas.Bool.Decides.{nat_tests}
 use Rattle.std.proofs.lemmas.List.Folds.{list_all-append}
 use Rattle.std.proofs.lemmas.List.{length-set}
 use Rattle.std.proofs.lemmas.List.{get_or-set_other, get_or-set_same}
+use Rattle.std.proofs.lemmas.Map.Text.{is_eq-slice_cmp}
 use Rattle.std.proofs.lemmas.Slice.Eq.{bytes_eq-Decides}
 use Rattle.std.specs.Borrow.{Bor}
 use Rattle.std.specs.Cmp.Lexicographic.{slice_cmp}
 use Rattle.std.specs.Option.{option_copied}
-use Rattle.std.specs.Ordering.{nat_cmp, ordering_then}
+use Rattle.std.specs.Ordering.{is_eq, nat_cmp, ordering_then}
 use Rattle.std.specs.Prelude.{IfSome, filter, ◌&&◌, ◌++◌}
 use Rattle.std.specs.Str.{bytes_eq}
+use Rattle.std.specs.declared.cmp.Ordering.TheVariants.{Equal, Greater, Less}
 use Rattle.std.specs.declared.cmp.Ordering.{Ordering}
 use Rattle.swarm_filters.specs.Tested.{is_open}
 use Rattle.swarm_objects.proofs.RowLemmas.{Has-from_row_at, row_at-Some}
@@ -60,8 +62,61 @@ spread-alike t service earlier (k ∷ keys) a b m before alike =
 order-alike : (p : Preferences) (o : Ordering) (a b : Node) (best : Option Node) → agrees p.keys a b ≡ true →
     IsOrder p o a best →
     IsOrder p o b best
-order-alike p o a b None alike is = tt
+order-alike p o a b None alike is = is
 order-alike p o a b (Some m) alike is = is ∙ spread-alike p.tables p.service [] p.keys a b m refl alike
+
+-- Any other compares so with nodes that compare as equal.
+
+equal-both : (a b : Ordering) → ordering_then a b ≡ Equal → (a ≡ Equal) × (b ≡ Equal)
+equal-both Less b e = absurd cc
+equal-both Equal b e = (refl, e)
+equal-both Greater b e = absurd cc
+
+equal-agree : (t : Tables) (service : ℕ) (earlier keys : List Key) (a b : Node) →
+    spread_cmp t service earlier keys a b ≡ Equal → agrees keys b a ≡ true
+equal-agree t service earlier [] a b e = refl
+equal-agree t service earlier (k ∷ keys) a b e =
+    let more : List Key = earlier ++ k ∷ [] in
+    let rest : Ordering = spread_cmp t service more keys a b in
+    let values : Ordering = slice_cmp nat_cmp (key_value a k) (key_value b k) in
+    let behind = equal-both (nat_cmp (branch_load t service more a) (branch_load t service more b))
+    (ordering_then values rest) e in
+    let parts = equal-both values rest behind.1 in
+    both (bytes_eq (key_value a k) (key_value b k)) (agrees keys b a)
+    (sym (is_eq-slice_cmp (key_value a k) (key_value b k)) ∙ ap is_eq parts.0)
+    (equal-agree t service more keys a b parts.1)
+
+against-alike : (t : Tables) (service : ℕ) (earlier keys : List Key) (a b m : Node) → agrees earlier a b ≡ true →
+    agrees keys a b ≡ true → spread_cmp t service earlier keys m a ≡ spread_cmp t service earlier keys m b
+against-alike t service earlier [] a b m before alike = refl
+against-alike t service earlier (k ∷ keys) a b m before alike =
+    let parts = both_are (bytes_eq (key_value b k) (key_value a k)) (agrees keys a b) alike in
+    let same : key_value b k ≡ key_value a k = (bytes_eq-Decides (key_value b k) (key_value a k)).0 parts.0 in
+    let more : agrees (earlier ++ k ∷ []) a b ≡ true =
+    list_all-append (λ j. bytes_eq (key_value b j) (key_value a j)) earlier (k ∷ [])
+    ∙ both (agrees earlier a b) (bytes_eq (key_value b k) (key_value a k) && true) before (ap (λ c. c && true) parts.0)
+    in
+    let rest = against-alike t service (earlier ++ k ∷ []) keys a b m more parts.1 in
+    let loads = branch-alike t service (earlier ++ k ∷ []) a b more in
+    ap (λ n. by n (key_value a k) (spread_cmp t service (earlier ++ k ∷ []) keys m a)) loads
+    ∙ ap (λ v. by load_b v (spread_cmp t service (earlier ++ k ∷ []) keys m a)) (sym same)
+    ∙ ap (by load_b (key_value b k)) rest
+  where
+    load_b : ℕ
+    load_b = branch_load t service (earlier ++ k ∷ []) b
+
+    -- as this load, this value and what the other preferences say decide it
+    by : ℕ → List ℕ → Ordering → Ordering
+    by n v o =
+        ordering_then (nat_cmp (branch_load t service (earlier ++ k ∷ []) m) n)
+        (ordering_then (slice_cmp nat_cmp (key_value m k) v) o)
+
+order-equal : (p : Preferences) (o : Ordering) (n m : Node) (best : Option Node) → IsOrder p Equal m best →
+    IsOrder p o n best → IsOrder p o n (Some m)
+order-equal p o n m None first is = let both : Equal ≡ Less = first in absurd cc
+order-equal p o n m (Some b) first is =
+    is ∙ against-alike p.tables p.service [] p.keys b m n refl
+    (equal-agree p.tables p.service [] p.keys m b (sym first))
 
 -- What is known of the classes.
 
@@ -75,6 +130,17 @@ orders_none p sorted n best = record {
     none-at zero j = refl
     none-at (suc n) zero = refl
     none-at (suc n) (suc j) = none-at n j
+
+-- it is the same of a best node that compares as equal with the former one
+orders-equal : (p : Preferences) (sorted : List ClassedNode) (orders : List (Option Ordering)) (best : Option Node)
+    (m : Node) → IsOrder p Equal m best → AreOrders p sorted orders best → AreOrders p sorted orders (Some m)
+orders-equal p sorted orders best m first so = record
+    { each = λ c n e. go n (get_or orders c.class None) (so.each c n e) }
+  where
+    go : (n : Node) (r : Option Ordering) → IfSome r (λ o. IsOrder p o n best) →
+        IfSome r (λ o. IsOrder p o n (Some m))
+    go n None is = tt
+    go n (Some o) is = order-equal p o n m best first is
 
 -- what was found of the entry's class is so of its node
 order_is : (p : Preferences) (sorted : List ClassedNode) (orders : List (Option Ordering)) (best : Option Node)
@@ -281,28 +347,44 @@ searched_shut t x sorted orders more best i c o m at so row shut = record {
   all = at.all;
 }
 
--- behind one that is the best so far
-pub searched_best : (t : Tables) (x : Task) (sorted : List ClassedNode) (orders more : List (Option Ordering))
+-- behind one that is the best so far: what is known of the classes stays so where it compares as equal
+pub searched_best : (t : Tables) (x : Task) (sorted : List ClassedNode) (orders more after : List (Option Ordering))
     (best : Option Node)
     (i : ℕ) (c : ClassedNode) (o : Ordering) (m : Node) → AtEntry t x sorted more best i c o →
     IsSearched t x sorted orders best i → row_at node_id c.id t.nodes ≡ Some m →
     (is_open t x m && comes_first t x.service o m.id best) ≡ true →
-    IsSearched t x sorted (replicate 16 None) (Some m) (i + 1)
-searched_best t x sorted orders more best i c o m at so row better = record {
+    (after ≡ replicate 16 None) ⊎ ((o ≡ Equal) × (after ≡ more)) →
+    IsSearched t x sorted after (Some m) (i + 1)
+searched_best t x sorted orders more after best i c o m at so row better left = record {
   left =
       ap (λ n. least_by (node_cmp t x) (Some n) (filter (is_open t x) (drop (i + 1) t.nodes))) (sym node)
       ∙ comes t x (is_open t x) o best at.node (drop (i + 1) t.nodes) at.order
       (ap (λ n. comes_first t x.service o n.id best) node ∙ parts.1) (ap (is_open t x) node ∙ parts.0)
       ∙ ap (λ l. least_by (node_cmp t x) best (filter (is_open t x) l)) (sym at.rest) ∙ so.left;
-  known = orders_none (preferences t x) sorted 16 (Some m);
-  all = refl;
+  known = known left;
+  all = all left;
 }
   where
+    p : Preferences
+    p = preferences t x
+
     node : at.node ≡ m
     node = same_row (sym at.row ∙ row)
 
     parts : (is_open t x m ≡ true) × (comes_first t x.service o m.id best ≡ true)
     parts = both_are (is_open t x m) (comes_first t x.service o m.id best) better
+
+    known : (after ≡ replicate 16 None) ⊎ ((o ≡ Equal) × (after ≡ more)) → AreOrders p sorted after (Some m)
+    known (inl none) =
+        subst (λ list. AreOrders p sorted list (Some m)) (sym none) (orders_none p sorted 16 (Some m))
+    known (inr kept) =
+        subst (λ list. AreOrders p sorted list (Some m)) (sym kept.1)
+        (orders-equal p sorted more best m
+        (subst (λ r. IsOrder p r m best) kept.0 (subst (λ n. IsOrder p o n best) node at.order)) at.known)
+
+    all : (after ≡ replicate 16 None) ⊎ ((o ≡ Equal) × (after ≡ more)) → length after ≡ 16
+    all (inl none) = ap length none
+    all (inr kept) = ap length kept.1 ∙ at.all
 
 -- behind one whose node isn't open, or doesn't come first
 pub searched_worse : (t : Tables) (x : Task) (sorted : List ClassedNode) (orders more : List (Option Ordering))

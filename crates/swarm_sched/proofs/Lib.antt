@@ -7,5 +7,6 @@ mod Knowing
 pub mod KnownAlike
 mod OneAnswer
 mod Preferring
+mod Refusing
 mod Scheduling
 mod Totalling

@@ -5,7 +5,7 @@ ghost use Rattle.swarm_objects.specs.Rows.{RisesFrom, row_at};
 ghost use Rattle.swarm_objects.specs.Tasks.Words.{is_of};
 ghost use Rattle.swarm_objects.specs.Usable.{IsUsable};
 ghost use Rattle.swarm_sched.specs.Inside.Branches.{preferences};
-ghost use Rattle.swarm_sched.specs.Inside.ClassLoads.{AreLoads, task_class};
+ghost use Rattle.swarm_sched.specs.Inside.ClassLoads.{AreLoads, AreMost, task_class};
 ghost use Rattle.swarm_sched.specs.Inside.Classes.{AreFew, AreSorted, entry_id};
 
 use crate::branches::Branches;
@@ -59,48 +59,60 @@ fn class_loads<R: Rows>(rows: &R, service: Id, sorted: &[ClassedNode]) -> [u64; 
     loads
 }
 
-// Counts the service's tasks for each class of nodes, which is their branch by all preferences.
+// Counts the service's tasks for each class of nodes, which is their branch by all preferences, and gives how many they
+// are. The nodes are gone over until so many classes were met.
 fn count_classes<'a, R: Rows>(
     branches: &mut Branches<'a, R>,
     rows: &'a R,
     service: Id,
     sorted: &[ClassedNode],
-)
+    count: usize,
+) -> [u64; CLASSES]
     requires usable { IsUsable (R.tables rows.now) }
     requires same { branches.old.tables ≡ R.tables rows.now }
     requires own { branches.old.service ≡ service }
     requires some { branches.old.keys ≡ [] → ⊥ }
     requires sorted { AreSorted (R.tables rows.now).nodes branches.old.keys sorted.now }
-    ensures { branches.new ≡ branches.old }
+    ensures same { branches.new ≡ branches.old }
+    ensures loads { AreLoads sorted.now (filter (is_of service) (R.tables rows.now).tasks) result }
 {
     let loads = class_loads(rows, service, sorted);
     let mut is_told = [false; CLASSES];
+    let mut left = count;
     for entry in sorted {
+        if left == 0 {
+            break;
+        }
         if is_told[entry.class] {
             continue;
         }
         is_told[entry.class] = true;
+        left -= 1;
         if let Some(node) = rows.node(entry.id) {
             branches.tell(node, loads[entry.class]);
         }
     }
+    loads
 }
 
-/// The branches of the task's service. Those by all of its preferences, by which the nodes are sorted, are counted at
-/// once.
+/// The branches of the task's service, and how many of its tasks count in each class at most. Where there are preferences,
+/// by which the nodes are sorted, both are counted at once; else nothing is.
 pub fn branches_of<'a, R: Rows>(
     rows: &'a R,
     task: &'a Task,
     sorted: &[ClassedNode],
-) -> Branches<'a, R>
+    count: usize,
+) -> (Branches<'a, R>, [u64; CLASSES])
     requires usable { IsUsable (R.tables rows.now) }
     requires sorted { AreSorted (R.tables rows.now).nodes task.now.template.spread sorted.now }
-    ensures { result ≡ preferences (R.tables rows.now) task.now }
+    ensures branches { result.0 ≡ preferences (R.tables rows.now) task.now }
+    ensures most { AreMost sorted.now (filter (is_of task.now.service) (R.tables rows.now).tasks) result.1 }
 {
     let keys = &task.template.spread;
     let mut branches = Branches::new(rows, task.service, keys.as_slice());
+    let mut most = [u64::MAX; CLASSES];
     if !keys.is_empty() {
-        count_classes(&mut branches, rows, task.service, sorted);
+        most = count_classes(&mut branches, rows, task.service, sorted, count);
     }
-    branches
+    (branches, most)
 }

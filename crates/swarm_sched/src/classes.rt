@@ -38,6 +38,8 @@ enum Sorting {
 struct Asked {
     keys: List<Key>,
     sorting: Sorting,
+    // how many classes there are, where the nodes are sorted
+    count: usize,
 }
 
 /// The nodes, sorted into classes by the placement preferences that were asked for last. Contracts see these preferences
@@ -102,6 +104,15 @@ fn sorted_nodes<R: Rows>(alloc: Global, rows: &R, keys: &[Key]) -> Option<List<C
     Some(sorted)
 }
 
+// How many classes they are of.
+fn class_count(sorted: &[ClassedNode]) -> usize {
+    let mut count = 0;
+    for entry in sorted {
+        count = count.max(entry.class.saturating_add(1));
+    }
+    count
+}
+
 impl Asked {
     // The nodes of a class have the same values for these keys too. Where there are none, so have any nodes.
     fn is_for(&self, keys: &List<Key>) -> bool
@@ -132,7 +143,10 @@ impl Asked {
     {
         if let Sorting::NotYet = self.sorting {
             self.sorting = match sorted_nodes(alloc, rows, self.keys.as_slice()) {
-                Some(sorted) => Sorting::Done(sorted),
+                Some(sorted) => {
+                    self.count = class_count(sorted.as_slice());
+                    Sorting::Done(sorted)
+                }
                 None => Sorting::InVain,
             };
         }
@@ -147,6 +161,7 @@ fn first_asked(alloc: Global, keys: &List<Key>) -> Option<Asked>
     Some(Asked {
         keys,
         sorting: Sorting::NotYet,
+        count: 0,
     })
 }
 
@@ -215,6 +230,14 @@ impl NodeClasses {
         match &mut self.asked {
             Some(asked) if asked.is_for(keys) => asked.sort(alloc, rows),
             _ => self.asked = first_asked(alloc, keys),
+        }
+    }
+
+    /// How many classes there are, where the nodes are sorted: it says when all were met, and nothing rests on it.
+    pub fn count(&self) -> usize {
+        match &self.asked {
+            Some(asked) => asked.count,
+            None => 0,
         }
     }
 

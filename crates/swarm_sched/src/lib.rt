@@ -11,16 +11,16 @@ mod keys;
 mod known;
 mod known_nodes;
 mod placing;
+mod refused;
 mod totals;
 
-ghost use Rattle.std.specs.Prelude.{◌≡◌, None};
-ghost use Rattle.swarm_objects.specs.Loops.Scheduler.{is_to_drop, is_to_place, placing, schedule, scheduler};
+ghost use Rattle.std.specs.Prelude.{◌≡◌};
+ghost use Rattle.swarm_objects.specs.Loops.Scheduler.{is_to_drop, is_to_place, schedule, scheduler};
 ghost use Rattle.swarm_objects.specs.Rows.{first_of};
 ghost use Rattle.swarm_objects.specs.Usable.{IsUsable};
-ghost use Rattle.swarm_sched.specs.Inside.Known.{Knows};
 ghost use Rattle.swarm_sched.specs.Inside.KnownNodes.{KnowsNodes};
 
-use crate::known::{KnownLoads, KnownTotals};
+use crate::refused::{counts_if_refused, explained, explanation, was_refused};
 pub use alike::{schedule_after, waits_alike};
 pub use changing::changes;
 pub use filters::Filters;
@@ -28,9 +28,8 @@ pub use keys::{agrees, value_cmp};
 pub use known::Moved;
 pub use known_nodes::KnownNodes;
 pub use placing::{best_node, best_node_by};
-use swarm_filters::counts_by;
 use swarm_objects::walks::tasks;
-use swarm_objects::{Duty, Note, Rows, Task};
+use swarm_objects::{Duty, Rows, Task};
 
 /// The task isn't placed yet, and is to stop.
 pub fn is_to_drop(task: &Task) -> bool
@@ -46,20 +45,6 @@ pub fn is_to_place(task: &Task) -> bool
     task.state.is_pending() && task.is_wanted()
 }
 
-// The note of a task that no node admits is to say why, unless it does.
-fn explanation<R: Rows>(rows: &R, known: &KnownTotals, task: &Task) -> Option<Duty>
-    requires usable { IsUsable (R.tables rows.now) }
-    requires knows { Knows (R.tables rows.now) known.now }
-    ensures { result ≡ first_of (placing (R.tables rows.now) task.now None) }
-{
-    let loads = KnownLoads::new(rows, known);
-    if Note::Filters(counts_by(rows, &loads, task)) == task.note {
-        None
-    } else {
-        Some(Duty::Explain(task.id))
-    }
-}
-
 /// What there is to do about the task.
 pub fn schedule<R: Rows>(rows: &R, known: &mut KnownNodes, task: &Task) -> Option<Duty>
     requires usable { IsUsable (R.tables rows.now) }
@@ -72,6 +57,11 @@ pub fn schedule<R: Rows>(rows: &R, known: &mut KnownNodes, task: &Task) -> Optio
     }
     if !is_to_place(task) {
         return None;
+    }
+    if was_refused(task)
+        && let Some(counts) = counts_if_refused(rows, &mut known.totals, task)
+    {
+        return explained(task, counts);
     }
     match best_node(rows, known, task) {
         Some(node) => Some(Duty::Place(task.id, node.id)),

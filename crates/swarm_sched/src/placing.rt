@@ -5,6 +5,7 @@ ghost use Rattle.std.specs.Prelude.{◌≡◌, ◌↔◌, ◌⊎◌, ◌<◌, �
 ghost use Rattle.std.specs.declared.cmp.Ordering.TheVariants.{Less};
 ghost use Rattle.swarm_filters.specs.Tested.{is_open};
 ghost use Rattle.swarm_objects.specs.Nodes.BestNode.{best_node};
+ghost use Rattle.swarm_objects.specs.Nodes.Filters.{here};
 ghost use Rattle.swarm_objects.specs.Rows.{node_id, row_at};
 ghost use Rattle.swarm_objects.specs.Usable.{IsUsable};
 ghost use Rattle.swarm_sched.specs.Inside.Branches.{preferences};
@@ -90,7 +91,7 @@ fn is_rival<R: Rows>(
     }
 }
 
-// How the node compares with the best one so far by the placement preferences.
+// How the node compares with the best one so far by the placement preferences: as less where there is none.
 fn spread_order<'a, R: Rows>(
     branches: &mut Branches<'a, R>,
     best: Option<&'a Node>,
@@ -141,23 +142,32 @@ fn is_open_with<R: Rows>(rows: &R, task: &Task, node: &Node, totals: Totals) -> 
     is_open_by(rows, &loads, task, node)
 }
 
+// What a node's class tells of it: how it compares with the best one so far by the placement preferences, and whether it
+// is known that none of the service's live tasks is there.
+#[derive(Clone, Copy)]
+struct Standing {
+    spread: Ordering,
+    has_none: bool,
+}
+
 // The node's live tasks, where it admits the task, and comes before the best one so far or is the first. The service's
-// own are asked for last: they alone are counted for each service anew.
+// own are asked for last: they alone are counted for each service anew, and not where its class has none.
 fn if_better<R: Rows>(
     known: &mut KnownTotals,
     rows: &R,
     task: &Task,
-    spread: Ordering,
+    standing: Standing,
     best: Option<&Node>,
     held: NodeLoad,
     node: &Node,
 ) -> Option<NodeLoad>
     requires usable { IsUsable (R.tables rows.now) }
     requires knows { Knows (R.tables rows.now) known.old }
+    requires none { IsTrue standing.has_none → here (R.tables rows.now) node.now.id task.now.service ≡ 0 }
     requires held { IfSome best (λ b. IsNodeLoad (R.tables rows.now) b.now.id task.now.service held) }
     ensures load { IfSome result (IsNodeLoad (R.tables rows.now) node.now.id task.now.service) }
     ensures better { is_some result ≡ (is_open (R.tables rows.now) task.now node.now
-        && comes_first (R.tables rows.now) task.now.service spread node.now.id (option_copied best.entry)) }
+        && comes_first (R.tables rows.now) task.now.service standing.spread node.now.id (option_copied best.entry)) }
     ensures knows { Knows (R.tables rows.now) known.new }
 {
     let totals = known.totals(rows, node.id, task.service);
@@ -166,12 +176,16 @@ fn if_better<R: Rows>(
     }
     let own = NodeLoad {
         load: totals.load,
-        here: known.here(rows, node.id, task.service),
+        here: if standing.has_none {
+            0
+        } else {
+            known.here(rows, node.id, task.service)
+        },
     };
     let Some(best) = best else {
         return Some(own);
     };
-    if node_cmp(spread, node.id, best.id, own, held) == Ordering::Less {
+    if node_cmp(standing.spread, node.id, best.id, own, held) == Ordering::Less {
         return Some(own);
     }
     None
@@ -192,7 +206,11 @@ fn best_of_all<'a, R: Rows>(rows: &'a R, known: &mut KnownTotals, task: &Task) -
         if !is_rival(known, rows, task.service, spread, best, held, node.id) {
             continue;
         }
-        if let Some(own) = if_better(known, rows, task, spread, best, held, node) {
+        let standing = Standing {
+            spread,
+            has_none: false,
+        };
+        if let Some(own) = if_better(known, rows, task, standing, best, held, node) {
             best = Some(node);
             held = own;
         }
@@ -200,11 +218,13 @@ fn best_of_all<'a, R: Rows>(rows: &'a R, known: &mut KnownTotals, task: &Task) -
     best
 }
 
-// The same, where the nodes are sorted. The row of a node that its class decides isn't looked at.
+// The same, where the nodes are sorted, into so many classes. The row of a node that its class decides isn't looked at. How the classes compare
+// stays so with a new best node that is the former one's equal by the preferences.
 fn best_of_classes<'a, R: Rows>(
     rows: &'a R,
     known: &mut KnownTotals,
     sorted: &[ClassedNode],
+    count: usize,
     task: &Task,
 ) -> Option<&'a Node>
     requires usable { IsUsable (R.tables rows.now) }
@@ -213,7 +233,7 @@ fn best_of_classes<'a, R: Rows>(
     ensures best { option_copied result ≡ best_node (R.tables rows.now) task.now }
     ensures knows { Knows (R.tables rows.now) known.new }
 {
-    let mut branches = branches_of(rows, task, sorted);
+    let (mut branches, most) = branches_of(rows, task, sorted, count);
     let mut orders = [None; CLASSES];
     let mut best = None;
     let mut held = NodeLoad::NONE;
@@ -225,10 +245,16 @@ fn best_of_classes<'a, R: Rows>(
         let Some(node) = rows.node(entry.id) else {
             continue;
         };
-        if let Some(own) = if_better(known, rows, task, spread, best, held, node) {
+        let standing = Standing {
+            spread,
+            has_none: most[entry.class] == 0,
+        };
+        if let Some(own) = if_better(known, rows, task, standing, best, held, node) {
             best = Some(node);
             held = own;
-            orders = [None; CLASSES];
+            if spread != Ordering::Equal {
+                orders = [None; CLASSES];
+            }
         }
     }
     best
@@ -245,7 +271,10 @@ pub fn best_node<'a, R: Rows>(rows: &'a R, known: &mut KnownNodes, task: &Task) 
     let keys = &task.template.spread;
     known.classes.ask(rows, keys);
     match known.classes.nodes_for(keys) {
-        Some(sorted) => best_of_classes(rows, &mut known.totals, sorted, task),
+        Some(sorted) => {
+            let count = known.classes.count();
+            best_of_classes(rows, &mut known.totals, sorted, count, task)
+        }
         None => best_of_all(rows, &mut known.totals, task),
     }
 }

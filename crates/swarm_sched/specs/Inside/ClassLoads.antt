@@ -28,6 +28,11 @@ pub record AreLoads (sorted : List ClassedNode) (tasks : List Task) (loads : Lis
   pub each : (class : ℕ) → class < 16 → get_or loads class 0 ≡ count_by (is_of_class sorted class) tasks
   pub all : length loads ≡ 16
 
+-- no more than so many do
+pub record AreMost (sorted : List ClassedNode) (tasks : List Task) (most : List ℕ) : Type 0 where
+  pub each : (class : ℕ) → class < 16 → count_by (is_of_class sorted class) tasks ≤ get_or most class 0
+  pub all : length most ≡ 16
+
 -- so far, where these tasks are left
 pub record AreCounting (sorted : List ClassedNode) (tasks left : List Task) (loads : List ℕ) : Type 0 where
   pub each : (class : ℕ) → class < 16 →

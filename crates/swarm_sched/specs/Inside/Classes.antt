@@ -1,6 +1,7 @@
 -- Nodes sorted by their values for placement preferences.
 use Rattle.std.specs.Borrow.{Bor}
 use Rattle.std.specs.Prelude.{Bool, IfSome, List, None, Option, Some, [], false, get_or, length, map, true, ℕ, ◌++◌, ◌<◌, ◌≡◌, ◌≤◌, ◌⊎◌}
+use Rattle.std.specs.declared.cmp.Ordering.TheVariants.{Less}
 use Rattle.std.specs.declared.cmp.Ordering.{Ordering}
 use Rattle.swarm_objects.specs.Nodes.BestNode.{agrees, spread_cmp}
 use Rattle.swarm_objects.specs.Rows.{Has, node_id}
@@ -90,9 +91,10 @@ puts_node (change.PutTask x) = false
 puts_node (change.DropTask id) = false
 puts_node (change.Keep a) = false
 
--- so the node compares with the best one by the preferences
+-- so the node compares with the best one by the preferences, and as less where there is none
 abbrev pub IsOrder : Preferences → Ordering → Node → Option Node → Type 0
-IsOrder p o n best = IfSome best (λ b. o ≡ spread_cmp p.tables p.service [] p.keys n b)
+IsOrder p o n None = o ≡ Less
+IsOrder p o n (Some b) = o ≡ spread_cmp p.tables p.service [] p.keys n b
 
 -- so do all nodes of each class for which it is known
 pub record AreOrders (p : Preferences) (sorted : List ClassedNode) (orders : List (Option Ordering)) (best : Option Node) :
