@@ -1,5 +1,5 @@
 -- The spans where a service's row is put anew.
-use Rattle.std.proofs.Common.{◌≡◌, ◌∙◌, ◌∷◌, ℕ, Bool, List, [], ap, inl, inr, refl, subst, sym}
+use Rattle.std.proofs.Common.{false, ◌≡◌, ◌∙◌, ◌∷◌, ℕ, Bool, List, [], ap, inl, inr, refl, subst, sym}
 use Rattle.swarm_objects.specs.ChangeLists.{apply_change}
 use Rattle.swarm_objects.specs.Loops.Allocator.{port_duties}
 use Rattle.swarm_objects.specs.declared.duties.Duty.{Duty}
@@ -15,7 +15,7 @@ use Rattle.swarm_spans.proofs.Grown.{wider_itself, wider_yet}
 use Rattle.swarm_spans.proofs.Services.GoesOn.{come_goes_on, create_goes_on, down_goes_on, leave_goes_on, next_goes_on, port_goes_on}
 use Rattle.swarm_spans.proofs.Services.Numbers.{touching_ends as numbers_end}
 use Rattle.swarm_spans.proofs.Services.Spans.{rising, services-full, wider-covers}
-use Rattle.swarm_spans.proofs.Services.Touching.{by_service, touching_ends, wider_not, wider_one}
+use Rattle.swarm_spans.proofs.Services.Touching.{by_service, shifted-all, touching_ends, wider_not, wider_one}
 use Rattle.swarm_spans.proofs.Services.Trimmed.{trim_goes_on}
 use Rattle.swarm_spans.proofs.Services.Trimming.{bounds_other, by_service as trimmed_by, touching_ends as trimmed_ends}
 use Rattle.swarm_spans.proofs.Services.Updated.{update_goes_on}
@@ -148,11 +148,12 @@ tasks_put t spans id tasks r a o d m n usable has rs rt ws wt os ot ds dt ms mt 
 shifts-put : {S : Type 0} (show : Task → S) (t : Tables) (s : Service) (id : ℕ) (span wide : Span) → s.id ≡ id
     → wide ≡ with_id span id → HasShifted show wide t (apply_change t (change.PutService s))
 shifts-put show t s id span wide same is =
-    touching_ends show t (change.PutService s ∷ []) [] wide wide
-    (record { wider = wider_not wide; each = λ c h. inl (one c h) }) refl
+    shifted-all show wide t (apply_change t (change.PutService s))
+    (touching_ends (λ x. false) show t (change.PutService s ∷ []) [] wide wide
+    (record { wider = wider_not wide; each = λ c h. inl (one c h) }) refl)
   where
-    one : (c : Change) → Has (change.PutService s ∷ []) c → HasTouched show t c wide
-    one c (inl at) = by_service show t c s span wide (sym at) (is ∙ ap (with_id span) (sym same))
+    one : (c : Change) → Has (change.PutService s ∷ []) c → HasTouched (λ x. false) show t c wide
+    one c (inl at) = by_service (λ x. false) show t c s span wide (sym at) (is ∙ ap (with_id span) (sym same))
     one c (inr none) = absurd none
 
 remains-put : (t : Tables) (s : Service) (id : ℕ) (span : Span) → s.id ≡ id → HasPastOf span t id

@@ -3,6 +3,7 @@ pub mod GoesOn
 pub mod Held
 pub mod Numbers
 pub mod Outcomes
+pub mod Quiet
 pub mod Spans
 pub mod Tests
 pub mod Touching

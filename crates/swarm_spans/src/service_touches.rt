@@ -1,5 +1,5 @@
 // What a list of changes touches of the lines over services.
-ghost use Rattle.std.specs.Prelude.{◌≡◌, ◌↔◌, IsTrue};
+ghost use Rattle.std.specs.Prelude.{Bool, IsTrue, false, ◌≡◌, ◌↔◌};
 ghost use Rattle.swarm_objects.specs.ChangeLists.{apply_changes};
 ghost use Rattle.swarm_objects.specs.Rows.{row_at, task_id};
 ghost use Rattle.swarm_objects.specs.Services.Runs.{counts_as_failure, has_open_run};
@@ -8,13 +8,14 @@ ghost use Rattle.swarm_objects.specs.declared.tasks.Task.{Task as TaskRow};
 ghost use Rattle.swarm_spans.specs.Services.Standings.{
   Progress,
   Standing,
+  comes_quietly,
   goes_alike,
   is_updated,
   progress,
   standing,
   stands_alike,
 };
-ghost use Rattle.swarm_spans.specs.Services.Steps.{HasServiceOf, HasShifted};
+ghost use Rattle.swarm_spans.specs.Services.Steps.{HasServiceOf, HasShiftedBut};
 ghost use Rattle.swarm_spans.specs.Services.Touches.{HasPut, HasTouched};
 ghost use Rattle.swarm_spans.specs.Spans.{IsWider};
 
@@ -28,9 +29,16 @@ pub trait Sight {
 
     ghost see: { Tables → TaskRow → Seen };
 
+    /// A new task that gives the line nothing to do.
+    ghost quiet: { Tables → TaskRow → Bool };
+
     /// The same is seen of the new row as of the old one. It may say no where that is dear to find.
     fn is_same<R: Rows>(rows: &R, old: &Task, new: &Task) -> bool
         ensures { let t = R.tables rows.now in IsTrue result → see t old.now ≡ see t new.now };
+
+    /// The new task is quiet.
+    fn is_quiet<R: Rows>(rows: &R, new: &Task) -> bool
+        ensures { result ≡ quiet (R.tables rows.now) new.now };
 }
 
 /// Which places are held: no line but that of updates sees more.
@@ -56,9 +64,15 @@ impl Sight for Places {
 
     ghost see = { λ t x. standing x };
 
+    ghost quiet = { λ t x. false };
+
     #[tactic(auto, using(crate::proofs::Services::Tests::stand_so))]
     fn is_same<R: Rows>(_rows: &R, old: &Task, new: &Task) -> bool {
         stands_alike(old, new)
+    }
+
+    fn is_quiet<R: Rows>(_rows: &R, _new: &Task) -> bool {
+        false
     }
 }
 
@@ -110,10 +124,22 @@ fn goes_alike(one: &Task, two: &Task) -> bool
         && (one.since == two.since || !(two.is_running() || counts_as_failure(two.state)))
 }
 
+// The task is live and clean, and its service has no update under way: where it is new, it makes no place dirty.
+fn comes_quietly<R: Rows>(rows: &R, task: &Task) -> bool
+    ensures { result ≡ comes_quietly (R.tables rows.now) task.now }
+{
+    match rows.service(task.service) {
+        Some(service) => task.is_live_clean(service) && !has_open_run(service),
+        None => false,
+    }
+}
+
 impl Sight for Updates {
     ghost Seen = { Progress };
 
     ghost see = { λ t x. progress t x };
+
+    ghost quiet = { λ t x. comes_quietly t x };
 
     #[tactic(auto, using(crate::proofs::Services::Tests::go_steps))]
     fn is_same<R: Rows>(rows: &R, old: &Task, new: &Task) -> bool {
@@ -121,19 +147,26 @@ impl Sight for Updates {
             && has_template(old, &new.template)
             && (!is_updated(rows, new) || goes_alike(old, new))
     }
+
+    fn is_quiet<R: Rows>(rows: &R, new: &Task) -> bool {
+        comes_quietly(rows, new)
+    }
 }
 
-// The services of a task that is put, where something else is seen of it than of the former row.
+// The services of a task that is put, where something else is seen of it than of the former row, or it is new and not
+// quiet.
 #[tactic(auto, using(crate::proofs::Services::Touching::put_steps))]
 fn touch_put<S: Sight, R: Rows>(rows: &R, new: &Task, span: &mut Span)
     ensures wider { IsWider span.new span.old }
-    ensures has { let t = R.tables rows.now in HasPut (S.see t) t new.now span.new }
+    ensures has { let t = R.tables rows.now in HasPut (S.quiet t) (S.see t) t new.now span.new }
 {
     if let Some(old) = rows.task(new.id) {
         if S::is_same(rows, old, new) {
             return;
         }
         span.add(old.service);
+    } else if S::is_quiet(rows, new) {
+        return;
     }
     span.add(new.service);
 }
@@ -153,7 +186,7 @@ fn touch_dropped<R: Rows>(rows: &R, id: Id, span: &mut Span)
 #[tactic(auto, using(crate::proofs::Services::Touching::change_steps))]
 fn touch_by<S: Sight, R: Rows>(rows: &R, change: &Change, span: &mut Span)
     ensures wider { IsWider span.new span.old }
-    ensures has { let t = R.tables rows.now in HasTouched (S.see t) t change.now span.new }
+    ensures has { let t = R.tables rows.now in HasTouched (S.quiet t) (S.see t) t change.now span.new }
 {
     match change {
         Change::PutService(service) => span.add(service.id),
@@ -163,12 +196,12 @@ fn touch_by<S: Sight, R: Rows>(rows: &R, change: &Change, span: &mut Span)
     }
 }
 
-/// The services that these changes put, and those of each task of which they make something else to be seen. It is
-/// asked before the changes are made.
+/// The services that these changes put, and those of each task of which they make something else to be seen, but for
+/// new tasks that are quiet. It is asked before the changes are made.
 #[tactic(auto, using(crate::proofs::Services::Touching::all_steps))]
 pub fn add_shifted<S: Sight, R: Rows>(rows: &R, changes: &[Change], span: &mut Span)
     ensures wider { IsWider span.new span.old }
-    ensures has { let t = R.tables rows.now in HasShifted (S.see t) span.new t (apply_changes t changes.now) }
+    ensures has { let t = R.tables rows.now in HasShiftedBut (S.quiet t) (S.see t) span.new t (apply_changes t changes.now) }
 {
     let mut left = changes;
     while let Some((change, others)) = left.split_first() {

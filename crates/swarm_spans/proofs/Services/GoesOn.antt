@@ -40,7 +40,7 @@ keep-shown {X} {S} show p (Some x) (Some y) same e =
     go true false q h = absurd cc
     go false true q h = absurd cc
 
-outside : (span : Span) (s : Service) (o : Option Task) → 0 < s.id → is_in span s.id ≡ false → HasServiceOf span o
+pub outside : (span : Span) (s : Service) (o : Option Task) → 0 < s.id → is_in span s.id ≡ false → HasServiceOf span o
     → keep (is_of s.id) o ≡ None
 outside span s None positive out has = refl
 outside span s (Some x) positive out has = go (is_of s.id x) refl
@@ -78,14 +78,13 @@ own-shown show t u span s service rising again positive out =
         (outside span s (row_at task_id id u.tasks) positive out two.1
         ∙ sym (outside span s (row_at task_id id t.tasks) positive out two.0))
 
--- One step of any line over services that reads no more of its tasks than they show.
+-- One step of any line over services: one that the span hasn't has no duty that it hadn't before.
 
-pub goes-on : {S : Type 0} (show : Task → S) (line : Tables → Service → List Duty) (t u : Tables) (span : Span)
-    → Reads show (λ x. x.service) → AreRising t u → HasChanged span t u → ShowsAgain show span t u
-    → ((s : Service) → row_at service_id s.id t.services ≡ Some s → map show (own u s) ≡ map show (own t s)
-    → has_duty (line u) s ≡ has_duty (line t) s)
+pub covers-by : (line : Tables → Service → List Duty) (t u : Tables) (span : Span) → AreRising t u → HasChanged span t u
+    → ((s : Service) → row_at service_id s.id t.services ≡ Some s → 0 < s.id → is_in span s.id ≡ false
+    → has_duty (line u) s ≡ true → has_duty (line t) s ≡ true)
     → CoversServices line t span → CoversServices line u span
-goes-on show line t u span service rising changed again same c = record { has = λ s h passes. go s h passes (is_in span s.id) refl }
+covers-by line t u span rising changed had c = record { has = λ s h passes. go s h passes (is_in span s.id) refl }
   where
     go : (s : Service) → Has u.services s → has_duty (line u) s ≡ true → (b : Bool) → is_in span s.id ≡ b
         → is_in span s.id ≡ true
@@ -98,9 +97,20 @@ goes-on show line t u span service rising changed again same c = record { has = 
               let here : row_at service_id s.id t.services ≡ Some s =
               sym row ∙ row_at-Some service_id 0 u.services s rising.services h in
               let there = (Has-from_row_at service_id s.id t.services s here).0 in
-              c.has s there
-              (sym (same s here (own-shown show t u span s service rising again positive e)) ∙ passes)
+              c.has s there (had s here positive e passes)
         ]
+
+-- so of a line that reads no more of its tasks than they show
+pub goes-on : {S : Type 0} (show : Task → S) (line : Tables → Service → List Duty) (t u : Tables) (span : Span)
+    → Reads show (λ x. x.service) → AreRising t u → HasChanged span t u → ShowsAgain show span t u
+    → ((s : Service) → row_at service_id s.id t.services ≡ Some s → map show (own u s) ≡ map show (own t s)
+    → has_duty (line u) s ≡ has_duty (line t) s)
+    → CoversServices line t span → CoversServices line u span
+goes-on show line t u span service rising changed again same c =
+    covers-by line t u span rising changed
+    (λ s row positive out passes.
+    sym (same s row (own-shown show t u span s service rising again positive out)) ∙ passes)
+    c
 
 -- Line by line.
 

@@ -23,12 +23,12 @@ use Rattle.swarm_objects.specs.declared.tasks.Task.{Task}
 use Rattle.swarm_spans.proofs.Grown.{in-full, own-with, wider_itself, wider_over, wider_with}
 use Rattle.swarm_spans.proofs.Services.GoesOn.{come_goes_on, create_goes_on, down_goes_on, leave_goes_on, next_goes_on, port_goes_on}
 use Rattle.swarm_spans.proofs.Services.Outcomes.{no-node-put, same-clock, same-settings}
-use Rattle.swarm_spans.proofs.Services.Touching.{number-wider, service_of-wider}
+use Rattle.swarm_spans.proofs.Services.Touching.{number-wider, service_of-wider, shifted-all}
 use Rattle.swarm_spans.proofs.Services.Trimmed.{trim_goes_on}
-use Rattle.swarm_spans.proofs.Services.Updated.{update_goes_on}
+use Rattle.swarm_spans.proofs.Services.Quiet.{updates_go_on}
 use Rattle.swarm_spans.specs.Services.Lines.{AreRising, MovedLaw, PlacedLaw, comes, creates, downs, job_creates, leaves, trims, updates}
-use Rattle.swarm_spans.specs.Services.Standings.{progress, standing}
-use Rattle.swarm_spans.specs.Services.Steps.{HasEach, HasForPorts, HasRemains, HasShifted}
+use Rattle.swarm_spans.specs.Services.Standings.{comes_quietly, progress, standing}
+use Rattle.swarm_spans.specs.Services.Steps.{HasEach, HasForPorts, HasRemains, HasShifted, HasShiftedBut}
 use Rattle.swarm_spans.specs.Services.Touches.{AddingUpdated, AreCovered, HasUpdated, Joins, JoinsForNodes, ServiceTimeLaw, puts_node}
 use Rattle.swarm_spans.specs.Spans.{CoversServices, CoversTasks, IsWider, full, has_duty, is_in, with_id}
 use Rattle.swarm_spans.specs.TasksCovered.{at_time}
@@ -300,11 +300,12 @@ covered_stays t cs b moved d c l m j p u r usable are ds crs ls ms js ps us rs =
 }
 
 pub covered_on : (t : Tables) (cs : List Change) (b : ServiceSpans) (moved d c l m j p u r : Span) → IsUsable t
-    → AreCovered t b → HasShifted standing moved t (apply_changes t cs) → Joins d b.downs moved
+    → AreCovered t b → HasShiftedBut (λ x. false) standing moved t (apply_changes t cs) → Joins d b.downs moved
     → Joins c b.creates moved → JoinsForNodes cs l b.leaves moved → JoinsForNodes cs m b.comes moved
     → Joins j b.job_creates moved → IsWider p b.ports
     → (IsUsable (apply_changes t cs) → HasForPorts p t (apply_changes t cs)) → IsWider u b.updates
-    → HasShifted (progress t) u t (apply_changes t cs) → IsWider r b.trims → HasRemains r t (apply_changes t cs)
+    → HasShiftedBut (comes_quietly t) (progress t) u t (apply_changes t cs) → IsWider r b.trims
+    → HasRemains r t (apply_changes t cs)
     → IsUsable (apply_changes t cs)
     → AreCovered (apply_changes t cs) (record {
       downs = d;
@@ -317,21 +318,25 @@ pub covered_on : (t : Tables) (cs : List Change) (b : ServiceSpans) (moved d c l
       trims = r;
     })
 covered_on t cs b moved d c l m j p u r usable are has ds crs ls ms js ps numbered us progressed rs remain after = record {
-  downs = moved-on downs t (apply_changes t cs) d b.downs moved down_goes_on usable after has ds are.downs;
-  creates = moved-on creates t (apply_changes t cs) c b.creates moved create_goes_on usable after has crs are.creates;
-  leaves = placed-on leaves t cs l b.leaves moved leave_goes_on usable after has ls are.leaves;
-  comes = placed-on comes t cs m b.comes moved come_goes_on usable after has ms are.comes;
+  downs = moved-on downs t (apply_changes t cs) d b.downs moved down_goes_on usable after stood ds are.downs;
+  creates =
+      moved-on creates t (apply_changes t cs) c b.creates moved create_goes_on usable after stood crs are.creates;
+  leaves = placed-on leaves t cs l b.leaves moved leave_goes_on usable after stood ls are.leaves;
+  comes = placed-on comes t cs m b.comes moved come_goes_on usable after stood ms are.comes;
   job_creates =
-      moved-on job_creates t (apply_changes t cs) j b.job_creates moved next_goes_on usable after has js
+      moved-on job_creates t (apply_changes t cs) j b.job_creates moved next_goes_on usable after stood js
       are.job_creates;
   ports =
       port_goes_on t (apply_changes t cs) p (numbered after) (wider-covers port_duties t b.ports p ps are.ports);
   updates =
-      update_goes_on t (apply_changes t cs) u (rising t (apply_changes t cs) usable after) (same-clock t cs) progressed
+      updates_go_on t (apply_changes t cs) u (rising t (apply_changes t cs) usable after) (same-clock t cs) progressed
       (wider-covers updates t b.updates u us are.updates);
   trims =
       trim_goes_on t (apply_changes t cs) r (rising t (apply_changes t cs) usable after) (same-settings t cs) remain
       (record { has = λ x h e. rs.has x.id (are.trims.has x h e) });
 }
+  where
+    stood : HasShifted standing moved t (apply_changes t cs)
+    stood = shifted-all standing moved t (apply_changes t cs) has
 
 pub ruleset touch_steps = (covered_stays, covered_on)

@@ -1,8 +1,8 @@
 -- Spans that get what changes touch.
-use Rattle.std.proofs.Common.{List, None, Option, Some, [], ap, inl, inr, length, refl, subst, sym, true, ℕ, arith, ◌∙◌, ◌∷◌, ◌≡◌, ◌⊎◌}
+use Rattle.std.proofs.Common.{Bool, List, None, Option, Some, [], ap, false, inl, inr, length, refl, subst, sym, true, ℕ, arith, ◌∙◌, ◌∷◌, ◌≡◌, ◌⊎◌}
 use Rattle.std.specs.Option.{option_map}
 use Rattle.swarm_objects.specs.ChangeLists.{apply_changes}
-use Rattle.swarm_objects.specs.Rows.{Has, row_at, service_id, task_id}
+use Rattle.swarm_objects.specs.Rows.{Has, is_some_and, row_at, service_id, task_id}
 use Rattle.swarm_objects.specs.World.{Tables}
 use Rattle.swarm_objects.specs.declared.nodes.Node.{Node}
 use Rattle.swarm_objects.specs.declared.rows.Change.{Change}
@@ -12,7 +12,7 @@ use Rattle.swarm_objects.specs.declared.tasks.Attempt.{Attempt}
 use Rattle.swarm_objects.specs.declared.tasks.Task.{Task}
 use Rattle.swarm_spans.proofs.Grown.{in-with, own-with}
 use Rattle.swarm_spans.proofs.Services.Outcomes.{ServiceTurns, TaskTurns, service-turns, task-turns}
-use Rattle.swarm_spans.specs.Services.Steps.{HasNumber, HasServiceOf, HasShifted}
+use Rattle.swarm_spans.specs.Services.Steps.{HasNumber, HasServiceOf, HasShifted, HasShiftedBut, ShowsSo, Turns}
 use Rattle.swarm_spans.specs.Services.Touches.{HasPut, HasTouched, Touching}
 use Rattle.swarm_spans.specs.Spans.{IsWider, is_in, with_id}
 use Rattle.swarm_spans.specs.declared.span.Span.{Span}
@@ -38,17 +38,28 @@ number-of id span one is positive = subst (λ s. is_in s id ≡ true) (sym is) (
 pub number-wider : (id : ℕ) (span wide : Span) → IsWider wide span → HasNumber span id → HasNumber wide id
 number-wider id span wide w has positive = w.has id (has positive)
 
+service_of-own : (x : Task) (span : Span) → HasNumber span x.service → HasServiceOf span (Some x)
+service_of-own x span has = record {
+  of = λ z e. let same : x ≡ z = cc in subst (λ y. HasNumber span y.service) same has;
+}
+
 -- A task that is put.
 
-pub put_alike : {S : Type 0} (show : Task → S) (t : Tables) (x old : Task) (span : Span)
-    → Some old ≡ row_at task_id x.id t.tasks → show old ≡ show x → HasPut show t x span
-put_alike show t x old span row same = record { shown = inl (ap (option_map show) (sym row) ∙ ap Some same) }
+pub put_alike : {S : Type 0} (quiet : Task → Bool) (show : Task → S) (t : Tables) (x old : Task) (span : Span)
+    → Some old ≡ row_at task_id x.id t.tasks → show old ≡ show x → HasPut quiet show t x span
+put_alike quiet show t x old span row same = record {
+  shown = inl (inl (sym (ap (option_map show) (sym row) ∙ ap Some same)));
+}
 
-pub put_other : {S : Type 0} (show : Task → S) (t : Tables) (x old : Task) (span one two : Span)
+pub put_other : {S : Type 0} (quiet : Task → Bool) (show : Task → S) (t : Tables) (x old : Task) (span one two : Span)
     → Some old ≡ row_at task_id x.id t.tasks → one ≡ with_id span old.service → two ≡ with_id one x.service
-    → HasPut show t x two
-put_other show t x old span one two row is and-is = record {
-  shown = inr (record { of = λ z e. former z (row ∙ e) }, number-of x.service one two and-is);
+    → HasPut quiet show t x two
+put_other quiet show t x old span one two row is and-is = record {
+  shown =
+      inl (inr (
+        record { of = λ z e. former z (row ∙ e) },
+        service_of-own x two (number-of x.service one two and-is),
+      ));
 }
   where
     former : (z : Task) → Some old ≡ Some z → HasNumber two z.service
@@ -57,16 +68,20 @@ put_other show t x old span one two row is and-is = record {
         subst (λ y. HasNumber two y.service) same
         (number-wider old.service one two (wider_one x.service one two and-is) (number-of old.service span one is))
 
-pub put_new : {S : Type 0} (show : Task → S) (t : Tables) (x : Task) (span one : Span)
-    → None ≡ row_at task_id x.id t.tasks → one ≡ with_id span x.service → HasPut show t x one
-put_new show t x span one row is = record {
-  shown = inr (record { of = λ z e. none z (row ∙ e) }, number-of x.service span one is);
+pub put_new : {S : Type 0} (quiet : Task → Bool) (show : Task → S) (t : Tables) (x : Task) (span one : Span)
+    → None ≡ row_at task_id x.id t.tasks → one ≡ with_id span x.service → HasPut quiet show t x one
+put_new quiet show t x span one row is = record {
+  shown = inl (inr (record { of = λ z e. none z (row ∙ e) }, service_of-own x one (number-of x.service span one is)));
 }
   where
     none : (z : Task) → None ≡ Some z → HasNumber one z.service
     none z e = absurd cc
 
-pub ruleset put_steps = (wider_not, wider_one, wider_two, put_alike, put_other, put_new)
+pub put_quiet : {S : Type 0} (quiet : Task → Bool) (show : Task → S) (t : Tables) (x : Task) (span : Span)
+    → None ≡ row_at task_id x.id t.tasks → true ≡ quiet x → HasPut quiet show t x span
+put_quiet quiet show t x span row is = record { shown = inr (record { none = sym row; new = sym is }) }
+
+pub ruleset put_steps = (wider_not, wider_one, wider_two, put_alike, put_quiet)
 
 -- A task that goes.
 
@@ -90,9 +105,9 @@ pub ruleset drop_steps = (wider_not, wider_one, drop_some, drop_none)
 
 -- One change.
 
-pub by_service : {S : Type 0} (show : Task → S) (t : Tables) (c : Change) (s : Service) (span one : Span)
-    → c ≡ change.PutService s → one ≡ with_id span s.id → HasTouched show t c one
-by_service show t c s span one is with-it = record {
+pub by_service : {S : Type 0} (quiet : Task → Bool) (show : Task → S) (t : Tables) (c : Change) (s : Service)
+    (span one : Span) → c ≡ change.PutService s → one ≡ with_id span s.id → HasTouched quiet show t c one
+by_service quiet show t c s span one is with-it = record {
   service = λ z e. let same : s ≡ z = cc in subst (λ y. HasNumber one y.id) same (number-of s.id span one with-it);
   put = λ z e. absurd (ne z (sym is ∙ e));
   dropped = λ id e. absurd (nf id (sym is ∙ e));
@@ -104,11 +119,11 @@ by_service show t c s span one is with-it = record {
     nf : (id : ℕ) → change.PutService s ≡ change.DropTask id → ⊥
     nf id e = cc
 
-pub by_task : {S : Type 0} (show : Task → S) (t : Tables) (c : Change) (x : Task) (span : Span)
-    → c ≡ change.PutTask x → HasPut show t x span → HasTouched show t c span
-by_task show t c x span is has = record {
+pub by_task : {S : Type 0} (quiet : Task → Bool) (show : Task → S) (t : Tables) (c : Change) (x : Task) (span : Span)
+    → c ≡ change.PutTask x → HasPut quiet show t x span → HasTouched quiet show t c span
+by_task quiet show t c x span is has = record {
   service = λ z e. absurd (ne z (sym is ∙ e));
-  put = λ z e. let same : x ≡ z = cc in subst (λ y. HasPut show t y span) same has;
+  put = λ z e. let same : x ≡ z = cc in subst (λ y. HasPut quiet show t y span) same has;
   dropped = λ id e. absurd (nf id (sym is ∙ e));
 }
   where
@@ -118,9 +133,9 @@ by_task show t c x span is has = record {
     nf : (id : ℕ) → change.PutTask x ≡ change.DropTask id → ⊥
     nf id e = cc
 
-pub by_drop : {S : Type 0} (show : Task → S) (t : Tables) (c : Change) (gone : ℕ) (span : Span)
-    → c ≡ change.DropTask gone → HasServiceOf span (row_at task_id gone t.tasks) → HasTouched show t c span
-by_drop show t c gone span is has = record {
+pub by_drop : {S : Type 0} (quiet : Task → Bool) (show : Task → S) (t : Tables) (c : Change) (gone : ℕ) (span : Span)
+    → c ≡ change.DropTask gone → HasServiceOf span (row_at task_id gone t.tasks) → HasTouched quiet show t c span
+by_drop quiet show t c gone span is has = record {
   service = λ z e. absurd (ne z (sym is ∙ e));
   put = λ z e. absurd (nf z (sym is ∙ e));
   dropped = λ id e.
@@ -133,9 +148,9 @@ by_drop show t c gone span is has = record {
     nf : (z : Task) → change.DropTask gone ≡ change.PutTask z → ⊥
     nf z e = cc
 
-pub by_node : {S : Type 0} (show : Task → S) (t : Tables) (c : Change) (n : Node) (span : Span)
-    → c ≡ change.PutNode n → HasTouched show t c span
-by_node show t c n span is = record {
+pub by_node : {S : Type 0} (quiet : Task → Bool) (show : Task → S) (t : Tables) (c : Change) (n : Node) (span : Span)
+    → c ≡ change.PutNode n → HasTouched quiet show t c span
+by_node quiet show t c n span is = record {
   service = λ z e. absurd (ne z (sym is ∙ e));
   put = λ z e. absurd (nf z (sym is ∙ e));
   dropped = λ id e. absurd (ng id (sym is ∙ e));
@@ -150,9 +165,9 @@ by_node show t c n span is = record {
     ng : (id : ℕ) → change.PutNode n ≡ change.DropTask id → ⊥
     ng id e = cc
 
-pub by_attempt : {S : Type 0} (show : Task → S) (t : Tables) (c : Change) (a : Attempt) (span : Span)
-    → c ≡ change.Keep a → HasTouched show t c span
-by_attempt show t c a span is = record {
+pub by_attempt : {S : Type 0} (quiet : Task → Bool) (show : Task → S) (t : Tables) (c : Change) (a : Attempt)
+    (span : Span) → c ≡ change.Keep a → HasTouched quiet show t c span
+by_attempt quiet show t c a span is = record {
   service = λ z e. absurd (ne z (sym is ∙ e));
   put = λ z e. absurd (nf z (sym is ∙ e));
   dropped = λ id e. absurd (ng id (sym is ∙ e));
@@ -175,19 +190,19 @@ pub service_of-wider : (row : Option Task) (span wide : Span) → IsWider wide s
     → HasServiceOf wide row
 service_of-wider row span wide w has = record { of = λ x e. number-wider x.service span wide w (has.of x e) }
 
-touched-wider : {S : Type 0} (show : Task → S) (t : Tables) (c : Change) (span wide : Span) → IsWider wide span
-    → HasTouched show t c span → HasTouched show t c wide
-touched-wider show t c span wide w has = record {
+turns-wider : {S : Type 0} (quiet : Task → Bool) (show : Task → S) (before after : Option Task) (span wide : Span)
+    → IsWider wide span → Turns quiet show span before after → Turns quiet show wide before after
+turns-wider quiet show before after span wide w (inr added) = inr added
+turns-wider quiet show before after span wide w (inl (inl same)) = inl (inl same)
+turns-wider quiet show before after span wide w (inl (inr two)) =
+    inl (inr (service_of-wider before span wide w two.0, service_of-wider after span wide w two.1))
+
+touched-wider : {S : Type 0} (quiet : Task → Bool) (show : Task → S) (t : Tables) (c : Change) (span wide : Span)
+    → IsWider wide span → HasTouched quiet show t c span → HasTouched quiet show t c wide
+touched-wider quiet show t c span wide w has = record {
   service = λ s e. number-wider s.id span wide w (has.service s e);
   put = λ x e. record {
-    shown = elim ((has.put x e).shown) [
-      | inl same ↦ inl same
-      | inr two ↦
-          inr (
-            service_of-wider (row_at task_id x.id t.tasks) span wide w two.0,
-            number-wider x.service span wide w two.1,
-          )
-    ];
+    shown = turns-wider quiet show (row_at task_id x.id t.tasks) (Some x) span wide w (has.put x e).shown;
   };
   dropped = λ id e. service_of-wider (row_at task_id id t.tasks) span wide w (has.dropped id e);
 }
@@ -220,20 +235,20 @@ touched-all all left first span a none c h =
       | inr there ↦ absurd (subst (λ list. Has list c) (is-empty left none) there)
     ]
 
-pub touching_begins : {S : Type 0} (show : Task → S) (t : Tables) (all : List Change) (span : Span)
-    → Touching (HasTouched show t) all all span span
-touching_begins show t all span = record { wider = wider_not span; each = λ c h. inr h }
+pub touching_begins : {S : Type 0} (quiet : Task → Bool) (show : Task → S) (t : Tables) (all : List Change)
+    (span : Span) → Touching (HasTouched quiet show t) all all span span
+touching_begins quiet show t all span = record { wider = wider_not span; each = λ c h. inr h }
 
-pub touching_goes_on : {S : Type 0} (show : Task → S) (t : Tables) (all left rest : List Change)
-    (first span wide : Span) (c : Change) → Touching (HasTouched show t) all left first span → left ≡ c ∷ rest
-    → IsWider wide span → HasTouched show t c wide → Touching (HasTouched show t) all rest first wide
-touching_goes_on show t all left rest first span wide c a step w has =
-    touching_next all left rest first span wide c (λ d. touched-wider show t d span wide w) a step w has
+pub touching_goes_on : {S : Type 0} (quiet : Task → Bool) (show : Task → S) (t : Tables) (all left rest : List Change)
+    (first span wide : Span) (c : Change) → Touching (HasTouched quiet show t) all left first span → left ≡ c ∷ rest
+    → IsWider wide span → HasTouched quiet show t c wide → Touching (HasTouched quiet show t) all rest first wide
+touching_goes_on quiet show t all left rest first span wide c a step w has =
+    touching_next all left rest first span wide c (λ d. touched-wider quiet show t d span wide w) a step w has
 
-pub touching_ends : {S : Type 0} (show : Task → S) (t : Tables) (all left : List Change) (first span : Span)
-    → Touching (HasTouched show t) all left first span → length left ≡ 0
-    → HasShifted show span t (apply_changes t all)
-touching_ends show t all left first span a none = record {
+pub touching_ends : {S : Type 0} (quiet : Task → Bool) (show : Task → S) (t : Tables) (all left : List Change)
+    (first span : Span) → Touching (HasTouched quiet show t) all left first span → length left ≡ 0
+    → HasShiftedBut quiet show span t (apply_changes t all)
+touching_ends quiet show t all left first span a none = record {
   services = record { rows = λ id. service id (row_at service_id id (apply_changes t all).services) (service-turns t all id) };
   tasks = λ id. task id (row_at task_id id (apply_changes t all).tasks) (task-turns t all id);
 }
@@ -245,37 +260,39 @@ touching_ends show t all left first span a none = record {
         inr (subst (HasNumber span) put.2
         ((touched-all all left first span a none (change.PutService put.0) put.1).service put.0 refl))
 
-    shows : (x : Task) (o : Option Task) → o ≡ Some x → HasPut show t x span
-        → (option_map show o ≡ option_map show (row_at task_id x.id t.tasks))
-        ⊎ (HasServiceOf span (row_at task_id x.id t.tasks) × HasServiceOf span o)
-    shows x o is has =
-        elim has.shown [
-          | inl same ↦ inl (ap (option_map show) is ∙ sym same)
-          | inr two ↦ inr (two.0, record { of = λ z e. itself z (sym is ∙ e) two.1 })
-        ]
-      where
-        itself : (z : Task) → Some x ≡ Some z → HasNumber span x.service → HasNumber span z.service
-        itself z e k = let same : x ≡ z = cc in subst (λ y. HasNumber span y.service) same k
-
-    task : (id : ℕ) (o : Option Task) → TaskTurns t all id o
-        → (option_map show o ≡ option_map show (row_at task_id id t.tasks))
-        ⊎ (HasServiceOf span (row_at task_id id t.tasks) × HasServiceOf span o)
-    task id o (inl same) = inl (ap (option_map show) same)
+    task : (id : ℕ) (o : Option Task) → TaskTurns t all id o → Turns quiet show span (row_at task_id id t.tasks) o
+    task id o (inl same) = inl (inl (ap (option_map show) same))
     task id o (inr (inl put)) =
-        subst (λ k. (option_map show o ≡ option_map show (row_at task_id k t.tasks))
-        ⊎ (HasServiceOf span (row_at task_id k t.tasks) × HasServiceOf span o)) put.2
-        (shows put.0 o put.3 ((touched-all all left first span a none (change.PutTask put.0) put.1).put put.0 refl))
+        subst (λ k. Turns quiet show span (row_at task_id k t.tasks) o) put.2
+        (subst (Turns quiet show span (row_at task_id put.0.id t.tasks)) (sym put.3)
+        ((touched-all all left first span a none (change.PutTask put.0) put.1).put put.0 refl).shown)
     task id o (inr (inr gone)) =
-        inr (
+        inl (inr (
           (touched-all all left first span a none (change.DropTask id) gone.0).dropped id refl,
           record { of = λ z e. none-left z (sym gone.1 ∙ e) },
-        )
+        ))
       where
         none-left : (z : Task) → None ≡ Some z → HasNumber span z.service
         none-left z e = absurd cc
 
-pub touching_wider : {S : Type 0} (show : Task → S) (t : Tables) (all left : List Change) (first span : Span)
-    → Touching (HasTouched show t) all left first span → IsWider span first
-touching_wider show t all left first span a = a.wider
+-- where none is quiet
+pub shifted-all : {S : Type 0} (show : Task → S) (span : Span) (t u : Tables) → HasShiftedBut (λ x. false) show span t u
+    → HasShifted show span t u
+shifted-all {S} show span t u has = record {
+  services = has.services;
+  tasks = λ id. go (row_at task_id id t.tasks) (row_at task_id id u.tasks) (has.tasks id);
+}
+  where
+    never : (o : Option Task) → is_some_and (λ x. false) o ≡ true → ⊥
+    never None e = absurd cc
+    never (Some x) e = absurd cc
+
+    go : (before after : Option Task) → Turns (λ x. false) show span before after → ShowsSo show span before after
+    go before after (inl so) = so
+    go before after (inr added) = absurd (never after added.new)
+
+pub touching_wider : {S : Type 0} (quiet : Task → Bool) (show : Task → S) (t : Tables) (all left : List Change)
+    (first span : Span) → Touching (HasTouched quiet show t) all left first span → IsWider span first
+touching_wider quiet show t all left first span a = a.wider
 
 pub ruleset all_steps = (touching_begins, touching_goes_on, touching_ends, touching_wider)

@@ -26,12 +26,15 @@ use Rattle.swarm_objects.specs.declared.templates.Template.{Template}
 use Rattle.swarm_spans.proofs.Services.Alike.{Reads, any-alike, count-alike, filter-alike, last-alike, map-alike, some-alike}
 use Rattle.swarm_spans.proofs.Services.GoesOn.{goes-on}
 use Rattle.swarm_spans.proofs.Services.Held.{closes-read, live-read, numbers-alike, numbers-of, own, place-read}
-use Rattle.swarm_spans.specs.Services.Lines.{UpdateLaw, updates}
+use Rattle.swarm_spans.specs.Services.Lines.{AreRising, updates}
 use Rattle.swarm_spans.specs.Services.Standings.{Course, Progress, Standing, course, is_updated, progress, standing}
+use Rattle.swarm_spans.specs.Services.Steps.{HasShifted}
+use Rattle.swarm_spans.specs.Spans.{CoversServices}
+use Rattle.swarm_spans.specs.declared.span.Span.{Span}
 
 -- With a run under way: all by the service's tasks and the time.
 
-abbrev alone : List Task → ℕ → Tables
+abbrev pub alone : List Task → ℕ → Tables
 alone tasks clock = record empty_tables { clock = clock; tasks = tasks }
 
 abbrev by-own : Tables → Service → Tables
@@ -67,7 +70,7 @@ dirty-alone t s k =
     ap (λ xs. list_any (is_live_dirty s) xs || (not (list_any is_live xs) && is_some_and (closes_dirty s) (newest xs)))
     (place-alone t s k)
 
-has-dirty-alone : (t : Tables) (s : Service) → has_dirty_place (by-own t s) s ≡ has_dirty_place t s
+pub has-dirty-alone : (t : Tables) (s : Service) → has_dirty_place (by-own t s) s ≡ has_dirty_place t s
 has-dirty-alone t s = λ i. list_any (λ k. dirty-alone t s k i) (numbers-of s t.tasks i)
 
 open-alone : (t : Tables) (s : Service) (run : UpdateRun) → open_duties (by-own t s) s run ≡ open_duties t s run
@@ -108,7 +111,7 @@ own-updated t u s row runs x h =
 
 -- With none: all by how the tasks stand and by their templates.
 
-abbrev laid : Task → Standing × Template
+abbrev pub laid : Task → Standing × Template
 laid x = (standing x, x.template)
 
 standing-laid : Reads laid standing
@@ -137,18 +140,20 @@ dirty-alike s k xs ys e =
     (last-alike laid None None (tasks_of_place s p xs) (tasks_of_place s p ys) refl placed) in
     λ i. some i || (not (live i) && last i)
 
+pub has-dirty-alike : (s : Service) (xs ys : List Task) → map laid xs ≡ map laid ys
+    → has_dirty_place (alone xs 0) s ≡ has_dirty_place (alone ys 0) s
+has-dirty-alike s xs ys e =
+    λ i. list_any (λ k. dirty-alike s k xs ys e i) (numbers i)
+  where
+    numbers : place_numbers (alone xs 0) s ≡ place_numbers (alone ys 0) s
+    numbers = numbers-alike s xs ys (map-alike laid standing xs ys standing-laid e)
+
 has-dirty-same : (t u : Tables) (s : Service) → map laid (own u s) ≡ map laid (own t s)
     → has_dirty_place u s ≡ has_dirty_place t s
 has-dirty-same t u s e =
-    sym (has-dirty-alone u s) ∙ between ∙ has-dirty-alone t s
-  where
-    numbers : place_numbers (alone (own u s) 0) s ≡ place_numbers (alone (own t s) 0) s
-    numbers = numbers-alike s (own u s) (own t s) (map-alike laid standing (own u s) (own t s) standing-laid e)
+    sym (has-dirty-alone u s) ∙ has-dirty-alike s (own u s) (own t s) e ∙ has-dirty-alone t s
 
-    between : has_dirty_place (by-own u s) s ≡ has_dirty_place (by-own t s) s
-    between = λ i. list_any (λ k. dirty-alike s k (own u s) (own t s) e i) (numbers i)
-
-unrun : (t : Tables) (s : Service) (o : Option UpdateRun) → is_some_and is_under_way o ≡ false → run_duties t s o ≡ []
+pub unrun : (t : Tables) (s : Service) (o : Option UpdateRun) → is_some_and is_under_way o ≡ false → run_duties t s o ≡ []
 unrun t s None e = refl
 unrun t s (Some run) e = ap (λ b. cond b (open_duties t s run) []) e
 
@@ -348,10 +353,10 @@ update-seen s mode.Global clock xs ys e = λ i.
     ++ run-seen s s.run clock xs ys e i
 update-seen s (mode.Job concurrent total) clock xs ys e = refl
 
-laid-read : (t : Tables) → Reads (progress t) laid
+pub laid-read : (t : Tables) → Reads (progress t) laid
 laid-read t x y e = ap (λ (p : Progress). (p.standing, p.template)) e
 
-update-same : (t u : Tables) (s : Service) → u.clock ≡ t.clock → row_at service_id s.id t.services ≡ Some s
+pub update-same : (t u : Tables) (s : Service) → u.clock ≡ t.clock → row_at service_id s.id t.services ≡ Some s
     → map (progress t) (own u s) ≡ map (progress t) (own t s) → update_duties u s s.spec.mode
     ≡ update_duties t s s.spec.mode
 update-same t u s clock row e = go (has_open_run s) refl
@@ -367,7 +372,8 @@ update-same t u s clock row e = go (has_open_run s) refl
         ∙ update-seen s s.spec.mode t.clock (own u s) (own t s) see
         ∙ update-alone t s s.spec.mode
 
-pub update_goes_on : UpdateLaw
+pub update_goes_on : (t u : Tables) (span : Span) → AreRising t u → u.clock ≡ t.clock → HasShifted (progress t) span t u
+    → CoversServices updates t span → CoversServices updates u span
 update_goes_on t u span rising clock moved c =
     goes-on (progress t) updates t u span (λ x y e. ap (λ (p : Progress). p.standing.service) e) rising
     moved.services moved.tasks (λ s row e. ap (λ ds. is_some (first_of ds)) (update-same t u s clock row e)) c

@@ -13,8 +13,8 @@ use Rattle.swarm_objects.specs.declared.duties.Duty.{Duty}
 use Rattle.swarm_objects.specs.declared.duties.Duty.TheVariants as duty
 use Rattle.swarm_objects.specs.declared.services.Service.{Service}
 use Rattle.swarm_objects.specs.declared.tasks.Task.{Task}
-use Rattle.swarm_spans.specs.Services.Standings.{progress, standing}
-use Rattle.swarm_spans.specs.Services.Steps.{HasForNodes, HasForPorts, HasRemains, HasShifted}
+use Rattle.swarm_spans.specs.Services.Standings.{comes_quietly, progress, standing}
+use Rattle.swarm_spans.specs.Services.Steps.{HasForNodes, HasForPorts, HasRemains, HasShifted, HasShiftedBut}
 use Rattle.swarm_spans.specs.Spans.{CoversServices, CoversTasks}
 use Rattle.swarm_spans.specs.declared.span.Span.{Span}
 
@@ -66,8 +66,9 @@ PortLaw =
 -- at one time
 abbrev pub UpdateLaw : Type 0
 UpdateLaw =
-    (t u : Tables) (span : Span) → AreRising t u → u.clock ≡ t.clock → HasShifted (progress t) span t u
-    → CoversServices updates t span → CoversServices updates u span
+    (t u : Tables) (span : Span) → AreRising t u → u.clock ≡ t.clock
+    → HasShiftedBut (comes_quietly t) (progress t) span t u → CoversServices updates t span
+    → CoversServices updates u span
 
 -- under one limit of how many are kept
 abbrev pub TrimLaw : Type 0

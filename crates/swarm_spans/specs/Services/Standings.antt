@@ -3,7 +3,7 @@ use Rattle.std.specs.Prelude.{ℕ, Bool, Option, None, Some, is_some, if◌then�
 use Rattle.swarm_objects.specs.Loops.Reaper.{is_past}
 use Rattle.swarm_objects.specs.Services.Runs.{counts_as_failure, has_open_run}
 use Rattle.swarm_objects.specs.Same.{same_bool, same_place}
-use Rattle.swarm_objects.specs.Services.Words.{is_job, is_service_and}
+use Rattle.swarm_objects.specs.Services.Words.{is_job, is_live_clean, is_service_and}
 use Rattle.swarm_objects.specs.Tasks.Words.{is_below_running, is_kept, is_live, is_running}
 use Rattle.swarm_objects.specs.World.{Tables}
 use Rattle.swarm_objects.specs.declared.services.Service.{Service}
@@ -62,6 +62,10 @@ progress t x = record {
   template = x.template;
   course = if is_updated t x then Some (course x) else None;
 }
+
+-- live and clean, of a service without an update under way: where it is new, it gives none a duty
+abbrev pub comes_quietly : Tables → Task → Bool
+comes_quietly t x = is_service_and t (λ s. is_live_clean s x && not (has_open_run s)) x
 
 -- what decides which of a place's ended tasks is removed
 pub record Remains : Type 0 where

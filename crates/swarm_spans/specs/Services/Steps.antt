@@ -1,9 +1,9 @@
 -- What a step from tables to tables leaves as it was, or else what a span of services has.
 use Rattle.std.specs.Option.{option_map}
-use Rattle.std.specs.Prelude.{ℕ, Bool, Option, Some, true, ◌<◌, ◌≡◌, ◌⊎◌}
+use Rattle.std.specs.Prelude.{ℕ, Bool, None, Option, Some, true, ◌<◌, ◌≡◌, ◌⊎◌}
 use Rattle.swarm_objects.specs.Loops.Allocator.{has_free_port}
 use Rattle.swarm_objects.specs.Loops.Reaper.{is_past}
-use Rattle.swarm_objects.specs.Rows.{Has, row_at, service_id, task_id}
+use Rattle.swarm_objects.specs.Rows.{Has, is_some_and, row_at, service_id, task_id}
 use Rattle.swarm_objects.specs.Tasks.Words.{is_beside}
 use Rattle.swarm_objects.specs.World.{Tables}
 use Rattle.swarm_objects.specs.declared.services.Service.{Service}
@@ -20,11 +20,23 @@ HasNumber span id = 0 < id → is_in span id ≡ true
 pub record HasServiceOf (span : Span) (row : Option Task) : Type 0 where
   pub of : (x : Task) → row ≡ Some x → HasNumber span x.service
 
--- each task shows the same as before, or the span has its service, both the earlier and the later
+-- a task that may be there shows the same as before, or the span has its service, both the earlier and the later
+abbrev pub ShowsSo : {S : Type 0} → (Task → S) → Span → Option Task → Option Task → Type 0
+ShowsSo show span before after =
+    (option_map show after ≡ option_map show before) ⊎ (HasServiceOf span before × HasServiceOf span after)
+
+-- it is new, and quiet
+pub record IsAdded (quiet : Task → Bool) (before after : Option Task) : Type 0 where
+  pub none : before ≡ None
+  pub new : is_some_and quiet after ≡ true
+
+-- the one or the other
+abbrev pub Turns : {S : Type 0} → (Task → Bool) → (Task → S) → Span → Option Task → Option Task → Type 0
+Turns quiet show span before after = ShowsSo show span before after ⊎ IsAdded quiet before after
+
+-- each task shows the same, or the span has its services
 abbrev pub ShowsAgain : {S : Type 0} → (Task → S) → Span → Tables → Tables → Type 0
-ShowsAgain show span t u =
-    (id : ℕ) → (option_map show (row_at task_id id u.tasks) ≡ option_map show (row_at task_id id t.tasks))
-    ⊎ (HasServiceOf span (row_at task_id id t.tasks) × HasServiceOf span (row_at task_id id u.tasks))
+ShowsAgain show span t u = (id : ℕ) → ShowsSo show span (row_at task_id id t.tasks) (row_at task_id id u.tasks)
 
 -- the span has each service that is other than before
 pub record HasChanged (span : Span) (t u : Tables) : Type 0 where
@@ -34,6 +46,12 @@ pub record HasChanged (span : Span) (t u : Tables) : Type 0 where
 pub record HasShifted {S : Type 0} (show : Task → S) (span : Span) (t u : Tables) : Type 0 where
   pub services : HasChanged span t u
   pub tasks : ShowsAgain show span t u
+
+-- the same, but for new tasks that are quiet
+pub record HasShiftedBut {S : Type 0} (quiet : Task → Bool) (show : Task → S) (span : Span) (t u : Tables)
+    : Type 0 where
+  pub services : HasChanged span t u
+  pub tasks : (id : ℕ) → Turns quiet show span (row_at task_id id t.tasks) (row_at task_id id u.tasks)
 
 abbrev pub HasEach : Span → Tables → Type 0
 HasEach span u = (s : Service) → Has u.services s → is_in span s.id ≡ true

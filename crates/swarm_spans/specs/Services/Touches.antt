@@ -17,21 +17,22 @@ use Rattle.swarm_objects.specs.declared.tasks.Task.{Task}
 use Rattle.swarm_spans.specs.Services.Lines.{comes, creates, downs, job_creates, leaves, trims, updates}
 use Rattle.swarm_spans.specs.Services.Numbers.{frees_number}
 use Rattle.swarm_spans.specs.Services.Standings.{bounds, remains}
-use Rattle.swarm_spans.specs.Services.Steps.{HasBesideOf, HasItself, HasNumber, HasServiceOf, HasTasksOf}
+use Rattle.swarm_spans.specs.Services.Steps.{HasBesideOf, HasItself, HasNumber, HasServiceOf, HasTasksOf, Turns}
 use Rattle.swarm_spans.specs.Spans.{CoversServices, CoversTasks, IsWider, full, is_in}
 use Rattle.swarm_spans.specs.TasksCovered.{HasNewServices, at_time, with_nodes, with_services}
 use Rattle.swarm_spans.specs.declared.service_spans.ServiceSpans.{ServiceSpans}
 use Rattle.swarm_spans.specs.declared.span.Span.{Span}
 
--- a task that is put shows the same as the former one, or the span has both services
-pub record HasPut {S : Type 0} (show : Task → S) (t : Tables) (x : Task) (span : Span) : Type 0 where
-  pub shown : (option_map show (row_at task_id x.id t.tasks) ≡ Some (show x))
-      ⊎ (HasServiceOf span (row_at task_id x.id t.tasks) × HasNumber span x.service)
+-- a task that is put shows the same as the former one, or the span has both services, or it is new and quiet
+pub record HasPut {S : Type 0} (quiet : Task → Bool) (show : Task → S) (t : Tables) (x : Task) (span : Span)
+    : Type 0 where
+  pub shown : Turns quiet show span (row_at task_id x.id t.tasks) (Some x)
 
 -- of a line over services that sees so much of a task
-pub record HasTouched {S : Type 0} (show : Task → S) (t : Tables) (c : Change) (span : Span) : Type 0 where
+pub record HasTouched {S : Type 0} (quiet : Task → Bool) (show : Task → S) (t : Tables) (c : Change) (span : Span)
+    : Type 0 where
   pub service : (s : Service) → c ≡ change.PutService s → HasNumber span s.id
-  pub put : (x : Task) → c ≡ change.PutTask x → HasPut show t x span
+  pub put : (x : Task) → c ≡ change.PutTask x → HasPut quiet show t x span
   pub dropped : (id : ℕ) → c ≡ change.DropTask id → HasServiceOf span (row_at task_id id t.tasks)
 
 -- of a task that is put the same remains as of the former one, or the span has those beside the one and the other
