@@ -53,5 +53,6 @@ pub mod Together
 pub mod TogetherCalls
 pub mod Unmet
 pub mod Versions
+mod Waiting
 pub mod WellPlaced
 pub mod Wholes

@@ -2,6 +2,7 @@
 ghost use Rattle.std.specs.Prelude.{◌≡◌, ◌&&◌, ◌+◌, flat_map, true};
 ghost use Rattle.std.specs.Ordering.{nat_cmp};
 ghost use Rattle.swarm_model.specs.Settle.{
+  has_waiting_place,
   flight_times,
   flight_wait,
   least_time,
@@ -125,9 +126,10 @@ fn flight_wait<R: Rows>(
 ) -> Option<Wait>
     requires usable { IsUsable (R.tables rows.now) }
     requires service { is_near_service service.now ≡ true }
+    requires waits { has_waiting_place (R.tables rows.now) service.now ≡ true }
     ensures { result ≡ least_by wait_cmp best (flight_wait (R.tables rows.now) service.now run.now) }
 {
-    if !has_waiting_place(rows, service) || has_room(rows, service, run) {
+    if has_room(rows, service, run) {
         return best;
     }
     let time = flight_time(rows, service, run);
@@ -170,6 +172,8 @@ fn watch_wait<R: Rows>(
     wait_till(best, Cause::Update, service.id, time)
 }
 
+// A place that is to be replaced is dirty, so that new tasks aren't watched where there is one.
+#[tactic(auto, using(crate::proofs::Waiting::waiting_is_dirty))]
 fn run_wait<R: Rows>(
     rows: &R,
     best: Option<Wait>,
@@ -184,8 +188,10 @@ fn run_wait<R: Rows>(
     if !is_under_way(run) {
         return best;
     }
-    let least = flight_wait(rows, best, service, run);
-    watch_wait(rows, least, service, run)
+    if has_waiting_place(rows, service) {
+        return flight_wait(rows, best, service, run);
+    }
+    watch_wait(rows, best, service, run)
 }
 
 fn update_wait<R: Rows>(rows: &R, best: Option<Wait>, service: &Service) -> Option<Wait>
