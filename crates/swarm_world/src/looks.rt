@@ -5,7 +5,7 @@ ghost use Rattle.swarm_agent.specs.Agent.{at_node};
 ghost use Rattle.swarm_agent.specs.Times.{seen_agent};
 ghost use Rattle.swarm_objects.specs.Loops.Agents.{agent_duties, duties_on, has_step, inbox_duties, is_beat_due, is_forgotten, is_mode_on, report_duties, session_duties};
 ghost use Rattle.swarm_objects.specs.Loops.Words.{duty_where};
-ghost use Rattle.swarm_objects.specs.Nodes.Sessions.{session_of};
+ghost use Rattle.swarm_objects.specs.Nodes.Sessions.{is_session_live, session_of};
 ghost use Rattle.swarm_objects.specs.Rows.{RisesFrom, agent_node, executor_task, first_of, has_row, is_some_and, task_id};
 ghost use Rattle.swarm_objects.specs.Usable.{IsUsable};
 ghost use Rattle.swarm_spans.specs.Spans.{is_in};
@@ -30,13 +30,28 @@ fn is_on(agent: &Agent) -> bool
     }
 }
 
-// The last beat of the node's session is a heartbeat period ago.
-fn wants_beat(records: &Records, node: Id) -> bool
-    ensures { let t = tables_of records.now in result ≡ is_some_and (is_beat_due t) (session_of t node) }
+// What a node's session tells its agent: it is live, and its last beat is a heartbeat period ago.
+#[derive(Clone, Copy)]
+struct Lease {
+    live: bool,
+    wants_beat: bool,
+}
+
+// Both, by one look at the session.
+fn lease_of(records: &Records, node: Id) -> Lease
+    ensures live { result.live ≡ is_session_live (tables_of records.now) node }
+    ensures beat { let t = tables_of records.now in
+        result.wants_beat ≡ is_some_and (is_beat_due t) (session_of t node) }
 {
     match records.sessions.get(node) {
-        Some(session) => has_passed(records.now(), session.beat, records.settings().heartbeat),
-        None => false,
+        Some(session) => Lease {
+            live: records.now() < session.deadline,
+            wants_beat: has_passed(records.now(), session.beat, records.settings().heartbeat),
+        },
+        None => Lease {
+            live: false,
+            wants_beat: false,
+        },
     }
 }
 
@@ -46,15 +61,17 @@ fn session_duty(
     sent: &Sents,
     node: Id,
     agent: &Agent,
-    live: bool,
+    lease: Lease,
 ) -> Option<Duty>
+    requires { let t = tables_of records.now in
+        lease.wants_beat ≡ is_some_and (is_beat_due t) (session_of t node) }
     ensures { let w = looked_at (tables_of records.now) sent.now in
-        option_to_list result ≡ session_duties w (at_node node agent.now) live }
+        option_to_list result ≡ session_duties w (at_node node agent.now) lease.live }
 {
-    if !live {
+    if !lease.live {
         return Some(Duty::Register(node));
     }
-    if wants_beat(records, node) {
+    if lease.wants_beat {
         return Some(Duty::Beat(node));
     }
     None
@@ -211,26 +228,28 @@ fn first_within(
     }
 }
 
-// The first of an agent that is on, whose session is live or isn't.
+// The first of an agent that is on.
 #[tactic(auto, using(crate::proofs::Asked::stays_asked))]
 fn first_on(
     records: &Records,
     sent: &Sents,
     node: Id,
     agent: &Agent,
-    live: bool,
+    lease: Lease,
     tells: &mut Span,
 ) -> Option<Duty>
     requires usable { IsUsable (tables_of records.now) }
     requires rises { RisesFrom executor_task 0 agent.now.executors }
-    requires may { MayBeTold (looked_at (tables_of records.now) sent.now) node live tells.old }
+    requires beat { let t = tables_of records.now in
+        lease.wants_beat ≡ is_some_and (is_beat_due t) (session_of t node) }
+    requires may { MayBeTold (looked_at (tables_of records.now) sent.now) node lease.live tells.old }
     ensures first { let w = looked_at (tables_of records.now) sent.now in
-        result ≡ first_of (duties_on w (at_node node agent.now) live) }
+        result ≡ first_of (duties_on w (at_node node agent.now) lease.live) }
     ensures asked { IsAsked (looked_at (tables_of records.now) sent.now) node tells.old tells.new }
 {
-    match session_duty(records, sent, node, agent, live) {
+    match session_duty(records, sent, node, agent, lease) {
         Some(duty) => Some(duty),
-        None => first_within(records, sent, node, agent, live, tells),
+        None => first_within(records, sent, node, agent, lease.live, tells),
     }
 }
 
@@ -252,14 +271,7 @@ fn agent_first(
     ensures asked { IsAsked (looked_at (tables_of records.now) sent.now) node tells.old tells.new }
 {
     if is_on(agent) {
-        first_on(
-            records,
-            sent,
-            node,
-            agent,
-            records.session_live(node),
-            tells,
-        )
+        first_on(records, sent, node, agent, lease_of(records, node), tells)
     } else {
         None
     }
