@@ -79,8 +79,8 @@ fn raises<R: Rows>(
     }
 }
 
-/// The state of the task with this id is set now, where it is there and that is above its state. Else the list is empty,
-/// so nobody hears of it.
+/// The state of the task with this id is set now, where it is there and that is above its state. Else the list is
+/// empty, so nobody hears of it.
 #[tactic(auto, using(crate::proofs::Applied::raises_make))]
 pub fn raise_state<R: Rows>(
     alloc: Global,
