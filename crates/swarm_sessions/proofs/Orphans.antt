@@ -7,7 +7,6 @@ use Rattle.swarm_objects.specs.Loops.Words.{duty_where}
 use Rattle.swarm_objects.specs.Rows.{first_of, is_row_and, is_some_and, node_id, row_at}
 use Rattle.swarm_objects.specs.Tasks.Words.{is_placed}
 use Rattle.swarm_objects.specs.World.{Tables}
-use Rattle.swarm_objects.specs.declared.duties.Duty.{Duty}
 use Rattle.swarm_objects.specs.declared.duties.Duty.TheVariants as duty
 use Rattle.swarm_objects.specs.declared.nodes.Node.{Node}
 use Rattle.swarm_objects.specs.declared.tasks.Task.{Task}

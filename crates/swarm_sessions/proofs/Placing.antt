@@ -56,6 +56,24 @@ found_there k (x ∷ rows) r =
         below ∙ sym (ap (λ b. cond b (Some x) (row_at session_node k rows)) (less_differs x.node k e))
     go false e below = here (eqb x.node k) (none_behind session_node k x rows r e)
 
+-- a row at any place that has the key is the one that is looked for
+pub found_early : (k i : ℕ) (rows : List NodeSession) (x : NodeSession) → IsRising session_node rows →
+    Some x ≡ if_has k (slice_get rows i) → Some x ≡ row_at session_node k rows
+found_early k i [] x r is = absurd cc
+found_early k zero (y ∷ rows) x r is = go (eqb y.node k) is
+  where
+    go : (b : Bool) → Some x ≡ cond b (Some y) None → Some x ≡ cond b (Some y) (row_at session_node k rows)
+    go true e = e
+    go false e = absurd cc
+found_early k (suc i) (y ∷ rows) x r is =
+    go (eqb y.node k) refl (found_early k i rows x (rising_from session_node y.node rows r) is)
+  where
+    go : (b : Bool) → eqb y.node k ≡ b → Some x ≡ row_at session_node k rows →
+        Some x ≡ cond b (Some y) (row_at session_node k rows)
+    go true e below =
+        let none = row_at-None_below session_node y.node k rows r (grind (arith, nat_tests, e)) in absurd cc
+    go false e below = below
+
 -- What becomes of the rows there.
 
 not_less : (n k : ℕ) → ltb n k ≡ false → k ≤ n

@@ -1,10 +1,9 @@
 -- Sessions as contracts see them.
 use Rattle.std.specs.Prelude.{ℕ, ◌==◌, List, None, Option, Result, Some, if◌then◌else◌}
-use Rattle.std.specs.Option.{option_map}
 use Rattle.swarm_objects.specs.Refusals.{unless}
 use Rattle.swarm_objects.specs.Nodes.Admission.{not_admitted}
 use Rattle.swarm_objects.specs.Defaults.{usual_settings}
-use Rattle.swarm_objects.specs.Rows.{row_at, session_node}
+use Rattle.swarm_objects.specs.Rows.{session_node}
 use Rattle.swarm_objects.specs.World.{Tables, empty_tables}
 use Rattle.swarm_objects.specs.declared.replies.Refusal.{Refusal}
 use Rattle.swarm_objects.specs.declared.sessions.NodeSession.{NodeSession}

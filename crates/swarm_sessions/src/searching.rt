@@ -1,4 +1,4 @@
-// Look-ups among sessions by rising node, by halving.
+// Look-ups among sessions by rising node: at the likely place first, then by halving.
 ghost use Rattle.std.specs.Prelude.{◌≡◌, ◌==◌, ◌≤◌, length, nat_lt, slice_get, true, false};
 ghost use Rattle.std.specs.List.Sorted.{IsPartitionPoint};
 ghost use Rattle.swarm_sessions.specs.OnRecord.{if_has};
@@ -45,10 +45,22 @@ pub fn session_at(rows: &[NodeSession], at: usize, node: Id) -> Option<NodeSessi
     }
 }
 
+// Where the node's session stands if each node from the first one to it has one. It can't stand later.
+fn likely_place(rows: &[NodeSession], node: Id) -> usize {
+    match rows.first() {
+        Some(first) if first.node <= node => (node - first.node) as usize,
+        _ => 0,
+    }
+}
+
 /// The node's session.
 pub fn find(rows: &[NodeSession], node: Id) -> Option<NodeSession>
     requires { IsRising session_node rows.now }
     ensures { result ≡ row_at session_node node rows.now }
 {
-    session_at(rows, lesser(rows, node), node)
+    // ids mostly follow one another
+    match session_at(rows, likely_place(rows, node), node) {
+        Some(row) => Some(row),
+        None => session_at(rows, lesser(rows, node), node),
+    }
 }
