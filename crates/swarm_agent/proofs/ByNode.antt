@@ -10,7 +10,7 @@ use Rattle.std.specs.Ordering.{is_lt, nat_cmp}
 use Rattle.std.specs.Prelude.{Err, Ok, OnErr, OnOk, map, ◌&&◌}
 use Rattle.std.specs.declared.ops.Bound.TheVariants.{Excluded, Unbounded}
 use Rattle.std.specs.declared.result.Result.{Result}
-use Rattle.swarm_agent.proofs.Entries.{past}
+use Rattle.std.specs.declared.cmp.Ordering.TheVariants.{Equal, Greater, Less}
 use Rattle.swarm_agent.proofs.Seen.{times}
 use Rattle.swarm_agent.specs.Agent.{AgentState, Applies, at_node, changed, executor_state, has_stale}
 use Rattle.swarm_agent.specs.Agents.{AppliesOn, Changes, agent_applied, agent_row, executor_on, has_stale_on}
@@ -36,6 +36,14 @@ pub found-row : (node : ℕ) (es : List (ℕ × AgentState)) →
     option_map (λ (a : AgentState). agent_row (node, a)) (lookup (is_at (nat_cmp node)) es)
     ≡ row_at agent_node node (map agent_row es)
 found-row node es = lookup-entry agent_node agent_row (λ e. refl) node es
+
+past : (k j : ℕ) → (is_lt (nat_cmp k j) && true) ≡ ltb k j
+past k j = go (ltb k j) refl (eqb k j)
+  where
+    go : (a : Bool) → ltb k j ≡ a → (b : Bool) → (is_lt (cond a Less (cond b Equal Greater)) && true) ≡ a
+    go true p b = refl
+    go false p true = refl
+    go false p false = refl
 
 -- the first above a node is the first of the entries that lie above it
 first-above : (k : ℕ) (es : List (ℕ × AgentState)) →

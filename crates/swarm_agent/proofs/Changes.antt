@@ -4,9 +4,9 @@ use Rattle.std.proofs.lemmas.Bool.Decides.{nat_tests}
 use Rattle.std.specs.List.{list_all}
 use Rattle.std.specs.Prelude.{Err, Ok, OnErr, OnOk, is_some, ◌&&◌}
 use Rattle.std.specs.declared.result.Result.{Result}
-use Rattle.swarm_agent.proofs.Entries.{change-none}
 use Rattle.swarm_agent.specs.Inside.Undo.{instead_of, restored, undone}
 use Rattle.swarm_agent.specs.declared.messages.Former.{Former}
+use Rattle.swarm_objects.proofs.RowChanges.{change_row-None}
 use Rattle.swarm_objects.proofs.RowLemmas.{change_row_above}
 use Rattle.swarm_objects.specs.Agents.Messages.{change_executor, new_executor, updated}
 use Rattle.swarm_objects.specs.Rows.{IsRising, RisesFrom, drop_row, executor_task, row_at, rows_above, with_row}
@@ -198,7 +198,7 @@ update-none a rows at =
 
 pub nowhere : (k : ℕ) (f : Executor → Executor) (o : Option Executor) (rows : List Executor) →
     o ≡ row_at executor_task k rows → ((x : Executor) → o ≡ Some x → ⊥) → rows ≡ change_executor k f rows
-nowhere k f None rows at none = sym (change-none k f rows (sym at))
+nowhere k f None rows at none = sym (change_row-None executor_task k f rows (sym at))
 nowhere k f (Some x) rows at none = absurd (none x refl)
 
 -- an update or a removal of a task, and the log that has what it had before

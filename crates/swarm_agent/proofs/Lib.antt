@@ -1,4 +1,4 @@
-mod Entries
+mod RowPlaces
 mod Changes
 mod Found
 mod Naming

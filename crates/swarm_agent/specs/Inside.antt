@@ -1,4 +1,4 @@
-pub mod Keyed
+pub mod Lookup
 pub mod Named
 pub mod Near
 pub mod Undo

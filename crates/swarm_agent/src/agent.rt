@@ -21,10 +21,12 @@ ghost use Rattle.swarm_objects.specs.Agents.NodeAgents.{new_agent};
 ghost use Rattle.swarm_objects.specs.Agents.Messages.{change_executor};
 ghost use Rattle.swarm_objects.specs.Bounds.{far_end, is_near_change};
 ghost use Rattle.swarm_objects.specs.Loops.Agents.{has_step, is_forgotten, received, stepped, told};
-ghost use Rattle.swarm_objects.specs.Rows.{drop_row, executor_task, has_row, row_at};
+ghost use Rattle.swarm_objects.specs.Rows.{drop_row, executor_task, has_row, row_at, rows_above};
 
 use crate::executors::Executors;
-use crate::looks::{first_forgotten, first_news, first_phase, first_step, phase_after};
+use crate::looks::{
+    first_forgotten, first_news, first_phase, first_step, first_step_above, phase_after,
+};
 use crate::messages::{is_stale, take_in};
 use crate::steps::make_step;
 use std::alloc::Global;
@@ -171,6 +173,13 @@ impl Agent {
         ensures due { IfSome result (λ task. passes (has_step now) task self.now ≡ true) }
     {
         first_step(&self.executors, now)
+    }
+
+    /// The least such task above this one.
+    pub fn step_due_after(&self, after: Id, now: Ms) -> Option<Id>
+        ensures { result ≡ first_task (has_step now) (rows_above executor_task after self.now.executors) }
+    {
+        first_step_above(&self.executors, after, now)
     }
 
     /// The executor of the task makes the step that is due, if one is.

@@ -1,22 +1,22 @@
 // Executors, by rising task.
 ghost use Rattle.std.specs.Prelude.{◌≡◌, ◌<◌, [], OnErr, OnOk, map, true};
+ghost use Rattle.std.specs.Slice.Iter.{iter_rest};
 ghost use Rattle.swarm_objects.specs.Agents.NodeAgents.{lost};
 ghost use Rattle.std.specs.List.{list_all};
 ghost use Rattle.swarm_agent.specs.Inside.Named.{named_or_gone};
 ghost use Rattle.swarm_objects.specs.Bounds.{has_near_times};
-ghost use Rattle.std.specs.Map.{values_of};
 ghost use Rattle.std.specs.Option.{option_copied};
 ghost use Rattle.swarm_objects.specs.Agents.Messages.{change_executor};
 ghost use Rattle.swarm_objects.specs.Bounds.{far_end};
 ghost use Rattle.swarm_objects.specs.Loops.Agents.{stepped, told};
 ghost use Rattle.swarm_objects.specs.Rows.{IsRising, drop_row, executor_task, row_at, rows_above, with_row};
 
+use crate::searching::{is_at, lesser, row_of, rows_above};
 use crate::steps::{is_late, make_step};
 use std::alloc::Global;
-use std::collections::btree_map::{Range, Values};
-use std::collections::{BTreeMap, BTreeSet};
+use std::collections::BTreeSet;
 use std::marker::Model;
-use std::ops::Bound;
+use std::slice::Iter;
 use swarm_objects::{Executor, Id, Ms, NoMemory, TaskState};
 
 // A node that loses its power loses what starts or runs.
@@ -38,23 +38,80 @@ fn leave_out(named: &BTreeSet<Id>, executor: &mut Executor)
     }
 }
 
-/// Executors, by rising task. Contracts see them as a list.
+// All that start or run fail.
+fn lose_all(rows: &mut [Executor])
+    ensures { rows.new ≡ map (lost 0) rows.old }
+{
+    for executor in rows.iter_mut() {
+        lose(executor);
+    }
+}
+
+// All that aren't named are gone.
+fn leave_all_out(named: &BTreeSet<Id>, rows: &mut [Executor])
+    ensures { rows.new ≡ map (named_or_gone named.now) rows.old }
+{
+    for executor in rows.iter_mut() {
+        leave_out(named, executor);
+    }
+}
+
+// The executor takes the place of the one of its task, where one is there.
+fn replace(rows: &mut Vec<Executor>, executor: Executor)
+    requires { IsRising executor_task rows.old.items }
+    ensures { rows.new.items ≡ change_executor executor.task (λ _. executor) rows.old.items }
+{
+    let at = lesser(rows.as_slice(), executor.task);
+    if is_at(rows.as_slice(), at, executor.task) {
+        rows[at] = executor;
+    }
+}
+
+// The executor stands among those by rising task, in the place of its task's. It takes memory where there is none of
+// its task.
+fn put(rows: &mut Vec<Executor>, executor: Executor) -> Result<(), NoMemory>
+    requires { IsRising executor_task rows.old.items }
+    ensures ok { OnOk result (rows.new.items ≡ with_row executor_task executor rows.old.items) }
+    ensures err { OnErr result (rows.new.items ≡ rows.old.items) }
+{
+    let at = lesser(rows.as_slice(), executor.task);
+    if is_at(rows.as_slice(), at, executor.task) {
+        rows[at] = executor;
+        return Ok(());
+    }
+    match rows.insert(at, executor) {
+        Ok(()) => Ok(()),
+        Err(_) => Err(NoMemory),
+    }
+}
+
+// The task's executor goes.
+fn forget(rows: &mut Vec<Executor>, task: Id)
+    requires { IsRising executor_task rows.old.items }
+    ensures { rows.new.items ≡ drop_row executor_task task rows.old.items }
+{
+    let at = lesser(rows.as_slice(), task);
+    if is_at(rows.as_slice(), at, task) {
+        rows.remove(at);
+    }
+}
+
+/// Executors, by rising task. Contracts see them as a list. An agent has few and goes over them at each look.
 #[derive(Drop)]
 pub struct Executors {
-    rows: BTreeMap<Id, Executor>,
+    rows: Vec<Executor>,
 }
 
 impl Model for Executors {
     ghost use Rattle.std.specs.Prelude.{List};
-    ghost use Rattle.std.specs.Map.{values_of};
-    ghost use Rattle.swarm_agent.specs.Inside.Keyed.{Lies};
+    ghost use Rattle.swarm_objects.specs.Rows.{IsRising, executor_task};
     ghost use Rattle.swarm_objects.specs.declared.agents.Executor.{Executor as Row};
 
     ghost Value = { List Row };
 
-    ghost view = { λ e. values_of e.rows.entries };
+    ghost view = { λ e. e.rows.items };
 
-    ghost invariant = { λ e. Lies e.rows.entries };
+    ghost invariant = { λ e. IsRising executor_task e.rows.items };
 }
 
 impl Executors {
@@ -63,24 +120,24 @@ impl Executors {
         ensures { result ≡ [] }
     {
         Executors {
-            rows: BTreeMap::new(alloc),
+            rows: Vec::new(alloc),
         }
     }
 
     /// All of them, by rising task.
-    pub fn iter(&self) -> Values<'_, Id, Executor>
-        ensures rows { result ≡ self.now }
+    pub fn iter(&self) -> Iter<'_, Executor>
+        ensures rows { iter_rest result ≡ self.now }
         ensures rising { IsRising executor_task self.now }
     {
-        self.rows.values()
+        self.rows.as_slice().iter()
     }
 
     /// Those after this task, by rising task.
-    pub fn above(&self, after: Id) -> Range<'_, Id, Executor>
-        ensures rows { values_of result ≡ rows_above executor_task after self.now }
+    pub fn above(&self, after: Id) -> Iter<'_, Executor>
+        ensures rows { iter_rest result ≡ rows_above executor_task after self.now }
         ensures rising { IsRising executor_task self.now }
     {
-        self.rows.range((Bound::Excluded(after), Bound::Unbounded))
+        rows_above(self.rows.as_slice(), after)
     }
 
     /// The executor of the task.
@@ -88,17 +145,14 @@ impl Executors {
         ensures value { option_copied result ≡ row_at executor_task task self.now }
         ensures rising { IsRising executor_task self.now }
     {
-        self.rows.get(&task)
+        row_of(self.rows.as_slice(), task)
     }
 
     /// The executor of the task becomes this one, where one is there.
     pub fn set(&mut self, executor: Executor)
         ensures { self.new ≡ change_executor executor.task (λ _. executor) self.old }
     {
-        match self.rows.get_mut(&executor.task) {
-            Some(row) => *row = executor,
-            None => {}
-        }
+        replace(&mut self.rows, executor);
     }
 
     /// The executor of the task makes the step that is due.
@@ -128,37 +182,28 @@ impl Executors {
         ensures ok { OnOk result (self.new ≡ with_row executor_task executor self.old) }
         ensures err { OnErr result (self.new ≡ self.old) }
     {
-        match self.rows.insert(executor.task, executor) {
-            Ok(_) => Ok(()),
-            Err(_) => Err(NoMemory),
-        }
+        put(&mut self.rows, executor)
     }
 
     /// Those that start or run fail, as their node loses its power.
     pub fn lose(&mut self)
         ensures { self.new ≡ map (lost 0) self.old }
     {
-        self.rows.retain(|_, executor| {
-            lose(executor);
-            true
-        });
+        lose_all(self.rows.as_mut_slice());
     }
 
     /// Those of other tasks than these are gone.
     pub fn leave_out(&mut self, named: &BTreeSet<Id>)
         ensures { self.new ≡ map (named_or_gone named.now) self.old }
     {
-        self.rows.retain(|_, executor| {
-            leave_out(named, executor);
-            true
-        });
+        leave_all_out(named, self.rows.as_mut_slice());
     }
 
     /// The executor of the task goes.
     pub fn remove(&mut self, task: Id)
         ensures { self.new ≡ drop_row executor_task task self.old }
     {
-        self.rows.remove(&task);
+        forget(&mut self.rows, task);
     }
 }
 

@@ -6,6 +6,7 @@ mod agents;
 mod executors;
 mod looks;
 mod messages;
+mod searching;
 mod steps;
 pub mod theorems;
 

@@ -5,7 +5,7 @@ ghost use Rattle.swarm_agent.specs.Agent.{first_task, has_news, least_phase, new
 ghost use Rattle.swarm_agent.specs.Agent.{phase_after, phase_cmp, phase_of};
 ghost use Rattle.swarm_objects.specs.Bounds.{has_near_times};
 ghost use Rattle.swarm_objects.specs.Loops.Agents.{has_step, is_forgotten, is_news};
-ghost use Rattle.swarm_objects.specs.Rows.{IsRising, executor_task, keep_least};
+ghost use Rattle.swarm_objects.specs.Rows.{IsRising, executor_task, keep_least, rows_above};
 
 use crate::executors::Executors;
 use crate::steps::{has_step, phase_time};
@@ -17,6 +17,18 @@ pub fn first_step(executors: &Executors, now: Ms) -> Option<Id>
     ensures value { result ≡ first_task (has_step now) executors.now }
 {
     for executor in executors.iter() {
+        if has_step(now, executor) {
+            return Some(executor.task);
+        }
+    }
+    None
+}
+
+/// The first executor after this task with a step that is due.
+pub fn first_step_above(executors: &Executors, after: Id, now: Ms) -> Option<Id>
+    ensures { result ≡ first_task (has_step now) (rows_above executor_task after executors.now) }
+{
+    for executor in executors.above(after) {
         if has_step(now, executor) {
             return Some(executor.task);
         }
@@ -66,7 +78,7 @@ pub fn first_news(executors: &Executors, after: Id) -> Option<(Id, TaskState)>
     ensures order { IsRising executor_task executors.now }
     ensures value { result ≡ news_after after executors.now }
 {
-    for (_, executor) in executors.above(after) {
+    for executor in executors.above(after) {
         if has_news(executor) {
             return Some((executor.task, executor.state));
         }
@@ -115,7 +127,7 @@ pub fn phase_after(executors: &Executors, after: Id) -> Option<(Id, Ms)>
     requires { list_all has_near_times executors.now ≡ true }
     ensures { result ≡ phase_after after executors.now }
 {
-    for (_, executor) in executors.above(after) {
+    for executor in executors.above(after) {
         if let Some((time, task)) = phase_of(executor) {
             return Some((task, time));
         }

@@ -1,17 +1,13 @@
-use Rattle.std.proofs.Common.{rules, sym, subst, ap, map, ◌∙◌}
-use Rattle.std.proofs.lemmas.Map.Made.{map_same_pairs}
-use Rattle.std.specs.Map.{values_of}
+use Rattle.std.proofs.Common.{ap, length, subst, sym, ◌∙◌}
+use Rattle.std.proofs.lemmas.List.{with_items_is}
+use Rattle.swarm_objects.specs.Rows.{IsRising, executor_task}
 use Rattle.swarm_agent.specs.Inside.Named.{named_or_gone}
-use Rattle.swarm_agent.proofs.Entries.{each-lies, each-row, named-task}
-use Rattle.swarm_agent.specs.Inside.Keyed.{Lies}
+use Rattle.swarm_agent.proofs.RowPlaces.{all_rise, named-task}
 use Rattle.swarm_agent.proofs.executors.Executors.leave_out.Goals as goal
 
 pub invariant_of-self : goal.invariant_of-self
 invariant_of-self c =
-    let all = map_same_pairs _ (named_or_gone c.args.named.now) _ (λ k v b w f' t. search rules) _ _ c.retain.ensures.filtered in
-    subst Lies (sym all) (each-lies (named_or_gone c.args.named.now) (named-task c.args.named.now) c.self.inside.rows.entries c.self.invariant)
-
-pub returns : goal.returns
-returns c =
-    let all = map_same_pairs _ (named_or_gone c.args.named.now) _ (λ k v b w f' t. search rules) _ _ c.retain.ensures.filtered in
-    ap values_of all ∙ each-row (named_or_gone c.args.named.now) c.self.inside.rows.entries ∙ ap (map (named_or_gone c.args.named.now)) c.self.view_is
+    let size = c.leave_all_out.auto.rows ∙ ap length c.as_mut_slice.ensures.value ∙ sym c.self.inside.rows.ok.0 in
+    subst (IsRising executor_task) (sym (with_items_is c.self.inside.rows c.leave_all_out.new.rows size))
+    (all_rise (named_or_gone c.args.named.now) c.self.inside.rows.items c.as_mut_slice.result.now c.leave_all_out.new.rows (named-task c.args.named.now)
+    c.self.invariant c.as_mut_slice.ensures.value c.leave_all_out.ensures)

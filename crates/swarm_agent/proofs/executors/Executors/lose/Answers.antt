@@ -1,17 +1,13 @@
-use Rattle.std.proofs.Common.{rules, sym, subst, ap, map, ◌∙◌}
-use Rattle.std.proofs.lemmas.Map.Made.{map_same_pairs}
-use Rattle.std.specs.Map.{values_of}
+use Rattle.std.proofs.Common.{ap, length, subst, sym, ◌∙◌}
+use Rattle.std.proofs.lemmas.List.{with_items_is}
+use Rattle.swarm_objects.specs.Rows.{IsRising, executor_task}
 use Rattle.swarm_objects.specs.Agents.NodeAgents.{lost}
-use Rattle.swarm_agent.proofs.Entries.{each-lies, each-row, lost-task}
-use Rattle.swarm_agent.specs.Inside.Keyed.{Lies}
+use Rattle.swarm_agent.proofs.RowPlaces.{all_rise, lost-task}
 use Rattle.swarm_agent.proofs.executors.Executors.lose.Goals as goal
 
 pub invariant_of-self : goal.invariant_of-self
 invariant_of-self c =
-    let all = map_same_pairs _ (lost 0) _ (λ k v b w f' t. search rules) _ _ c.retain.ensures.filtered in
-    subst Lies (sym all) (each-lies (lost 0) lost-task c.self.inside.rows.entries c.self.invariant)
-
-pub returns : goal.returns
-returns c =
-    let all = map_same_pairs _ (lost 0) _ (λ k v b w f' t. search rules) _ _ c.retain.ensures.filtered in
-    ap values_of all ∙ each-row (lost 0) c.self.inside.rows.entries ∙ ap (map (lost 0)) c.self.view_is
+    let size = c.lose_all.auto.rows ∙ ap length c.as_mut_slice.ensures.value ∙ sym c.self.inside.rows.ok.0 in
+    subst (IsRising executor_task) (sym (with_items_is c.self.inside.rows c.lose_all.new.rows size))
+    (all_rise (lost 0) c.self.inside.rows.items c.as_mut_slice.result.now c.lose_all.new.rows lost-task
+    c.self.invariant c.as_mut_slice.ensures.value c.lose_all.ensures)
