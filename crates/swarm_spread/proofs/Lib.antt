@@ -2,4 +2,5 @@ mod BestPlaces
 mod Branches
 mod Counting
 mod PlaceLemmas
+mod Standing
 mod SumLemmas

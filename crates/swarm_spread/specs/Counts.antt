@@ -53,6 +53,13 @@ counts_of t service keys = record {
 abbrev pub Stands : Tables → Counts → Type 0
 Stands t c = c ≡ counts_of t c.service c.keys
 
+-- what stands at the place is what a scan says of the node
+pub record IsScanned (t : Tables) (c : Counts) (place : ℕ) (n : Node) : Type 0 where
+  pub within : place < length c.nodes
+  pub id : get_or c.nodes place 0 ≡ n.id
+  pub path : get_or c.paths place [] ≡ path_of c.keys n
+  pub count : get_or c.here place 0 ≡ here_on t c.service n
+
 -- they are those of the task's service, by its own preferences
 pub record IsFor (x : Task) (c : Counts) : Type 0 where
   pub service : c.service ≡ x.service

@@ -29,8 +29,8 @@ pub fn label_value<'a>(labels: &'a Labels, name: &str) -> &'a str
     }
 }
 
-/// The text that the node has for the key of a preference; that of a missing label is empty. The digits of its id stand in
-/// the buffer.
+/// The text that the node has for the key of a preference; that of a missing label is empty. The digits of its id stand
+/// in the buffer.
 pub fn key_value<'a>(node: &'a Node, key: &Key, digits: &'a mut Buffer) -> &'a str
     ensures { result.now ≡ key_value node.now key.now }
 {

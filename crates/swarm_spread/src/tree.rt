@@ -7,15 +7,16 @@ ghost use Rattle.swarm_objects.specs.Nodes.Filters.{admits, is_tested_on};
 ghost use Rattle.swarm_objects.specs.Rows.{RisesFrom, itself, node_id};
 ghost use Rattle.swarm_objects.specs.declared.nodes.Node.{Node as NodeRow};
 ghost use Rattle.swarm_objects.specs.Usable.{IsUsable};
-ghost use Rattle.swarm_spread.specs.Counts.{HasTask, IsFor, IsPlaceOf, Stands, best_by, best_place, counted_node, counts_of, empty_counts, is_before, one_fewer, one_more, place_order, with_change, with_task};
+ghost use Rattle.swarm_spread.specs.Counts.{HasTask, IsFor, IsPlaceOf, IsScanned, Stands, best_by, best_place, counted_node, counts_of, empty_counts, is_before, one_fewer, one_more, place_order, with_change, with_task};
 
 use crate::Admits;
 use crate::levels::{Levels, empty_levels, zeros};
-use crate::values::{keys_again, nodes_of, paths_of};
+use crate::values::{has_path, keys_again, nodes_of, paths_of};
 use std::alloc::Global;
 use std::cmp::Ordering;
 use std::marker::Model;
 use swarm_objects::loads::{Loads, Scans};
+use swarm_objects::placed::here;
 use swarm_objects::walks::{nodes, tasks_of};
 use swarm_objects::{Id, Key, List, Name, NoMemory, Node, Rows, Same, Task};
 
@@ -168,6 +169,38 @@ impl SpreadTree {
         self.service == task.service && self.keys.same(&task.template.spread)
     }
 
+    // What stands at the place is what a scan of the rows says of the node.
+    fn is_scanned<R: Rows>(&self, rows: &R, place: usize, node: &Node) -> bool
+        requires { IsUsable (R.tables rows.now) }
+        ensures { IsTrue result ↔ IsScanned (R.tables rows.now) self.now place node.now }
+    {
+        if place >= self.nodes.len() {
+            return false;
+        }
+        if self.nodes.as_slice()[place] != node.id {
+            return false;
+        }
+        let path = self.paths.as_slice()[place].as_slice();
+        self.here[place] == here(rows, node.id, self.service)
+            && has_path(node, self.keys.as_slice(), path)
+    }
+
+    /// Whether the counts are those of a scan of the rows. It takes no memory.
+    pub fn stands<R: Rows>(&self, rows: &R) -> bool
+        requires { IsUsable (R.tables rows.now) }
+        ensures { IsTrue result ↔ Stands (R.tables rows.now) self.now }
+    {
+        let count = self.nodes.len();
+        let mut place = 0;
+        for node in nodes(rows) {
+            if !self.is_scanned(rows, place, node) {
+                return false;
+            }
+            place += 1;
+        }
+        place == count
+    }
+
     /// Counts one task more on the node; a node that isn't in the tree changes nothing. It takes no memory.
     pub fn add(&mut self, node: Id) -> Result<(), NoMemory>
         requires { sum_by itself self.old.here < 2 ^ 60 }
@@ -296,8 +329,8 @@ impl SpreadTree {
         }
     }
 
-    /// The best node for the task of those that pass the test. The sums of a node's branches are looked up, one for each
-    /// preference; a node that doesn't come before the best one so far isn't tested.
+    /// The best node for the task of those that pass the test. The sums of a node's branches are looked up, one for
+    /// each preference; a node that doesn't come before the best one so far isn't tested.
     pub fn best<R: Rows, A: Admits>(&self, rows: &R, task: &Task, test: &A) -> Option<Id>
         requires usable { IsUsable (R.tables rows.now) }
         requires own { IsFor task.now self.now }

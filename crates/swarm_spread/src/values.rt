@@ -1,5 +1,5 @@
 // The ids of nodes, and their values for the keys of preferences.
-ghost use Rattle.std.specs.Prelude.{◌≡◌, IfOk, map};
+ghost use Rattle.std.specs.Prelude.{◌≡◌, ◌↔◌, IfOk, IsTrue, map};
 ghost use Rattle.swarm_objects.specs.Nodes.Constraints.{key_value};
 ghost use Rattle.swarm_objects.specs.Rows.{node_id};
 ghost use Rattle.swarm_objects.specs.Usable.{IsUsable};
@@ -66,4 +66,27 @@ pub fn nodes_of<R: Rows>(alloc: Global, rows: &R) -> Result<List<Id>, NoMemory>
         add(&mut ids, node.id)?;
     }
     Ok(ids)
+}
+
+// The text is the node's value for the key.
+fn has_value(node: &Node, key: &Key, text: &str) -> bool
+    ensures { IsTrue result ↔ (text.now ≡ key_value node.now key.now) }
+{
+    let mut digits = Buffer::new();
+    text == key_value(node, key, &mut digits)
+}
+
+// The texts are the node's values for the keys.
+pub fn has_path(node: &Node, keys: &[Key], path: &[Name]) -> bool
+    ensures { IsTrue result ↔ (path.now ≡ path_of keys.now node.now) }
+{
+    if keys.len() != path.len() {
+        return false;
+    }
+    for place in 0..keys.len() {
+        if !has_value(node, &keys[place], path[place].as_str()) {
+            return false;
+        }
+    }
+    true
 }
