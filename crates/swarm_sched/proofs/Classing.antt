@@ -29,7 +29,7 @@ use Rattle.swarm_sched.specs.declared.classes.ClassedNode.{ClassedNode}
 
 -- What changes leave.
 
-change-left : (t : Tables) (c : Change) → puts_node c ≡ false → (apply_change t c).nodes ≡ t.nodes
+pub change-left : (t : Tables) (c : Change) → puts_node c ≡ false → (apply_change t c).nodes ≡ t.nodes
 change-left t (change.PutNode n) e = let both : true ≡ false = e in absurd cc
 change-left t (change.PutService s) e = refl
 change-left t (change.PutTask x) e = go (has_row task_id x.id t.tasks)

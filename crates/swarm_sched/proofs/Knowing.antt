@@ -26,7 +26,7 @@ use Rattle.swarm_sched.specs.declared.known.NodeTotals.{NodeTotals}
 
 -- One slot.
 
-decide : (a b : ℕ) → (a ≡ b) ⊎ (a ≡ b → ⊥)
+pub decide : (a b : ℕ) → (a ≡ b) ⊎ (a ≡ b → ⊥)
 decide a b = go (eqb a b) refl
   where
     go : (c : Bool) → eqb a b ≡ c → (a ≡ b) ⊎ (a ≡ b → ⊥)
@@ -119,7 +119,7 @@ change-fewer t a b c fewer is = record {
 
 -- The node of a task.
 
-on-is : (held : Option ℕ) (node : ℕ) → option_eq same_number held (Some node) ≡ true → held ≡ Some node
+pub on-is : (held : Option ℕ) (node : ℕ) → option_eq same_number held (Some node) ≡ true → held ≡ Some node
 on-is None node e = absurd cc
 on-is (Some n) node e = let same : n ≡ node = grind (arith, nat_tests, e) in ap (λ (k : ℕ). Some k) same
 
@@ -223,9 +223,9 @@ pub ruleset all_steps = (forgetting_none, forgetting_one, forgetting_all, forget
 -- What changes leave of the tasks that pass a test.
 
 -- the change puts none that passes, and none that it puts or drops passed
-record Misses (p : Task → Bool) (tasks : List Task) (c : Change) : Type 0 where
-  put : (x : Task) → c ≡ change.PutTask x → (p x ≡ false) × ((y : Task) → Has tasks y → y.id ≡ x.id → p y ≡ false)
-  drop : (id : ℕ) → c ≡ change.DropTask id → (y : Task) → Has tasks y → y.id ≡ id → p y ≡ false
+pub record Misses (p : Task → Bool) (tasks : List Task) (c : Change) : Type 0 where
+  pub put : (x : Task) → c ≡ change.PutTask x → (p x ≡ false) × ((y : Task) → Has tasks y → y.id ≡ x.id → p y ≡ false)
+  pub drop : (id : ℕ) → c ≡ change.DropTask id → (y : Task) → Has tasks y → y.id ≡ id → p y ≡ false
 
 filter-put : (p : Task → Bool) (x : Task) (tasks : List Task) → p x ≡ false →
     ((y : Task) → Has tasks y → y.id ≡ x.id → p y ≡ false) → filter p (put_row task_id x tasks) ≡ filter p tasks
@@ -303,7 +303,7 @@ change-leaves p t (change.PutTask x) misses = go (has_row task_id x.id t.tasks)
 change-leaves p t (change.DropTask id) misses = filter-drop p id t.tasks (misses.drop id refl)
 change-leaves p t (change.Keep a) misses = refl
 
-changes-leave : (p : Task → Bool) (cs : List Change) (t : Tables) → ((c : Change) → Has cs c → Misses p t.tasks c) →
+pub changes-leave : (p : Task → Bool) (cs : List Change) (t : Tables) → ((c : Change) → Has cs c → Misses p t.tasks c) →
     filter p (apply_changes t cs).tasks ≡ filter p t.tasks
 changes-leave p [] t misses = refl
 changes-leave p (c ∷ cs) t misses =

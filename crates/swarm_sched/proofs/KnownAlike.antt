@@ -5,6 +5,7 @@ use Rattle.swarm_objects.specs.Nodes.Holdings.{is_placed_on}
 use Rattle.swarm_objects.specs.World.{Tables}
 use Rattle.swarm_sched.proofs.Classing.{classes-alike}
 use Rattle.swarm_sched.proofs.Knowing.{counted-alike}
+use Rattle.swarm_sched.proofs.Remembering.{refusals_alike}
 use Rattle.swarm_sched.specs.Inside.Known.{AreCounted, Knows, recalled}
 use Rattle.swarm_sched.specs.Inside.KnownNodes.{KnowsNodes}
 use Rattle.swarm_sched.specs.declared.known.NodeTotals.{NodeTotals}
@@ -23,4 +24,5 @@ pub knows_alike : (t u : Tables) (k : KnownNodes) → u.tasks ≡ t.tasks → u.
 knows_alike t u k tasks nodes knows = record {
   totals = totals-so t u k.totals tasks knows.totals;
   classes = classes-alike t u k.classes nodes knows.classes;
+  refusals = refusals_alike t u k.refusals tasks nodes knows.refusals;
 }

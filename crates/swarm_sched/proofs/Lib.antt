@@ -6,7 +6,9 @@ mod Halving
 mod Knowing
 pub mod KnownAlike
 mod OneAnswer
+mod Nearing
 mod Preferring
 mod Refusing
+mod Remembering
 mod Scheduling
 mod Totalling

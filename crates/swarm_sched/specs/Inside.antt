@@ -4,5 +4,7 @@ pub mod ClassLoads
 pub mod Classes
 pub mod Known
 pub mod KnownNodes
+pub mod KnownRefusals
+pub mod Nearing
 pub mod Placing
 pub mod Totals

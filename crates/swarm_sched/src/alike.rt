@@ -38,8 +38,8 @@ pub fn waits_alike(task: &Task, other: &Task) -> bool
     waits(task) && waits(other) && asks_alike(task, other)
 }
 
-/// What there is to do about the task, where there is nothing to do about the one before it. If the two wait alike, the task
-/// isn't tried on any node.
+/// What there is to do about the task, where there is nothing to do about the one before it. If the two wait alike, the
+/// task isn't tried on any node.
 pub fn schedule_after<R: Rows>(
     rows: &R,
     known: &mut KnownNodes,

@@ -26,9 +26,9 @@ struct Known<'a> {
     load: u64,
 }
 
-/// A service's tasks in the branches of its placement preferences. They are counted where they are asked for, by a walk over
-/// the service's tasks, and remembered for the branches that were asked for last. Contracts see the tables that are read,
-/// the service, and its preferences.
+/// A service's tasks in the branches of its placement preferences. They are counted where they are asked for, by a walk
+/// over the service's tasks, and remembered for the branches that were asked for last. Contracts see the tables that
+/// are read, the service, and its preferences.
 #[derive(Drop)]
 pub struct Branches<'a, R: Rows> {
     rows: &'a R,
@@ -104,7 +104,8 @@ fn is_told_by_text(keys: &[Key]) -> bool
     }
 }
 
-// The nodes, which have these texts for the last of the keys, are of one branch. Most that aren't are told by their texts.
+// The nodes, which have these texts for the last of the keys, are of one branch. Most that aren't are told by their
+// texts.
 fn is_one(keys: &[Key], node: &Node, text: &str, other: &Node, other_text: &str) -> bool
     requires own { HasText keys.now node.now text.now }
     requires other { HasText keys.now other.now other_text.now }
@@ -207,8 +208,8 @@ impl<'a, R: Rows> Branches<'a, R> {
         one.cmp(&other)
     }
 
-    /// Which of two nodes comes first by each preference in turn: the first for which they have different values decides it, by
-    /// the tasks in their branches and then by the values.
+    /// Which of two nodes comes first by each preference in turn: the first for which they have different values
+    /// decides it, by the tasks in their branches and then by the values.
     #[tactic(auto, using(crate::proofs::Preferring::order_steps))]
     pub fn spread_cmp(&mut self, a: &'a Node, b: &'a Node) -> Ordering
         ensures order { let p = self.old in

@@ -95,8 +95,8 @@ fn count_classes<'a, R: Rows>(
     loads
 }
 
-/// The branches of the task's service, and how many of its tasks count in each class at most. Where there are preferences,
-/// by which the nodes are sorted, both are counted at once; else nothing is.
+/// The branches of the task's service, and how many of its tasks count in each class at most. Where there are
+/// preferences, by which the nodes are sorted, both are counted at once; else nothing is.
 pub fn branches_of<'a, R: Rows>(
     rows: &'a R,
     task: &'a Task,

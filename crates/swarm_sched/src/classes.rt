@@ -42,8 +42,8 @@ struct Asked {
     count: usize,
 }
 
-/// The nodes, sorted into classes by the placement preferences that were asked for last. Contracts see these preferences
-/// and the nodes, or none where they aren't sorted.
+/// The nodes, sorted into classes by the placement preferences that were asked for last. Contracts see these
+/// preferences and the nodes, or none where they aren't sorted.
 #[derive(Drop)]
 pub struct NodeClasses {
     // None where none will be sorted

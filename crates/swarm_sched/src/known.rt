@@ -33,8 +33,9 @@ pub struct NodeTotals {
     here: u64,
 }
 
-/// The totals of nodes that were asked for last. Each node has one slot, by the rest of its id. Of nodes with the same slot the
-/// last one is remembered, where there can't be more slots. Contracts see the slots, or none where nothing is remembered.
+/// The totals of nodes that were asked for last. Each node has one slot, by the rest of its id. Of nodes with the same
+/// slot the last one is remembered, where there can't be more slots. Contracts see the slots, or none where nothing is
+/// remembered.
 #[derive(Drop)]
 pub struct KnownTotals {
     // None for want of memory: then nothing is ever remembered
@@ -399,8 +400,8 @@ impl KnownTotals {
         }
     }
 
-    /// Forgets what these changes of the rows make untrue. It is asked before they are made, and gives what will be so of
-    /// the nodes that are forgotten.
+    /// Forgets what these changes of the rows make untrue. It is asked before they are made, and gives what will be so
+    /// of the nodes that are forgotten.
     #[tactic(auto, using(crate::proofs::Knowing::changed_steps))]
     pub fn forget_changed<R: Rows>(&mut self, rows: &R, changes: &[Change]) -> Moved
         requires usable { IsUsable (R.tables rows.now) }
@@ -442,8 +443,8 @@ impl KnownTotals {
         counted
     }
 
-    /// The node's totals. They are counted where they aren't remembered, and by the same walk the service's own tasks, which
-    /// may be asked for next.
+    /// The node's totals. They are counted where they aren't remembered, and by the same walk the service's own tasks,
+    /// which may be asked for next.
     pub fn totals<R: Rows>(&mut self, rows: &R, node: Id, service: Id) -> Totals
         requires usable { IsUsable (R.tables rows.now) }
         requires knows { Knows (R.tables rows.now) self.old }
@@ -453,8 +454,8 @@ impl KnownTotals {
         self.counted(rows, node, service).totals
     }
 
-    /// How many of the node's live tasks are the service's. They are counted where they aren't remembered, as those of the
-    /// service that asked last are.
+    /// How many of the node's live tasks are the service's. They are counted where they aren't remembered, as those of
+    /// the service that asked last are.
     pub fn here<R: Rows>(&mut self, rows: &R, node: Id, service: Id) -> u64
         requires usable { IsUsable (R.tables rows.now) }
         requires knows { Knows (R.tables rows.now) self.old }
@@ -476,7 +477,8 @@ impl KnownTotals {
     }
 }
 
-/// What is remembered of nodes, and scans of the tasks of those of which nothing is. Contracts see the tables that are read.
+/// What is remembered of nodes, and scans of the tasks of those of which nothing is. Contracts see the tables that are
+/// read.
 #[derive(Drop)]
 pub struct KnownLoads<'a, R: Rows> {
     rows: &'a R,

@@ -7,14 +7,17 @@ ghost use Rattle.swarm_sched.specs.Inside.KnownNodes.{KnowsNodes};
 
 use crate::classes::NodeClasses;
 use crate::known::{KnownTotals, Moved};
+use crate::known_refusals::KnownRefusals;
 use std::alloc::Global;
 use swarm_objects::{Change, Rows};
 
-/// What the tasks on nodes come to, and the nodes sorted by placement preferences.
+/// What the tasks on nodes come to, the nodes sorted by placement preferences, and which filters refused waiting tasks
+/// nodes.
 #[derive(Drop)]
 pub struct KnownNodes {
     pub(crate) totals: KnownTotals,
     pub(crate) classes: NodeClasses,
+    pub(crate) refusals: KnownRefusals,
 }
 
 impl KnownNodes {
@@ -25,6 +28,7 @@ impl KnownNodes {
         KnownNodes {
             totals: KnownTotals::none(),
             classes: NodeClasses::none(),
+            refusals: KnownRefusals::none(),
         }
     }
 
@@ -35,11 +39,12 @@ impl KnownNodes {
         KnownNodes {
             totals: KnownTotals::new(alloc),
             classes: NodeClasses::new(alloc),
+            refusals: KnownRefusals::new(alloc),
         }
     }
 
-    /// Forgets what these changes of the rows make untrue. It is asked before they are made, and gives what will be so of
-    /// the nodes that are forgotten.
+    /// Forgets what these changes of the rows make untrue. It is asked before they are made, and gives what will be so
+    /// of the nodes that are forgotten.
     pub fn forget_changed<R: Rows>(&mut self, rows: &R, changes: &[Change]) -> Moved
         requires usable { IsUsable (R.tables rows.now) }
         requires knows { KnowsNodes (R.tables rows.now) self.old }
@@ -49,6 +54,7 @@ impl KnownNodes {
     {
         let moved = self.totals.forget_changed(rows, changes);
         self.classes.forget_changed(changes);
+        self.refusals.forget_changed(rows, changes);
         moved
     }
 
@@ -65,5 +71,6 @@ impl KnownNodes {
     {
         self.totals.forget_all();
         self.classes.forget();
+        self.refusals.forget_all();
     }
 }

@@ -1,4 +1,5 @@
-// The scheduler's duties over any rows: the first, and what each changes. What is remembered of nodes need not be found by scans again.
+// The scheduler's duties over any rows: the first, and what each changes. What is remembered of nodes need not be found
+// by scans again.
 #![tactic(auto)]
 
 mod alike;
@@ -10,6 +11,8 @@ mod filters;
 mod keys;
 mod known;
 mod known_nodes;
+mod known_refusals;
+mod near;
 mod placing;
 mod refused;
 mod totals;
@@ -27,6 +30,7 @@ pub use filters::Filters;
 pub use keys::{agrees, value_cmp};
 pub use known::Moved;
 pub use known_nodes::KnownNodes;
+pub use near::{Near, least_near};
 pub use placing::{best_node, best_node_by};
 use swarm_objects::walks::tasks;
 use swarm_objects::{Duty, Rows, Task};
@@ -59,7 +63,7 @@ pub fn schedule<R: Rows>(rows: &R, known: &mut KnownNodes, task: &Task) -> Optio
         return None;
     }
     if was_refused(task)
-        && let Some(counts) = counts_if_refused(rows, &mut known.totals, task)
+        && let Some(counts) = counts_if_refused(rows, known, task)
     {
         return explained(task, counts);
     }

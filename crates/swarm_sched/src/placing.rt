@@ -52,16 +52,16 @@ fn node_cmp(spread: Ordering, a: Id, b: Id, one: NodeLoad, other: NodeLoad) -> O
         .then(a.cmp(&b))
 }
 
-// Whether a node with so many tasks may come before one that has none of the service's: only by fewer of all services, or by
-// its id.
+// Whether a node with so many tasks may come before one that has none of the service's: only by fewer of all services,
+// or by its id.
 fn may_come_first(load: u64, node: Id, best: Id, held: NodeLoad) -> bool
     ensures { IsTrue result ↔ (ordering_then (nat_cmp load held.load) (nat_cmp node best) ≡ Less) }
 {
     load.cmp(&held.load).then(node.cmp(&best)) == Ordering::Less
 }
 
-// Whether the node may come before the best one so far, or be the first. The placement preferences, by which it compares
-// so, may rule it out, and the tasks of all services where the best one has none of the service's own.
+// Whether the node may come before the best one so far, or be the first. The placement preferences, by which it
+// compares so, may rule it out, and the tasks of all services where the best one has none of the service's own.
 fn is_rival<R: Rows>(
     known: &mut KnownTotals,
     rows: &R,
@@ -142,8 +142,8 @@ fn is_open_with<R: Rows>(rows: &R, task: &Task, node: &Node, totals: Totals) -> 
     is_open_by(rows, &loads, task, node)
 }
 
-// What a node's class tells of it: how it compares with the best one so far by the placement preferences, and whether it
-// is known that none of the service's live tasks is there.
+// What a node's class tells of it: how it compares with the best one so far by the placement preferences, and whether
+// it is known that none of the service's live tasks is there.
 #[derive(Clone, Copy)]
 struct Standing {
     spread: Ordering,
@@ -218,8 +218,8 @@ fn best_of_all<'a, R: Rows>(rows: &'a R, known: &mut KnownTotals, task: &Task) -
     best
 }
 
-// The same, where the nodes are sorted, into so many classes. The row of a node that its class decides isn't looked at. How the classes compare
-// stays so with a new best node that is the former one's equal by the preferences.
+// The same, where the nodes are sorted, into so many classes. The row of a node that its class decides isn't looked at.
+// How the classes compare stays so with a new best node that is the former one's equal by the preferences.
 fn best_of_classes<'a, R: Rows>(
     rows: &'a R,
     known: &mut KnownTotals,

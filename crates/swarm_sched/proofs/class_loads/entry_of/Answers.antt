@@ -1,16 +1,21 @@
-use Rattle.std.proofs.Common.{rules}
-use Rattle.swarm_sched.proofs.Halving.{halved_none, halved_some, searched}
+use Rattle.std.proofs.Common.{rules, subst, sym}
+use Rattle.swarm_sched.proofs.Halving.{from_any, place_is, searched}
 use Rattle.swarm_sched.proofs.class_loads.entry_of.Goals as goal
+use Rattle.swarm_sched.specs.Inside.Classes.{entry_id}
+use Rattle.swarm_sched.specs.Inside.Nearing.{IsPlace}
 
 pub returns-in-Err : goal.returns-in-Err
 returns-in-Err c =
-    halved_none c.args.sorted.now c.args.node c.binary_search_by_key.result c.in-Err.field-0 c.in-Err.is
-    (searched c.args.sorted.now c.args.node c.binary_search_by_key.result c.binary_search_by_key.ensures.position
-    (λ a r q k. search rules)) c.requires
+    sym (subst (IsPlace entry_id c.args.node c.args.sorted.now) c.in-Err.is
+    (place_is entry_id c.args.sorted.now c.args.node c.binary_search_by_key.result
+    (from_any entry_id 0 c.args.sorted.now c.requires) c.binary_search_by_key.ensures.bound
+    (searched entry_id c.args.sorted.now c.args.node c.binary_search_by_key.result
+    c.binary_search_by_key.ensures.position (λ a r q k. search rules)))).1
 
 pub returns-in-Ok : goal.returns-in-Ok
 returns-in-Ok c =
-    halved_some c.args.sorted.now c.args.node c.binary_search_by_key.result c.in-Ok.place (record { id = 0; class = 0 })
-    c.in-Ok.is
-    (searched c.args.sorted.now c.args.node c.binary_search_by_key.result c.binary_search_by_key.ensures.position
-    (λ a r q k. search rules)) c.requires c.in-Ok.ensures.bound
+    sym ((subst (IsPlace entry_id c.args.node c.args.sorted.now) c.in-Ok.is
+    (place_is entry_id c.args.sorted.now c.args.node c.binary_search_by_key.result
+    (from_any entry_id 0 c.args.sorted.now c.requires) c.binary_search_by_key.ensures.bound
+    (searched entry_id c.args.sorted.now c.args.node c.binary_search_by_key.result
+    c.binary_search_by_key.ensures.position (λ a r q k. search rules)))).1 (record { id = 0; class = 0 }))

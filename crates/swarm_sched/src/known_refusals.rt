@@ -1,0 +1,317 @@
+// Which filters refused waiting tasks the nodes, as far as it is remembered from one placement to the next.
+ghost use Rattle.std.specs.Prelude.{◌≡◌, IfSome, IsTrue, [], map};
+ghost use Rattle.swarm_objects.specs.ChangeLists.{apply_changes};
+ghost use Rattle.swarm_objects.specs.Usable.{IsUsable};
+ghost use Rattle.swarm_objects.specs.World.{Tables};
+ghost use Rattle.swarm_sched.specs.Inside.KnownRefusals.{IsIn, IsRefusal, KnowsGroup, KnowsOwn, KnowsRefusals};
+ghost use Rattle.swarm_sched.specs.Inside.KnownRefusals.{filter_of, forget, forget_each, former_node, put, recalled};
+ghost use Rattle.swarm_sched.specs.Inside.KnownRefusals.{touched, without};
+
+use std::alloc::Global;
+use std::marker::Model;
+use std::mem;
+use swarm_objects::walks::nodes;
+use swarm_objects::{Change, Duplicate, Id, Rows, Same, Task, Template};
+
+// For so many groups of tasks something is remembered at once.
+const GROUPS: u64 = 64;
+
+// Of so many nodes at most, for each group.
+const MOST_SLOTS: usize = 16384;
+
+/// The filter that refused the tasks of a group a node.
+#[derive(Clone, Copy)]
+pub struct Refusal {
+    node: Id,
+    filter: u32,
+}
+
+/// The tasks of a service by one template, and the filters that refused them nodes; that which reads the node's session
+/// is left out. Each node has one slot, by the rest of its id, and of nodes with the same slot the last one is
+/// remembered.
+#[derive(Drop)]
+pub struct Group {
+    service: Id,
+    template: Template,
+    slots: Vec<Option<Refusal>>,
+}
+
+impl Model for Group {
+    ghost use Rattle.swarm_sched.specs.Inside.KnownRefusals.{Refusals};
+
+    ghost Value = { Refusals };
+
+    ghost view = { λ g. record { service = g.service; template = g.template; slots = g.slots.items } };
+}
+
+/// The groups that were asked for last. Each service has one slot, by the rest of its id. Contracts see the slots, or
+/// none before the first group.
+#[derive(Drop)]
+pub struct KnownRefusals {
+    // None where nothing will be remembered
+    alloc: Option<Global>,
+    groups: Option<Vec<Option<Group>>>,
+}
+
+impl Model for KnownRefusals {
+    ghost use Rattle.std.specs.Prelude.{List as Seq, Option};
+    ghost use Rattle.swarm_sched.specs.Inside.KnownRefusals.{Refusals, shown};
+
+    ghost Value = { Seq (Option Refusals) };
+
+    ghost view = { λ k. shown k.groups };
+}
+
+// The filter in the slot, where it is of this node.
+fn filter_of(node: Id, slot: Option<Refusal>) -> Option<u32>
+    ensures { result ≡ filter_of node slot }
+{
+    match slot {
+        Some(refusal) if refusal.node == node => Some(refusal.filter),
+        _ => None,
+    }
+}
+
+impl Group {
+    // The task is one of them.
+    fn is_for(&self, task: &Task) -> bool
+        ensures { IsTrue result → IsIn self.now task.now }
+    {
+        task.service == self.service && task.template.same(&self.template)
+    }
+
+    /// The filter that is remembered of the node.
+    pub fn recall(&self, node: Id) -> Option<u32>
+        ensures { result ≡ recalled self.now node }
+    {
+        if self.slots.is_empty() {
+            return None;
+        }
+        filter_of(node, self.slots[node as usize % self.slots.len()])
+    }
+
+    // Puts it in the node's slot.
+    fn put(&mut self, node: Id, refusal: Option<Refusal>)
+        ensures { self.new ≡ put self.old node refusal }
+    {
+        if self.slots.is_empty() {
+            return;
+        }
+        let slot = node as usize % self.slots.len();
+        self.slots[slot] = refusal;
+    }
+
+    /// Remembers that this filter refuses them the node.
+    #[tactic(auto, using(crate::proofs::Remembering::refusal_put))]
+    pub fn remember(&mut self, node: Id, filter: u32)
+        ensures knows { (t : Tables) → KnowsGroup t self.old → IsRefusal t self.old node filter
+            → KnowsGroup t self.new }
+        ensures own { (x : Task) → IsIn self.old x → IsIn self.new x }
+    {
+        self.put(node, Some(Refusal { node, filter }));
+    }
+}
+
+// How many slots a group has: a power of two, and where it can be two a node.
+fn slot_count<R: Rows>(rows: &R) -> usize
+    requires { IsUsable (R.tables rows.now) }
+{
+    let mut count: usize = 0;
+    for _node in nodes(rows) {
+        count = count.saturating_add(2);
+    }
+    count.min(MOST_SLOTS).next_power_of_two()
+}
+
+// The task's group, for which nothing is remembered so far.
+#[tactic(auto, using(crate::proofs::Remembering::nothing_known))]
+fn new_group<R: Rows>(alloc: Global, rows: &R, task: &Task) -> Option<Group>
+    requires { IsUsable (R.tables rows.now) }
+    ensures { (t : Tables) → KnowsOwn t task.now result }
+{
+    let Ok(slots) = vec![in alloc; None; slot_count(rows)] else {
+        return None;
+    };
+    let template = task.template.duplicate(alloc).ok()?;
+    Some(Group {
+        service: task.service,
+        template,
+        slots,
+    })
+}
+
+// Slots without groups.
+#[tactic(auto, using(crate::proofs::Remembering::group_steps))]
+fn empty_slots(alloc: Global) -> Option<Vec<Option<Group>>>
+    ensures { (t : Tables) → IfSome result (λ groups. KnowsRefusals t groups.items) }
+{
+    let mut groups = Vec::with_capacity(alloc, GROUPS as usize).ok()?;
+    for _slot in 0..GROUPS {
+        if groups.push(None).is_err() {
+            return None;
+        }
+    }
+    Some(groups)
+}
+
+// Forgets the node in all groups.
+fn forget(groups: &mut [Option<Group>], node: Option<Id>)
+    ensures { groups.new ≡ forget node groups.old }
+{
+    let Some(node) = node else {
+        return;
+    };
+    forget_node(groups, node);
+}
+
+fn forget_node(groups: &mut [Option<Group>], node: Id)
+    ensures { groups.new ≡ map (without node) groups.old }
+{
+    for slot in groups.iter_mut() {
+        if let Some(group) = slot {
+            group.put(node, None);
+        }
+    }
+}
+
+// The node of the task with this id.
+fn former_node<R: Rows>(rows: &R, id: Id) -> Option<Id>
+    ensures { result ≡ former_node (R.tables rows.now) id }
+{
+    match rows.task(id) {
+        Some(task) => task.node,
+        None => None,
+    }
+}
+
+// The node that the change puts, or those of the task that it puts or drops, as it will be and as it was.
+fn touched<R: Rows>(rows: &R, change: &Change) -> (Option<Id>, Option<Id>)
+    ensures { result ≡ touched (R.tables rows.now) change.now }
+{
+    match change {
+        Change::PutNode(node) => (Some(node.id), None),
+        Change::PutTask(task) => (task.node, former_node(rows, task.id)),
+        Change::DropTask(id) => (None, former_node(rows, *id)),
+        Change::PutService(_) | Change::Keep(_) => (None, None),
+    }
+}
+
+// Forgets the nodes that the changes touch.
+fn forget_each<R: Rows>(groups: &mut [Option<Group>], rows: &R, changes: &[Change])
+    ensures { groups.new ≡ forget_each (R.tables rows.now) changes.now groups.old }
+{
+    let mut left = changes;
+    while let Some((change, others)) = left.split_first() {
+        let (node, former) = touched(rows, change);
+        forget(groups, node);
+        forget(groups, former);
+        left = others;
+    }
+}
+
+impl KnownRefusals {
+    /// Nothing is remembered, and nothing will be. It takes no memory.
+    pub fn none() -> KnownRefusals
+        ensures { result ≡ [] }
+    {
+        KnownRefusals {
+            alloc: None,
+            groups: None,
+        }
+    }
+
+    /// Nothing is remembered so far.
+    pub fn new(alloc: Global) -> KnownRefusals
+        ensures { result ≡ [] }
+    {
+        KnownRefusals {
+            alloc: Some(alloc),
+            groups: None,
+        }
+    }
+
+    /// Forgets all.
+    pub fn forget_all(&mut self)
+        ensures { self.new ≡ [] }
+    {
+        self.groups = None;
+    }
+
+    /// Forgets what these changes of the rows make untrue. It is asked before they are made.
+    #[tactic(auto, using(crate::proofs::Remembering::changed_steps))]
+    pub fn forget_changed<R: Rows>(&mut self, rows: &R, changes: &[Change])
+        requires usable { IsUsable (R.tables rows.now) }
+        requires knows { KnowsRefusals (R.tables rows.now) self.old }
+        ensures stays { KnowsRefusals (R.tables rows.now) self.new }
+        ensures goes_on { KnowsRefusals (apply_changes (R.tables rows.now) changes.now) self.new }
+    {
+        let Some(groups) = &mut self.groups else {
+            return;
+        };
+        forget_each(groups.as_mut_slice(), rows, changes);
+    }
+
+    // Makes the slots, unless they are there.
+    #[tactic(auto, using(crate::proofs::Remembering::group_steps))]
+    fn make_slots(&mut self, alloc: Global)
+        ensures { (t : Tables) → KnowsRefusals t self.old → KnowsRefusals t self.new }
+    {
+        if self.groups.is_none() {
+            self.groups = empty_slots(alloc);
+        }
+    }
+
+    // Takes what stands in the service's slot.
+    #[tactic(auto, using(crate::proofs::Remembering::group_steps))]
+    fn take_slot(&mut self, service: Id) -> Option<Group>
+        ensures group { (t : Tables) → KnowsRefusals t self.old → IfSome result (KnowsGroup t) }
+        ensures others { (t : Tables) → KnowsRefusals t self.old → KnowsRefusals t self.new }
+    {
+        let Some(groups) = &mut self.groups else {
+            return None;
+        };
+        if groups.is_empty() {
+            return None;
+        }
+        let slot = service as usize % groups.len();
+        mem::replace(&mut groups[slot], None)
+    }
+
+    /// Takes the task's group out of its slot, or begins one. None where nothing will be remembered, or for want of
+    /// memory.
+    pub fn take<R: Rows>(&mut self, rows: &R, task: &Task) -> Option<Group>
+        requires usable { IsUsable (R.tables rows.now) }
+        requires knows { KnowsRefusals (R.tables rows.now) self.old }
+        ensures own { KnowsOwn (R.tables rows.now) task.now result }
+        ensures others { KnowsRefusals (R.tables rows.now) self.new }
+    {
+        let Some(alloc) = self.alloc else {
+            return None;
+        };
+        self.make_slots(alloc);
+        if let Some(group) = self.take_slot(task.service) {
+            if group.is_for(task) {
+                return Some(group);
+            }
+        }
+        new_group(alloc, rows, task)
+    }
+
+    /// Puts the group in its slot.
+    #[tactic(auto, using(crate::proofs::Remembering::group_steps))]
+    pub fn put(&mut self, group: Option<Group>)
+        ensures { (t : Tables) → KnowsRefusals t self.old → IfSome group (KnowsGroup t) → KnowsRefusals t self.new }
+    {
+        let Some(group) = group else {
+            return;
+        };
+        let Some(groups) = &mut self.groups else {
+            return;
+        };
+        if groups.is_empty() {
+            return;
+        }
+        let slot = group.service as usize % groups.len();
+        groups[slot] = Some(group);
+    }
+}
