@@ -1,1 +1,3 @@
+-- Words of contracts.
 pub mod Inside
+pub mod KnownPlaces

@@ -2,9 +2,8 @@
 ghost use Rattle.std.specs.Prelude.{◌≡◌, ◌<◌, IfSome, Some};
 ghost use Rattle.swarm_objects.specs.Loops.Replicated.{crowd};
 ghost use Rattle.swarm_objects.specs.Usable.{IsUsable};
-ghost use Rattle.swarm_replicated.specs.Inside.Crowds.{crowd_in, place_crowd_in};
+ghost use Rattle.swarm_replicated.specs.Inside.Crowds.{crowd_in};
 
-use role_words::place_tasks;
 use std::marker::Model;
 use swarm_objects::walks::tasks_on;
 use swarm_objects::{Id, Rows, Service};
@@ -111,19 +110,5 @@ impl<'a, R: Rows> Crowds<'a, R> {
             Some(crowd) => crowd,
             None => self.counted(node),
         }
-    }
-
-    /// The most of these on a node of the place's live tasks.
-    pub fn place_crowd(&mut self, number: u64) -> u64
-        ensures crowd { result ≡ place_crowd_in self.old number }
-        ensures same { self.new ≡ self.old }
-    {
-        let mut most = 0;
-        for task in place_tasks(self.rows, self.service, number) {
-            if task.is_live() {
-                most = most.max(self.crowd(task.node));
-            }
-        }
-        most
     }
 }

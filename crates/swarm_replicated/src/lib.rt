@@ -4,6 +4,7 @@
 
 mod changing;
 mod crowds;
+mod known_places;
 mod order;
 mod slots;
 
@@ -19,6 +20,7 @@ ghost use Rattle.swarm_objects.specs.Rows.{first_of};
 ghost use Rattle.swarm_objects.specs.Usable.{IsUsable};
 
 pub use changing::changes;
+pub use known_places::{KnownPlaces, create_duty_by, down_duty_by};
 pub use slots::{create_duty, down_duty};
 use swarm_objects::walks::{services, tasks};
 use swarm_objects::{Duty, Rows, Task};

@@ -1,16 +1,15 @@
 // Which slot is given up first.
-ghost use Rattle.std.specs.Prelude.{◌≡◌, ◌&&◌};
+ghost use Rattle.std.specs.Prelude.{◌≡◌};
 ghost use Rattle.swarm_objects.specs.Kinds.{bit};
-ghost use Rattle.swarm_objects.specs.Loops.Replicated.{first_to_go, is_up};
+ghost use Rattle.swarm_objects.specs.Loops.Replicated.{first_to_go};
 ghost use Rattle.swarm_objects.specs.Rows.{keep_least};
-ghost use Rattle.swarm_objects.specs.Tasks.Words.{is_live, is_running};
 ghost use Rattle.swarm_objects.specs.Usable.{IsUsable};
-ghost use Rattle.swarm_replicated.specs.Inside.Candidates.{candidate_cmp};
+ghost use Rattle.swarm_replicated.specs.Inside.Candidates.{candidate, candidate_cmp};
 
 use crate::crowds::Crowds;
 use role_words::{held_places, place_tasks};
 use std::cmp::Ordering;
-use swarm_objects::{Rows, Service, Task};
+use swarm_objects::{Rows, Service};
 
 // A held place, with what decides when it goes.
 #[derive(Clone, Copy)]
@@ -20,21 +19,6 @@ struct Candidate {
     is_up: bool,
     // the most of the service's live tasks on a node of its own live ones
     crowd: u64,
-}
-
-// It is live, and runs.
-fn is_live_running(task: &Task) -> bool
-    ensures { result ≡ (is_live task.now && is_running task.now) }
-{
-    task.is_live() && task.is_running()
-}
-
-// A live task that runs stands in the place.
-fn is_up<R: Rows>(rows: &R, service: &Service, number: u64) -> bool
-    requires { IsUsable (R.tables rows.now) }
-    ensures { result ≡ is_up (R.tables rows.now) service.now number }
-{
-    place_tasks(rows, service, number).any(|task| is_live_running(task))
 }
 
 // Yes is 1, and no is 0.
@@ -64,6 +48,28 @@ fn sooner(first: Option<Candidate>, place: Candidate) -> Option<Candidate>
     }
 }
 
+// The place with this number, by one walk over its tasks.
+fn weigh<R: Rows>(crowds: &mut Crowds<R>, rows: &R, service: &Service, number: u64) -> Candidate
+    requires usable { IsUsable (R.tables rows.now) }
+    requires counts { crowds.old ≡ record { tables = R.tables rows.now; service = service.now } }
+    ensures place { result ≡ candidate (R.tables rows.now) service.now number }
+    ensures same { crowds.new ≡ crowds.old }
+{
+    let mut is_up = false;
+    let mut most = 0;
+    for task in place_tasks(rows, service, number) {
+        if task.is_live() {
+            is_up |= task.is_running();
+            most = most.max(crowds.crowd(task.node));
+        }
+    }
+    Candidate {
+        number,
+        is_up,
+        crowd: most,
+    }
+}
+
 /// The first of the held places to go.
 pub fn first_to_go<R: Rows>(rows: &R, service: &Service) -> Option<u64>
     requires { IsUsable (R.tables rows.now) }
@@ -72,11 +78,7 @@ pub fn first_to_go<R: Rows>(rows: &R, service: &Service) -> Option<u64>
     let mut crowds = Crowds::new(rows, service);
     let mut first = None;
     for number in held_places(rows, service) {
-        let place = Candidate {
-            number,
-            is_up: is_up(rows, service, number),
-            crowd: crowds.place_crowd(number),
-        };
+        let place = weigh(&mut crowds, rows, service, number);
         first = sooner(first, place);
     }
     Some(first?.number)

@@ -1,6 +1,7 @@
 // Slots that are given up, and slots that get a task.
 ghost use Rattle.std.specs.Prelude.{◌≡◌, ◌≤◌, length, nat_lt};
-ghost use Rattle.swarm_objects.specs.Loops.Replicated.{create_duty, down_duty};
+ghost use Rattle.std.specs.Option.{option_map};
+ghost use Rattle.swarm_objects.specs.Loops.Replicated.{create_duty, down_duty, first_to_go};
 ghost use Rattle.swarm_objects.specs.Rows.{first_of};
 ghost use Rattle.swarm_objects.specs.Tasks.Places.{held_places};
 ghost use Rattle.swarm_objects.specs.Usable.{IsUsable};
@@ -9,9 +10,9 @@ use crate::order::first_to_go;
 use role_words::{held_count, tally};
 use swarm_objects::{Duty, Mode, Rows, Service};
 
-// At most so many places are held: as many as ids were given out from the service's first task on.
+/// At most so many places are held: as many as ids were given out from the service's first task on.
 #[tactic(auto, using(crate::proofs::Bounding::bound_steps))]
-fn held_bound<R: Rows>(rows: &R, service: &Service) -> u64
+pub fn held_bound<R: Rows>(rows: &R, service: &Service) -> u64
     requires { IsUsable (R.tables rows.now) }
     ensures { length (held_places (R.tables rows.now) service.now) ≤ result }
 {
@@ -30,6 +31,17 @@ fn holds_over<R: Rows>(rows: &R, service: &Service, replicas: u64) -> bool
     replicas < held_bound(rows, service) && replicas < held_count(rows, service)
 }
 
+/// The first of the service's held slots to go is given up.
+pub fn gives_up<R: Rows>(rows: &R, service: &Service) -> Option<Duty>
+    requires { IsUsable (R.tables rows.now) }
+    ensures { result ≡ option_map (Duty.Down service.now.id) (first_to_go (R.tables rows.now) service.now) }
+{
+    match first_to_go(rows, service) {
+        Some(slot) => Some(Duty::Down(service.id, slot)),
+        None => None,
+    }
+}
+
 /// The slot that the service gives up, where more are held than there are to be replicas.
 pub fn down_duty<R: Rows>(rows: &R, service: &Service) -> Option<Duty>
     requires { IsUsable (R.tables rows.now) }
@@ -41,10 +53,7 @@ pub fn down_duty<R: Rows>(rows: &R, service: &Service) -> Option<Duty>
     if !holds_over(rows, service, replicas) {
         return None;
     }
-    match first_to_go(rows, service) {
-        Some(slot) => Some(Duty::Down(service.id, slot)),
-        None => None,
-    }
+    gives_up(rows, service)
 }
 
 /// The slot in which the service gets a new task, where fewer are held than there are to be replicas.

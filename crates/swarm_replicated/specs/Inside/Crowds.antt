@@ -2,7 +2,7 @@
 use Rattle.std.specs.List.{All}
 use Rattle.std.specs.Option.{IfSome}
 use Rattle.std.specs.Prelude.{List, Option, Some, ℕ, ◌≡◌}
-use Rattle.swarm_objects.specs.Loops.Replicated.{crowd, place_crowd}
+use Rattle.swarm_objects.specs.Loops.Replicated.{crowd}
 use Rattle.swarm_objects.specs.World.{Tables}
 use Rattle.swarm_objects.specs.declared.services.Service.{Service}
 use Rattle.swarm_replicated.specs.declared.crowds.Known.{Known}
@@ -14,9 +14,6 @@ pub record Counted : Type 0 where
 
 abbrev pub crowd_in : Counted → Option ℕ → ℕ
 crowd_in c node = crowd c.tables c.service node
-
-abbrev pub place_crowd_in : Counted → ℕ → ℕ
-place_crowd_in c number = place_crowd c.tables c.service number
 
 -- what is remembered of a node is so
 abbrev pub IsKnown : Counted → Known → Type 0
