@@ -50,14 +50,14 @@ same_six a b c d e f g h i j k l o p q r s t =
     ∙ ap (λ x. six g h i j x f) s
     ∙ ap (λ x. six g h i j k x) t
 
-mark_more : (t : Tables) (s : Service) (xs : List Task) (x : Task)
+pub mark_more : (t : Tables) (s : Service) (xs : List Task) (x : Task)
     → mark_of t s (xs ++ x ∷ []) ≡ mark_with t s x (mark_of t s xs)
 mark_more t s xs x =
     same_six _ _ _ _ _ _ _ _ _ _ _ _ (any_more is_live xs x) (any_more (is_live_dirty s) xs x)
     (any_more (is_live_clean s) xs x) (any_more (runs_clean s) xs x) (any_more (is_flying t s) xs x)
     (ap (is_some_and (closes_dirty s)) (last_is None xs x))
 
-number_is : (s : Service) (x : Task) (k : ℕ) → is_in_place s (place_at s.spec.mode k) x ≡ true
+pub number_is : (s : Service) (x : Task) (k : ℕ) → is_in_place s (place_at s.spec.mode k) x ≡ true
     → place_number x.place ≡ k
 number_is s x k e =
     one_place x.place (place_at s.spec.mode k)

@@ -1,3 +1,4 @@
+pub mod KnownSurvey
 pub mod Marks
 pub mod Replacing
 pub mod Surveys

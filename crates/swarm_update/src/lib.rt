@@ -2,7 +2,9 @@
 #![tactic(auto)]
 
 mod changing;
+mod clean;
 mod failing;
+mod known_survey;
 mod marks;
 mod replacing;
 mod runs;
@@ -23,6 +25,7 @@ use crate::runs::{fails, is_to_finish, is_to_start, lets_replace};
 use crate::survey::{Survey, first_to_replace, first_to_swap, go_over};
 pub use changing::changes;
 pub use failing::{kept_numbers, may_roll_back, paused_status};
+pub use known_survey::{KnownSurvey, update_duty_by};
 pub use replacing::desired_by_order;
 use role_words::{is_of_version, is_under_way};
 pub use runs::{goes_on, has_present_run, is_failure, is_present};

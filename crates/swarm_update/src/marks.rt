@@ -1,8 +1,11 @@
 // What a service's tasks say to an update of each of its places: noted in one pass, for all places with small numbers.
-ghost use Rattle.std.specs.Prelude.{◌≡◌, ◌<◌, None, IfSome};
-ghost use Rattle.swarm_update.specs.Marks.{answers, blank, mark_at, mark_with, noted, noted_at, IsFirst, NoneBefore};
+ghost use Rattle.std.specs.Prelude.{◌≡◌, ◌<◌, ◌∷◌, None, IfSome, List, ℕ};
+ghost use Rattle.role_words.specs.Marks.{tasks_at};
+ghost use Rattle.swarm_objects.specs.Usable.{IsUsable};
+ghost use Rattle.swarm_update.specs.KnownSurvey.{ShowsOthers, with_mark};
+ghost use Rattle.swarm_update.specs.Marks.{answers, blank, mark_at, mark_of, mark_with, noted, noted_at, IsFirst, NoneBefore, ShowsPlaces};
 
-use role_words::is_flying;
+use role_words::{is_flying, place_tasks};
 use swarm_objects::{Rows, Service, Task};
 
 /// How many places are noted: those with a number below this.
@@ -71,6 +74,20 @@ impl Mark {
     }
 }
 
+// What the tasks of the service's place with this number say of it.
+#[tactic(auto, using(crate::proofs::Renoting::mark_all))]
+fn mark_of<R: Rows>(rows: &R, service: &Service, number: u64) -> Mark
+    requires { IsUsable (R.tables rows.now) }
+    ensures { let t = R.tables rows.now in
+        result ≡ mark_of t service.now (tasks_at service.now t.tasks number) }
+{
+    let mut mark = UNMARKED;
+    for task in place_tasks(rows, service, number) {
+        mark = mark.with(rows, service, task);
+    }
+    mark
+}
+
 /// The places of a service, as its update sees them.
 #[derive(Drop)]
 pub struct Places {
@@ -113,6 +130,39 @@ impl Places {
             self.note_at(number as usize, rows, service, task);
         } else {
             self.has_far = true;
+        }
+    }
+
+    // Sets what is said of the place with this number.
+    fn set_mark(&mut self, index: usize, mark: Mark)
+        requires { index < 1024 }
+        ensures { self.new ≡ with_mark index mark self.old }
+    {
+        self.reach = self.reach.max(index + 1);
+        self.marks[index] = mark;
+    }
+
+    // Notes all tasks of the place with this number anew.
+    #[tactic(auto, using(crate::proofs::Renoting::note_steps))]
+    fn renote<R: Rows>(&mut self, rows: &R, service: &Service, number: u64)
+        requires usable { IsUsable (R.tables rows.now) }
+        ensures { (others : List ℕ) → ShowsOthers self.old (R.tables rows.now) service.now (number ∷ others) →
+            ShowsOthers self.new (R.tables rows.now) service.now others }
+    {
+        if number < WIDTH as u64 {
+            self.set_mark(number as usize, mark_of(rows, service, number));
+        }
+    }
+
+    /// Notes the tasks of these places anew.
+    #[tactic(auto, using(crate::proofs::Renoting::shows_all))]
+    pub fn renote_all<R: Rows>(&mut self, rows: &R, service: &Service, numbers: &[u64])
+        requires usable { IsUsable (R.tables rows.now) }
+        requires others { ShowsOthers self.old (R.tables rows.now) service.now numbers.now }
+        ensures { let t = R.tables rows.now in ShowsPlaces self.new t service.now t.tasks }
+    {
+        for number in numbers {
+            self.renote(rows, service, *number);
         }
     }
 

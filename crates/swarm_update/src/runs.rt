@@ -30,8 +30,8 @@ pub fn is_present(service: &Service, run: &UpdateRun) -> bool
     is_under_way(run) && is_of_version(service, run)
 }
 
-// A task that is in this state has failed its update.
-fn counts_as_failure(state: TaskState) -> bool
+/// A task that is in this state has failed its update.
+pub fn counts_as_failure(state: TaskState) -> bool
     ensures { result ≡ counts_as_failure state }
 {
     match state {

@@ -1,12 +1,13 @@
 // One pass over a service's tasks, and all that a look at its update asks of it.
-ghost use Rattle.std.specs.Prelude.{◌≡◌, ◌*◌, count_by, filter, nat_lt};
+ghost use Rattle.std.specs.Prelude.{◌≡◌, ◌*◌, count_by, filter, nat_lt, true};
 ghost use Rattle.std.specs.List.{list_any};
 ghost use Rattle.swarm_objects.specs.Loops.Update.{is_to_replace, is_to_swap};
 ghost use Rattle.swarm_objects.specs.Rows.{first_of};
-ghost use Rattle.swarm_objects.specs.Services.Runs.{has_room, in_flight, is_exceeded, is_failure, is_flying, is_in_flight};
+ghost use Rattle.swarm_objects.specs.Services.Runs.{failures, has_room, in_flight, is_exceeded, is_failure, is_flying, is_in_flight};
 ghost use Rattle.swarm_objects.specs.Tasks.Places.{has_dirty_place, place_numbers, tasks_of_place};
 ghost use Rattle.swarm_objects.specs.Tasks.Words.{is_of};
 ghost use Rattle.swarm_objects.specs.Usable.{IsUsable};
+ghost use Rattle.swarm_update.specs.KnownSurvey.{ShowsOthers};
 ghost use Rattle.swarm_update.specs.Marks.{noted_all, ShowsPlaces};
 ghost use Rattle.swarm_update.specs.Surveys.{Tells};
 
@@ -40,6 +41,53 @@ fn pass<R: Rows>(rows: &R, service: &Service, run: &UpdateRun) -> Survey
         }
     }
     Survey { places, failures }
+}
+
+// How many tasks have failed the run.
+#[tactic(auto, using(crate::proofs::Steps::failure_steps))]
+fn count_failures<R: Rows>(rows: &R, service: &Service, run: &UpdateRun) -> u64
+    requires { IsUsable (R.tables rows.now) }
+    ensures { let t = R.tables rows.now in
+        result ≡ count_by (is_failure service.now run.now) (filter (is_of service.now.id) t.tasks) }
+{
+    let mut failures = 0;
+    for task in tasks_of(rows, service.id) {
+        if is_failure(service, run, task) {
+            failures += 1;
+        }
+    }
+    failures
+}
+
+impl Survey {
+    /// No task was gone over.
+    pub fn blank() -> Survey {
+        Survey {
+            places: Places::blank(),
+            failures: 0,
+        }
+    }
+
+    /// Goes over the tasks of these places again, where it tells of all others, and counts the failures where they
+    /// aren't so any more.
+    pub fn renew<R: Rows>(
+        &mut self,
+        rows: &R,
+        service: &Service,
+        run: &UpdateRun,
+        stale: &[u64],
+        is_counted: bool,
+    )
+        requires usable { IsUsable (R.tables rows.now) }
+        requires others { ShowsOthers self.old.places (R.tables rows.now) service.now stale.now }
+        requires counted { is_counted ≡ true → self.old.failures ≡ failures (R.tables rows.now) service.now run.now }
+        ensures { Tells self.new (R.tables rows.now) service.now run.now }
+    {
+        self.places.renote_all(rows, service, stale);
+        if !is_counted {
+            self.failures = count_failures(rows, service, run);
+        }
+    }
 }
 
 /// Goes over the tasks of the service, which has this run.

@@ -1,0 +1,122 @@
+-- What is remembered of the services whose updates were looked at last, and which changes leave it so.
+use Rattle.std.specs.Prelude.{Bool, List, Some, [], false, filter, if◌then◌else◌, length, nat_lt, not, true, ℕ, ⊤, IfSome, ◌&&◌, ◌+◌, ◌<◌, ◌==◌, ◌||◌, ◌≡◌, ◌∷◌, max, set}
+use Rattle.std.specs.List.{list_any}
+use Rattle.role_words.specs.Marks.{has_number, tasks_at}
+use Rattle.swarm_objects.specs.Rows.{is_row_and, row_at, service_id, task_id}
+use Rattle.swarm_objects.specs.Services.Runs.{counts_as_failure, failures}
+use Rattle.swarm_objects.specs.Services.Words.{is_dirty}
+use Rattle.swarm_objects.specs.Tasks.Places.{place_number}
+use Rattle.swarm_objects.specs.Tasks.Words.{is_of}
+use Rattle.swarm_objects.specs.World.{Tables}
+use Rattle.swarm_objects.specs.declared.rows.Change.{Change}
+use Rattle.swarm_objects.specs.declared.rows.Change.TheVariants as change
+use Rattle.swarm_objects.specs.declared.services.Service.{Service}
+use Rattle.swarm_objects.specs.declared.services.UpdateRun.{UpdateRun}
+use Rattle.swarm_objects.specs.declared.tasks.Task.{Task}
+use Rattle.swarm_update.specs.Marks.{mark_at, mark_of}
+use Rattle.swarm_update.specs.declared.known_survey.Kept.{Kept}
+use Rattle.swarm_update.specs.declared.known_survey.KnownSurvey.{KnownSurvey}
+use Rattle.swarm_update.specs.declared.known_survey.Subject.{Subject}
+use Rattle.swarm_update.specs.declared.marks.Mark.{Mark}
+use Rattle.swarm_update.specs.declared.marks.Places.{Places}
+use Rattle.swarm_update.specs.declared.marks.TheConstants.{WIDTH}
+use Rattle.swarm_update.specs.declared.survey.Survey.{Survey}
+
+-- it is one of these numbers
+abbrev pub is_among : List ℕ → ℕ → Bool
+is_among numbers k = list_any (λ j. j == k) numbers
+
+-- the marks are what the tasks say of the service's places, but of these
+pub record ShowsOthers (v : Places) (t : Tables) (s : Service) (stale : List ℕ) : Type 0 where
+  pub wide : length v.marks ≡ WIDTH
+  pub marks : (k : ℕ) → k < WIDTH → is_among stale k ≡ false → mark_at v k ≡ mark_of t s (tasks_at s t.tasks k)
+  pub reach : (k : ℕ) → has_number s t.tasks k ≡ true → k < WIDTH → is_among stale k ≡ false → k < v.reach
+  pub far : v.has_far ≡ false → (k : ℕ) → has_number s t.tasks k ≡ true → k < WIDTH
+
+-- with another mark of the place with this number
+abbrev pub with_mark : ℕ → Mark → Places → Places
+with_mark k m v = record v { marks = set v.marks k m; reach = max v.reach (k + 1) }
+
+-- the survey tells of the service what it is kept for
+pub record IsSo (v : Survey) (k : Subject) (t : Tables) (s : Service) : Type 0 where
+  pub places : ShowsOthers v.places t s k.stale
+  pub failures : k.is_counted ≡ true → (run : UpdateRun) → run.version ≡ k.version → v.failures ≡ failures t s run
+
+-- where the service is there
+pub record IsOf (t : Tables) (v : Survey) (k : Subject) : Type 0 where
+  pub each : (s : Service) → row_at service_id k.service t.services ≡ Some s → IsSo v k t s
+
+-- whatever is remembered of a run is so
+abbrev pub KnowsKept : Tables → Kept → Type 0
+KnowsKept t kept = IfSome kept.subject (IsOf t kept.survey)
+
+-- the service with this id, where it is there, has no dirty task
+pub record HasNoDirty (t : Tables) (id : ℕ) : Type 0 where
+  pub each : (s : Service) → row_at service_id id t.services ≡ Some s
+      → list_any (is_dirty s) (filter (is_of s.id) t.tasks) ≡ false
+
+-- whatever is remembered is so
+pub record Knows (t : Tables) (known : KnownSurvey) : Type 0 where
+  pub survey : IfSome known.kept (λ kept. KnowsKept t kept.value)
+  pub clean : IfSome known.clean (HasNoDirty t)
+
+-- The changes.
+
+-- the task is one of the run's, and has ended so that it may be one of its failures
+abbrev pub may_fail : ℕ → Task → Bool
+may_fail version x = x.born == version && counts_as_failure x.state
+
+-- the marks don't tell of the place with this number
+abbrev pub leaves_out : Subject → Bool → ℕ → Bool
+leaves_out k far number = if nat_lt number WIDTH then is_among k.stale number else far
+
+-- whether the task is there matters
+abbrev pub touches : Subject → Bool → Task → Bool
+touches k far x =
+    is_of k.service x
+    && (not (leaves_out k far (place_number x.place)) || (k.is_counted && may_fail k.version x))
+
+-- the row with the service's id is the same, in what a survey and the test of dirty tasks read
+pub record HasAlike (t : Tables) (s : Service) : Type 0 where
+  pub row : Service
+  pub is : row_at service_id s.id t.services ≡ Some row
+  pub spec : s.spec ≡ row.spec
+  pub iteration : s.iteration ≡ row.iteration
+
+-- the change leaves what is remembered
+abbrev pub Leaves : Tables → Subject → Bool → Change → Type 0
+Leaves t k far (change.PutNode n) = ⊤
+Leaves t k far (change.PutService s) = s.id ≡ k.service → HasAlike t s
+Leaves t k far (change.PutTask x) =
+    (touches k far x ≡ false) × (is_row_and task_id (touches k far) t.tasks x.id ≡ false)
+Leaves t k far (change.DropTask id) = is_row_and task_id (touches k far) t.tasks id ≡ false
+Leaves t k far (change.Keep a) = ⊤
+
+-- all of them do
+abbrev pub LeaveAll : Tables → Subject → Bool → List Change → Type 0
+LeaveAll t k far [] = ⊤
+LeaveAll t k far (c ∷ cs) = Leaves t k far c × LeaveAll t k far cs
+
+-- the task is a dirty one of the service with this id
+abbrev pub is_dirty_of : Tables → ℕ → Task → Bool
+is_dirty_of t id x = is_of id x && is_row_and service_id (λ s. is_dirty s x) t.services id
+
+-- the change gives the service with this id no dirty task
+abbrev pub StaysClean : Tables → ℕ → Change → Type 0
+StaysClean t id (change.PutNode n) = ⊤
+StaysClean t id (change.PutService s) = s.id ≡ id → HasAlike t s
+StaysClean t id (change.PutTask x) = is_dirty_of t id x ≡ false
+StaysClean t id (change.DropTask i) = ⊤
+StaysClean t id (change.Keep a) = ⊤
+
+-- none of them does
+abbrev pub AllStayClean : Tables → ℕ → List Change → Type 0
+AllStayClean t id [] = ⊤
+AllStayClean t id (c ∷ cs) = StaysClean t id c × AllStayClean t id cs
+
+-- the same with more stale places, or without the failures
+pub record IsLess (before after : Subject) : Type 0 where
+  pub service : after.service ≡ before.service
+  pub version : after.version ≡ before.version
+  pub counted : after.is_counted ≡ true → before.is_counted ≡ true
+  pub stale : (k : ℕ) → k < WIDTH → is_among after.stale k ≡ false → is_among before.stale k ≡ false

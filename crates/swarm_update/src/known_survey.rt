@@ -1,0 +1,465 @@
+// The survey of the service whose update was looked at last, kept from one look to the next, so that only places whose
+// tasks changed are noted anew; and a service that has no dirty task, so that its tasks aren't gone over at each look.
+ghost use Rattle.std.specs.Prelude.{◌≡◌, IfSome, IsTrue, None, Some, false, filter, true};
+ghost use Rattle.std.specs.List.{list_any};
+ghost use Rattle.swarm_objects.specs.ChangeLists.{apply_changes};
+ghost use Rattle.swarm_objects.specs.Loops.Update.{is_to_start, run_duties, update_duties};
+ghost use Rattle.swarm_objects.specs.Rows.{first_of, is_row_and, row_at, service_id, task_id};
+ghost use Rattle.swarm_objects.specs.Services.Runs.{failures};
+ghost use Rattle.swarm_objects.specs.Services.Words.{is_dirty};
+ghost use Rattle.swarm_objects.specs.Tasks.Places.{has_dirty_place};
+ghost use Rattle.swarm_objects.specs.Tasks.Words.{is_of};
+ghost use Rattle.swarm_objects.specs.Usable.{IsUsable};
+ghost use Rattle.swarm_objects.specs.World.{Tables};
+ghost use Rattle.swarm_update.specs.KnownSurvey.{HasAlike, IsLess, IsSo, IsOf, Knows, KnowsKept, LeaveAll, Leaves, is_among, leaves_out, may_fail, touches};
+ghost use Rattle.swarm_update.specs.Surveys.{Tells};
+
+use crate::clean::{has_dirty_task, left_clean};
+use crate::first_open;
+use crate::marks::WIDTH;
+use crate::runs::{counts_as_failure, has_present_run};
+use crate::survey::{Survey, go_over};
+use role_words::is_under_way;
+use std::alloc::Global;
+use swarm_objects::{Change, Duty, Id, Rows, Same, Service, Task, UpdateRun, Version};
+
+// How many places may be stale.
+const STALE: usize = 16;
+
+// The service and run that a survey is of, and what of it isn't so any more.
+#[derive(Clone, Copy, Drop)]
+struct Subject {
+    service: Id,
+    // that of the run
+    version: Version,
+    // its failures are so
+    is_counted: bool,
+    // the numbers of places whose tasks changed; those from the width on stand for none
+    stale: [u64; STALE],
+}
+
+// A survey that is kept, where it is of something.
+#[derive(Drop)]
+struct Kept {
+    survey: Survey,
+    subject: Option<Subject>,
+}
+
+/// What is remembered of the services whose updates were looked at last.
+#[derive(Drop)]
+pub struct KnownSurvey {
+    // None where no survey is ever kept
+    alloc: Option<Global>,
+    // made at the first look, in a box since it is large
+    kept: Option<Box<Kept>>,
+    // a service that has no dirty task
+    clean: Option<Id>,
+}
+
+// The task is one of the run's, and has ended so that it may be one of its failures.
+fn may_fail(version: Version, task: &Task) -> bool
+    ensures { result ≡ may_fail version task.now }
+{
+    task.born == version && counts_as_failure(task.state)
+}
+
+/// The row with the service's id is the same, in what a survey and the test of dirty tasks read.
+pub fn has_alike<R: Rows>(rows: &R, service: &Service) -> bool
+    ensures { IsTrue result → HasAlike (R.tables rows.now) service.now }
+{
+    match rows.service(service.id) {
+        Some(row) => service.iteration == row.iteration && service.spec.same(&row.spec),
+        None => false,
+    }
+}
+
+impl Subject {
+    // What a new survey is of.
+    fn of(service: &Service, run: &UpdateRun) -> Subject
+        ensures service { result.service ≡ service.now.id }
+        ensures version { result.version ≡ run.now.version }
+    {
+        Subject {
+            service: service.id,
+            version: run.version,
+            is_counted: true,
+            stale: [u64::MAX; STALE],
+        }
+    }
+
+    // The place with this number is stale.
+    fn is_stale(&self, number: u64) -> bool
+        ensures { result ≡ is_among self.now.stale number }
+    {
+        self.stale.iter().any(|other| *other == number)
+    }
+
+    // The marks don't tell of the place with this number.
+    fn leaves_out(&self, far: bool, number: u64) -> bool
+        ensures { result ≡ leaves_out self.now far number }
+    {
+        if number < WIDTH as u64 {
+            self.is_stale(number)
+        } else {
+            far
+        }
+    }
+
+    // Whether the task is there matters.
+    fn touches(&self, far: bool, task: &Task) -> bool
+        ensures { result ≡ touches self.now far task.now }
+    {
+        task.is_of(self.service)
+            && (!self.leaves_out(far, task.place.place_number())
+                || (self.is_counted && may_fail(self.version, task)))
+    }
+
+    // Of the task with this id.
+    fn touches_row<R: Rows>(&self, far: bool, rows: &R, task: Id) -> bool
+        ensures { result ≡ is_row_and task_id (touches self.now far) (R.tables rows.now).tasks task }
+    {
+        match rows.task(task) {
+            Some(task) => self.touches(far, task),
+            None => false,
+        }
+    }
+
+    // The change leaves what is remembered.
+    fn leaves<R: Rows>(&self, far: bool, rows: &R, change: &Change) -> bool
+        ensures { IsTrue result → Leaves (R.tables rows.now) self.now far change.now }
+    {
+        match change {
+            Change::PutNode(_) | Change::Keep(_) => true,
+            Change::PutService(put) => put.id != self.service || has_alike(rows, put),
+            Change::PutTask(task) => {
+                !self.touches(far, task) && !self.touches_row(far, rows, task.id)
+            }
+            Change::DropTask(task) => !self.touches_row(far, rows, *task),
+        }
+    }
+
+    // All of them do.
+    fn all_leave<R: Rows>(&self, far: bool, rows: &R, changes: &[Change]) -> bool
+        ensures { IsTrue result → LeaveAll (R.tables rows.now) self.now far changes.now }
+    {
+        for change in changes {
+            if !self.leaves(far, rows, change) {
+                return false;
+            }
+        }
+        true
+    }
+
+    // The place with this number is stale, too, where there is room for it.
+    fn add_stale(&mut self, number: u64)
+        ensures { IsLess self.old self.new }
+    {
+        for index in 0..STALE {
+            if self.stale[index] >= WIDTH as u64 {
+                self.stale[index] = number;
+                return;
+            }
+        }
+    }
+
+    // The place of the task is stale, and so are the failures where it may be one.
+    #[tactic(auto, using(crate::proofs::Leaving::less_steps))]
+    fn forget_task(&mut self, task: &Task)
+        ensures { IsLess self.old self.new }
+    {
+        if !task.is_of(self.service) {
+            return;
+        }
+        if may_fail(self.version, task) {
+            self.is_counted = false;
+        }
+        let number = task.place.place_number();
+        if number < WIDTH as u64 && !self.is_stale(number) {
+            self.add_stale(number);
+        }
+    }
+
+    // That of the task with this id.
+    #[tactic(auto, using(crate::proofs::Leaving::less_steps))]
+    fn forget_row<R: Rows>(&mut self, rows: &R, task: Id)
+        ensures { IsLess self.old self.new }
+    {
+        if let Some(task) = rows.task(task) {
+            self.forget_task(task);
+        }
+    }
+
+    // Those of the tasks that the change puts or drops, as they are and as they were.
+    #[tactic(auto, using(crate::proofs::Leaving::less_steps))]
+    fn forget_change<R: Rows>(&mut self, rows: &R, change: &Change)
+        ensures { IsLess self.old self.new }
+    {
+        match change {
+            Change::PutTask(task) => {
+                self.forget_task(task);
+                self.forget_row(rows, task.id);
+            }
+            Change::DropTask(task) => self.forget_row(rows, *task),
+            _ => (),
+        }
+    }
+
+    // Those of all tasks that the changes put or drop.
+    #[tactic(auto, using(crate::proofs::Leaving::less_steps))]
+    fn forget_changes<R: Rows>(&mut self, rows: &R, changes: &[Change])
+        ensures { IsLess self.old self.new }
+    {
+        for change in changes {
+            self.forget_change(rows, change);
+        }
+    }
+
+    // What is left of it both before and after these changes.
+    fn without<R: Rows>(mut self, far: bool, rows: &R, changes: &[Change]) -> Option<Subject>
+        ensures less { IfSome result (IsLess self) }
+        ensures leaves { IfSome result (λ k. LeaveAll (R.tables rows.now) k far changes.now) }
+    {
+        self.forget_changes(rows, changes);
+        if self.all_leave(far, rows, changes) {
+            Some(self)
+        } else {
+            None
+        }
+    }
+}
+
+impl Kept {
+    // Of nothing.
+    fn blank() -> Kept
+        ensures { result.subject ≡ None }
+    {
+        Kept {
+            survey: Survey::blank(),
+            subject: None,
+        }
+    }
+
+    fn forget_changed<R: Rows>(&mut self, rows: &R, changes: &[Change])
+        requires usable { IsUsable (R.tables rows.now) }
+        requires knows { KnowsKept (R.tables rows.now) self.old }
+        ensures stays { KnowsKept (R.tables rows.now) self.new }
+        ensures goes_on { KnowsKept (apply_changes (R.tables rows.now) changes.now) self.new }
+    {
+        let Some(subject) = &self.subject else {
+            return;
+        };
+        let far = self.survey.places.has_far;
+        if subject.all_leave(far, rows, changes) {
+            return;
+        }
+        self.subject = subject.without(far, rows, changes);
+    }
+
+    // What the survey is of, where that is this run of the service.
+    fn recall<R: Rows>(&self, rows: &R, service: &Service, run: &UpdateRun) -> Option<Subject>
+        requires knows { KnowsKept (R.tables rows.now) self.now }
+        requires row { row_at service_id service.now.id (R.tables rows.now).services ≡ Some service.now }
+        ensures so { IfSome result (λ k. IsSo self.now.survey k (R.tables rows.now) service.now) }
+        ensures version { IfSome result (λ k. run.now.version ≡ k.version) }
+    {
+        match self.subject {
+            Some(subject) if subject.service == service.id && subject.version == run.version => {
+                Some(subject)
+            }
+            _ => None,
+        }
+    }
+
+    // Has the survey of this run of the service.
+    fn look<R: Rows>(&mut self, rows: &R, service: &Service, run: &UpdateRun)
+        requires usable { IsUsable (R.tables rows.now) }
+        requires knows { KnowsKept (R.tables rows.now) self.old }
+        requires row { row_at service_id service.now.id (R.tables rows.now).services ≡ Some service.now }
+        ensures tells { Tells self.new.survey (R.tables rows.now) service.now run.now }
+        ensures knows { KnowsKept (R.tables rows.now) self.new }
+    {
+        match self.recall(rows, service, run) {
+            Some(subject) => {
+                let survey = &mut self.survey;
+                survey.renew(rows, service, run, &subject.stale, subject.is_counted);
+            }
+            None => self.survey = go_over(rows, service, run),
+        }
+        self.subject = Some(Subject::of(service, run));
+    }
+}
+
+impl KnownSurvey {
+    /// Nothing is remembered, and nothing will be that takes memory.
+    pub fn none() -> KnownSurvey
+        ensures { (t : Tables) → Knows t result }
+    {
+        KnownSurvey {
+            alloc: None,
+            kept: None,
+            clean: None,
+        }
+    }
+
+    /// Nothing is remembered. The first look at a run takes the memory, where there is some.
+    pub fn new(alloc: Global) -> KnownSurvey
+        ensures { (t : Tables) → Knows t result }
+    {
+        KnownSurvey {
+            alloc: Some(alloc),
+            kept: None,
+            clean: None,
+        }
+    }
+
+    /// Nothing is remembered any more.
+    pub fn forget_all(&mut self)
+        ensures { (t : Tables) → Knows t self.new }
+    {
+        if let Some(kept) = &mut self.kept {
+            kept.subject = None;
+        }
+        self.clean = None;
+    }
+
+    /// Forgets what these changes may change, before they are made. What is left is so before and after.
+    pub fn forget_changed<R: Rows>(&mut self, rows: &R, changes: &[Change])
+        requires usable { IsUsable (R.tables rows.now) }
+        requires knows { Knows (R.tables rows.now) self.old }
+        ensures stays { Knows (R.tables rows.now) self.new }
+        ensures goes_on { Knows (apply_changes (R.tables rows.now) changes.now) self.new }
+    {
+        if let Some(kept) = &mut self.kept {
+            kept.forget_changed(rows, changes);
+        }
+        self.clean = left_clean(rows, self.clean, changes);
+    }
+
+    // Has a place for a survey, where there is memory.
+    fn make_room(&mut self)
+        ensures { (t : Tables) → Knows t self.old → Knows t self.new }
+    {
+        if self.kept.is_some() {
+            return;
+        }
+        let Some(alloc) = self.alloc else {
+            return;
+        };
+        if let Ok(kept) = Box::new(alloc, Kept::blank()) {
+            self.kept = Some(kept);
+        }
+    }
+
+    // Has the survey of this run of the service, where there is memory.
+    fn look<R: Rows>(&mut self, rows: &R, service: &Service, run: &UpdateRun)
+        requires usable { IsUsable (R.tables rows.now) }
+        requires knows { Knows (R.tables rows.now) self.old }
+        requires row { row_at service_id service.now.id (R.tables rows.now).services ≡ Some service.now }
+        ensures tells { IfSome self.new.kept (λ kept. Tells kept.value.survey (R.tables rows.now) service.now run.now) }
+        ensures knows { Knows (R.tables rows.now) self.new }
+    {
+        self.make_room();
+        if let Some(kept) = &mut self.kept {
+            kept.look(rows, service, run);
+        }
+    }
+
+    // It is remembered that the service has no dirty task.
+    #[tactic(auto, using(crate::proofs::Clearing::known_clean))]
+    fn is_clean<R: Rows>(&self, rows: &R, service: &Service) -> bool
+        requires knows { Knows (R.tables rows.now) self.now }
+        requires row { row_at service_id service.now.id (R.tables rows.now).services ≡ Some service.now }
+        ensures { let t = R.tables rows.now in
+            IsTrue result → list_any (is_dirty service.now) (filter (is_of service.now.id) t.tasks) ≡ false }
+    {
+        match self.clean {
+            Some(clean) => clean == service.id,
+            None => false,
+        }
+    }
+
+    // A place of the service is dirty. Where none of its tasks is, that is remembered.
+    #[tactic(auto, using(crate::proofs::Clearing::clean_steps))]
+    fn has_dirty_place<R: Rows>(&mut self, rows: &R, service: &Service) -> bool
+        requires usable { IsUsable (R.tables rows.now) }
+        requires knows { Knows (R.tables rows.now) self.old }
+        requires row { row_at service_id service.now.id (R.tables rows.now).services ≡ Some service.now }
+        ensures is { result ≡ has_dirty_place (R.tables rows.now) service.now }
+        ensures knows { Knows (R.tables rows.now) self.new }
+    {
+        if self.is_clean(rows, service) {
+            return false;
+        }
+        if has_dirty_task(rows, service) {
+            return role_words::has_dirty_place(rows, service);
+        }
+        self.clean = Some(service.id);
+        false
+    }
+}
+
+// As `is_to_start`, by what is remembered of the service.
+fn is_to_start_by<R: Rows>(rows: &R, known: &mut KnownSurvey, service: &Service) -> bool
+    requires usable { IsUsable (R.tables rows.now) }
+    requires knows { Knows (R.tables rows.now) known.old }
+    requires row { row_at service_id service.now.id (R.tables rows.now).services ≡ Some service.now }
+    ensures is { result ≡ is_to_start (R.tables rows.now) service.now }
+    ensures knows { Knows (R.tables rows.now) known.new }
+{
+    !has_present_run(service) && known.has_dirty_place(rows, service)
+}
+
+// What there is to do about a run, by what is remembered of it.
+fn first_of_run<R: Rows>(
+    rows: &R,
+    known: &mut KnownSurvey,
+    service: &Service,
+    run: &UpdateRun,
+) -> Option<Duty>
+    requires usable { IsUsable (R.tables rows.now) }
+    requires knows { Knows (R.tables rows.now) known.old }
+    requires row { row_at service_id service.now.id (R.tables rows.now).services ≡ Some service.now }
+    ensures duty { result ≡ first_of (run_duties (R.tables rows.now) service.now (Some run.now)) }
+    ensures knows { Knows (R.tables rows.now) known.new }
+{
+    if !is_under_way(run) {
+        return None;
+    }
+    known.look(rows, service, run);
+    match &known.kept {
+        Some(kept) => first_open(&kept.survey, rows, service, run),
+        None => first_open(&go_over(rows, service, run), rows, service, run),
+    }
+}
+
+// The same, where the service has a run.
+fn run_duty<R: Rows>(rows: &R, known: &mut KnownSurvey, service: &Service) -> Option<Duty>
+    requires usable { IsUsable (R.tables rows.now) }
+    requires knows { Knows (R.tables rows.now) known.old }
+    requires row { row_at service_id service.now.id (R.tables rows.now).services ≡ Some service.now }
+    ensures duty { result ≡ first_of (run_duties (R.tables rows.now) service.now service.now.run) }
+    ensures knows { Knows (R.tables rows.now) known.new }
+{
+    match &service.run {
+        Some(run) => first_of_run(rows, known, service, run),
+        None => None,
+    }
+}
+
+/// As `update_duty`, by what is remembered of the service, whose run is remembered then.
+#[tactic(auto, using(crate::proofs::Steps::first_steps))]
+pub fn update_duty_by<R: Rows>(rows: &R, known: &mut KnownSurvey, service: &Service) -> Option<Duty>
+    requires usable { IsUsable (R.tables rows.now) }
+    requires knows { Knows (R.tables rows.now) known.old }
+    requires row { row_at service_id service.now.id (R.tables rows.now).services ≡ Some service.now }
+    ensures duty { result ≡ first_of (update_duties (R.tables rows.now) service.now service.now.spec.mode) }
+    ensures knows { Knows (R.tables rows.now) known.new }
+{
+    if service.spec.mode.is_job() {
+        return None;
+    }
+    if is_to_start_by(rows, known, service) {
+        return Some(Duty::Start(service.id));
+    }
+    run_duty(rows, known, service)
+}
