@@ -147,3 +147,37 @@ same-rows key m n (x ∷ xs) (y ∷ ys) r q same =
         ap (λ zs. x ∷ zs) (below ys r' (tails key x xs ys r.1 r' same')) ∙ ap (λ z. z ∷ ys) e
     go (inr lt) (inl e) below = absurd (let is : key y ≡ key x = ap key e in omega (arith, lt, is))
     go (inr lt) (inr gt) below = absurd (omega (arith, lt, gt))
+
+-- without one row, whether it was put or dropped before
+pub gone_with : {X : Type 0} (key : X → ℕ) (new : X) (rows : List X) →
+    drop_row key (key new) (with_row key new rows) ≡ drop_row key (key new) rows
+gone_with key new [] = go (eqb (key new) (key new)) refl
+  where
+    go : (b : Bool) → eqb (key new) (key new) ≡ b → cond (not b) (new ∷ []) [] ≡ []
+    go true p = refl
+    go false p = absurd (grind (arith, nat_tests))
+gone_with key new (x ∷ rows) =
+    go (ltb (key new) (key x)) refl (eqb (key new) (key x)) refl (eqb (key new) (key new)) refl (eqb (key x) (key new)) refl
+    (gone_with key new rows)
+  where
+    go : (a : Bool) → ltb (key new) (key x) ≡ a → (b : Bool) → eqb (key new) (key x) ≡ b → (c : Bool) → eqb (key new) (key new) ≡ c →
+        (d : Bool) → eqb (key x) (key new) ≡ d →
+        drop_row key (key new) (with_row key new rows) ≡ drop_row key (key new) rows →
+        drop_row key (key new) (cond a (new ∷ x ∷ rows) (cond b (new ∷ rows) (x ∷ with_row key new rows))) ≡
+        cond (not d) (x ∷ drop_row key (key new) rows) (drop_row key (key new) rows)
+    go a p b q false r d s below = absurd (grind (arith, nat_tests))
+    go true p b q true r d s below = rw (r, s) refl
+    go false p true q true r true s below = rw r refl
+    go false p true q true r false s below = absurd (grind (arith, nat_tests))
+    go false p false q true r true s below = absurd (grind (arith, nat_tests))
+    go false p false q true r false s below = rw s (ap (λ ys. x ∷ ys) below)
+
+pub gone_twice : {X : Type 0} (key : X → ℕ) (id : ℕ) (rows : List X) → drop_row key id (drop_row key id rows) ≡ drop_row key id rows
+gone_twice key id [] = refl
+gone_twice key id (x ∷ rows) = go (eqb (key x) id) refl (gone_twice key id rows)
+  where
+    go : (b : Bool) → eqb (key x) id ≡ b → drop_row key id (drop_row key id rows) ≡ drop_row key id rows →
+        drop_row key id (cond (not b) (x ∷ drop_row key id rows) (drop_row key id rows)) ≡
+        cond (not b) (x ∷ drop_row key id rows) (drop_row key id rows)
+    go true p below = below
+    go false p below = rw p (ap (λ ys. x ∷ ys) below)

@@ -6,8 +6,8 @@ use Rattle.swarm_index.specs.Index.{RowsWithRoom}
 use Rattle.swarm_objects.proofs.Orders.{before-le, put_before}
 use Rattle.swarm_objects.proofs.RowLemmas.{Has-from_row_at, RisesFrom-filter, row_at-None_below}
 use Rattle.swarm_objects.specs.Rows.{Has, IsRising, RisesFrom, drop_row, has_row, is_some_and, row_at, rows_before, with_number, with_row}
-use Rattle.swarm_store.proofs.ByKey.{at-drop, at-with, rises-with, same-rows}
-use Rattle.swarm_store.specs.Inside.Tracking.{AreImages, GoBackAsBefore, IsCounted, IsImage, IsTracked, before_id, put_back, remembered, restored}
+use Rattle.swarm_store.proofs.ByKey.{at-drop, at-with, gone_twice, gone_with, rises-with, same-rows}
+use Rattle.swarm_store.specs.Inside.Tracking.{AreImages, GoBackAsBefore, IsImage, IsTracked, before_id, count_back, put_back, remembered, restored}
 use Rattle.swarm_store.specs.declared.tracked.Before.{Before}
 
 abbrev before_row : {X : Type 0} → Before X → Option X
@@ -335,23 +335,6 @@ length-last : {X : Type 0} (xs : List X) (x : X) → length (xs ++ x ∷ []) ≡
 length-last [] x = refl
 length-last (y ∷ xs) x = (let more = length-last xs x in omega (arith, more))
 
--- where all is put back
-pub tracked-none : {X : Type 0} (key : X → ℕ) (before now : List (Before X)) (rows : RowsWithRoom X) → now ≡ [] →
-    IsTracked key before rows → IsTracked key now rows
-tracked-none key before [] rows none is =
-    record { rising = is.rising; ids = tt; images = tt; room = omega arith }
-tracked-none key before (b ∷ now) rows none is = absurd cc
-
-pub counted-back : {X : Type 0} (key : X → ℕ) (before now : List (Before X)) (rows new : RowsWithRoom X)
-    (count started : ℕ) → IsCounted key before rows count started → new.rows ≡ restored key before rows.rows →
-    now ≡ [] → IsTracked key now new → IsCounted key now new started started
-counted-back key before [] rows new count started is put none tracked = record {
-  tracked = tracked;
-  now = is.start ∙ sym (ap length put);
-  start = is.start ∙ sym (ap length put);
-}
-counted-back key before (b ∷ now) rows new count started is put none tracked = absurd cc
-
 pub popped-tracked : {X : Type 0} (key : X → ℕ) (all left : List (Before X)) (b : Before X) (rows now : RowsWithRoom X) →
     IsTracked key all rows → all ≡ left ++ b ∷ [] → now.rows ≡ put_back key b rows.rows → rows.room ≤ now.room + 1 →
     IsTracked key left now
@@ -482,3 +465,37 @@ pub counted-drop : {X : Type 0} (key : X → ℕ) (id count next : ℕ) (rows ne
     next ≡ cond (has_row key id rows) (count - 1) count → count ≡ length rows → new ≡ drop_row key id rows → next ≡ length new
 counted-drop key id count next rows new r is counted put =
     is ∙ ap (λ n. cond (has_row key id rows) (n - 1) n) counted ∙ sym (ap length put ∙ length-drop_row key 0 id rows r)
+
+-- One row that is put back, with all others as they are, and how many there are then.
+
+others-of : {X : Type 0} (key : X → ℕ) (id : ℕ) (row : Option X) (rows : List X) → IsImage key id row →
+    drop_row key id (elim row [ None ↦ drop_row key id rows | Some old ↦ with_row key old (drop_row key id rows) ]) ≡
+    drop_row key id rows
+others-of key id None rows is = gone_twice key id rows
+others-of key id (Some old) rows is =
+    ap (λ k. drop_row key k (with_row key old (drop_row key id rows))) (sym is) ∙ gone_with key old (drop_row key id rows)
+    ∙ ap (λ k. drop_row key k (drop_row key id rows)) is ∙ gone_twice key id rows
+
+pub others-back : {X : Type 0} (key : X → ℕ) (b : Before X) (rows now : List X) → IsImage key b.id b.row →
+    now ≡ put_back key b rows → drop_row key b.id now ≡ drop_row key b.id rows
+others-back key b rows now is put = ap (drop_row key b.id) put ∙ others-of key b.id b.row rows is
+
+length-of : {X : Type 0} (key : X → ℕ) (id : ℕ) (row : Option X) (rows : List X) → RisesFrom key 0 rows → IsImage key id row →
+    length {A = X} (elim row [ None ↦ drop_row key id rows | Some old ↦ with_row key old (drop_row key id rows) ]) ≡
+    count_back (has_row key id rows) (is_some row) (length rows)
+length-of key id None rows r is = length-drop_row key 0 id rows r
+length-of {X} key id (Some old) rows r is =
+    let left : List X = drop_row key id rows in
+    length-put key 0 old left (RisesFrom-filter key 0 _ rows r)
+    ∙ ap (λ (o : Option X). cond (is_some o) (length {A = X} left) (length {A = X} left + 1)) (gone key id (key old) rows is)
+    ∙ ap (λ (n : ℕ). n + 1) (length-drop_row key 0 id rows r)
+
+pub counted-last : {X : Type 0} (key : X → ℕ) (b : Before X) (row : Option X) (is_there was_there : Bool) (count new : ℕ)
+    (rows now : List X) → RisesFrom key 0 rows → IsImage key b.id b.row → row ≡ row_at key b.id rows → is_there ≡ is_some row →
+    was_there ≡ is_some b.row → count ≡ length rows → new ≡ count_back is_there was_there count → now ≡ put_back key b rows →
+    new ≡ length now
+counted-last key b row is_there was_there count new rows now r is there is_so was_so counted back put =
+    back ∙ ap (λ t. count_back t was_there count) (is_so ∙ ap is_some there)
+    ∙ ap (λ t. count_back (has_row key b.id rows) t count) was_so
+    ∙ ap (count_back (has_row key b.id rows) (is_some b.row)) counted
+    ∙ sym (ap length put ∙ length-of key b.id b.row rows r is)

@@ -5,7 +5,6 @@ ghost use Rattle.swarm_objects.specs.Rows.{drop_row, row_at, service_id, with_ro
 ghost use Rattle.store_ports.specs.Counts.{AreTimes, MovesAll, is_other, own_times, times_of};
 
 use crate::tracked::Tracked;
-use crate::walks::all;
 use std::alloc::Global;
 use std::marker::Model;
 use store_ports::{PortCounts, times};
@@ -47,14 +46,12 @@ fn enter(rows: &Tracked<Service>, ports: &mut PortCounts, id: Id)
     }
 }
 
-// Counts the numbers of all rows.
-fn count_all(rows: &Tracked<Service>, ports: &mut PortCounts)
-    ensures { AreTimes ports.new rows.now.rows }
+// The numbers of what a row was are no longer counted.
+fn leave_row(ports: &mut PortCounts, row: &Option<Service>)
+    ensures { MovesAll false (λ udp n. times_of udp n row.now) ports.old ports.new }
 {
-    rows.rise();
-    ports.clear();
-    for service in all(rows) {
-        ports.enter(service);
+    if let Some(service) = row {
+        ports.leave(service);
     }
 }
 
@@ -138,11 +135,24 @@ impl Services {
         ensures start { self.new.start ≡ self.old.start }
         ensures changed { self.new.changed ≡ 0 }
     {
-        let is_same = self.rows.changed() == 0;
-        self.rows.take_back();
-        if !is_same {
-            count_all(&self.rows, &mut self.ports);
-        }
+        while self.take_back_last() {}
+    }
+
+    // The last one of the rows that changed is again what it was; false where none changed.
+    fn take_back_last(&mut self) -> bool
+        ensures start { self.new.start ≡ self.old.start }
+        ensures fewer { result ≡ true → self.new.changed < self.old.changed }
+        ensures none { result ≡ false → self.new.changed ≡ 0 }
+        ensures back { result ≡ false → self.new.rows ≡ self.new.start }
+    {
+        self.rows.rise();
+        let Some(was) = self.rows.take_back_last() else {
+            return false;
+        };
+        self.rows.rise();
+        leave_row(&mut self.ports, &was.row);
+        enter(&self.rows, &mut self.ports, was.id);
+        true
     }
 
     // The changes stay.

@@ -82,8 +82,8 @@ impl Store {
     }
 
     /// Does all of the operations as the entry with this number and gives the ids of their objects in order, 0 for
-    /// settings; or none of them: then the refusal is that of the first that is refused, TooManyOps or NoMemory. There is
-    /// at most an event of each row before and of each new one.
+    /// settings; or none of them: then the refusal is that of the first that is refused, TooManyOps or NoMemory. There
+    /// is at most an event of each row before and of each new one.
     pub fn txn(&mut self, version: Version, ops: &[Op]) -> Result<List<Id>, Refusal>
         ensures done { (w : World) → StandsFor self.old w → Transacts version ops.now w self.old result self.new }
         ensures few { OnOk result (length self.new.changes ≤ row_count self.old.tables + length ops.now) }

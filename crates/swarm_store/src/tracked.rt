@@ -1,7 +1,7 @@
 // Rows under change: what they were when the changes under way began can be had back without memory.
-ghost use Rattle.std.specs.Prelude.{ℕ, false, true, IfNone, IfOk, IfSome, ◌⊎◌, ◌*◌, ◌^◌, if◌then◌else◌, ◌-◌, ◌≡◌};
+ghost use Rattle.std.specs.Prelude.{ℕ, false, true, IfNone, IfSome, ◌⊎◌, ◌*◌, ◌^◌, if◌then◌else◌, ◌-◌, ◌≡◌};
 ghost use Rattle.std.specs.Prelude.{◌+◌, ◌<◌, ◌≤◌, ◌++◌, ◌∷◌, Bool, drop, flat_map, take, None, Some, [], OnErr};
-ghost use Rattle.std.specs.Prelude.{OnOk, filter, length, map, slice_get, ◌==◌};
+ghost use Rattle.std.specs.Prelude.{OnOk, OnSome, filter, length, map, slice_get, ◌==◌};
 ghost use Rattle.std.specs.Bool.{Decides};
 ghost use Rattle.std.specs.Option.{option_copied, option_to_list};
 ghost use Rattle.std.specs.Vec.{vec_capacity, vec_len};
@@ -9,7 +9,7 @@ ghost use Rattle.swarm_index.specs.Keys.{has_key, value_of};
 ghost use Rattle.swarm_model.specs.Changed.{event, events_of, verb_of};
 ghost use Rattle.swarm_objects.specs.Rows.{RisesFrom, drop_row, has_row, is_some_and, put_row, row_above, row_at};
 ghost use Rattle.swarm_objects.specs.Rows.{rows_before, with_row};
-ghost use Rattle.swarm_store.specs.Inside.Tracking.{DecidesRows, IsImage, IsTracked, before_id, image_events, put_back, remembered, restored};
+ghost use Rattle.swarm_store.specs.Inside.Tracking.{DecidesRows, IsImage, IsTracked, before_id, count_back, image_events, put_back, remembered, restored};
 ghost use Rattle.swarm_store.specs.Inside.Tracking.{GoBackAsBefore};
 
 use std::alloc::Global;
@@ -20,8 +20,8 @@ use swarm_objects::{Event, Id, Kind, NoMemory, Same, Verb, Version};
 // What the row with this id was before it changed, if there was one.
 #[derive(Drop)]
 pub(crate) struct Before<R> {
-    id: Id,
-    row: Option<R>,
+    pub(crate) id: Id,
+    pub(crate) row: Option<R>,
 }
 
 // Rows, and what each changed one was, by rising id. There is room in the index to put all of them back.
@@ -29,9 +29,8 @@ pub(crate) struct Before<R> {
 pub(crate) struct Tracked<R: Row + Drop> {
     rows: Indexed<R>,
     before: Vec<Before<R>>,
-    // How many rows there are, and were.
+    // How many rows there are.
     count: usize,
-    started: usize,
 }
 
 impl<R: Row + Drop> Model for Tracked<R> {
@@ -47,7 +46,7 @@ impl<R: Row + Drop> Model for Tracked<R> {
       changed = length t.before.items;
     } };
 
-    ghost invariant = { λ t. IsCounted R.id_of t.before.items t.rows t.count t.started };
+    ghost invariant = { λ t. IsCounted R.id_of t.before.items t.rows t.count };
 }
 
 impl<R: Row + Drop> Tracked<R> {
@@ -60,7 +59,6 @@ impl<R: Row + Drop> Tracked<R> {
             rows: Indexed::new(alloc),
             before: Vec::new(alloc),
             count: 0,
-            started: 0,
         }
     }
 
@@ -141,8 +139,21 @@ impl<R: Row + Drop> Tracked<R> {
         ensures start { self.new.start ≡ self.old.start }
         ensures changed { self.new.changed ≡ 0 }
     {
-        put_all_back(&mut self.rows, &mut self.before);
-        self.count = self.started;
+        while self.take_back_last().is_some() {}
+    }
+
+    // The last one of the rows that changed is again what it was; what it was meanwhile. It takes no memory.
+    pub(crate) fn take_back_last(&mut self) -> Option<Before<R>>
+        ensures start { self.new.start ≡ self.old.start }
+        ensures row { IfSome result (λ b. b.row ≡ row_at R.id_of b.id self.old.rows) }
+        ensures others { IfSome result (λ b.
+            drop_row R.id_of b.id self.new.rows ≡ drop_row R.id_of b.id self.old.rows) }
+        ensures fewer { OnSome result (self.old.changed ≡ self.new.changed + 1) }
+        ensures same { IfNone result (self.new.rows ≡ self.old.rows) }
+        ensures none { IfNone result (self.new.changed ≡ 0) }
+        ensures back { IfNone result (self.new.rows ≡ self.new.start) }
+    {
+        put_last_back(&mut self.rows, &mut self.before, &mut self.count)
     }
 
     // The changes stay.
@@ -152,7 +163,6 @@ impl<R: Row + Drop> Tracked<R> {
         ensures changed { self.new.changed ≡ 0 }
     {
         self.before.clear();
-        self.started = self.count;
     }
 }
 
@@ -318,22 +328,33 @@ fn remove_tracked<R: Row + Drop>(
     Ok(())
 }
 
+// Whether there can be one row and one change more, and the rows can still be counted while all are put back: each that
+// is may be one more.
+fn can_count(count: usize, changed: usize) -> bool
+    ensures { result ≡ true → count + changed + 2 < 2 ^ 64 }
+{
+    match count.checked_add(changed) {
+        Some(both) => both < usize::MAX - 2,
+        None => false,
+    }
+}
+
 // How many rows there are with one of this id.
-fn count_with<R: Row + Drop>(rows: &Indexed<R>, count: usize, id: Id) -> Result<usize, NoMemory>
-    ensures ok { IfOk result (λ n. n ≡ (if has_row R.id_of id rows.now.rows then count else count + 1)) }
+fn count_with<R: Row + Drop>(rows: &Indexed<R>, count: usize, id: Id) -> usize
+    requires { count + 1 < 2 ^ 64 }
+    ensures count { result ≡ (if has_row R.id_of id rows.now.rows then count else count + 1) }
+    ensures most { result ≤ count + 1 }
 {
     if rows.get(id).is_some() {
-        return Ok(count);
+        return count;
     }
-    match count.checked_add(1) {
-        Some(more) => Ok(more),
-        None => Err(NoMemory),
-    }
+    count + 1
 }
 
 // How many rows there are without the one of this id.
 fn count_without<R: Row + Drop>(rows: &Indexed<R>, count: usize, id: Id) -> usize
-    ensures { result ≡ (if has_row R.id_of id rows.now.rows then count - 1 else count) }
+    ensures count { result ≡ (if has_row R.id_of id rows.now.rows then count - 1 else count) }
+    ensures most { result ≤ count }
 {
     if rows.get(id).is_some() {
         return count.saturating_sub(1);
@@ -350,15 +371,18 @@ fn put_counted<R: Row + Drop>(
     requires id { 0 < R.id_of row }
     requires tracked { IsTracked R.id_of before.old.items rows.old }
     requires counted { count.old ≡ length rows.old.rows }
+    requires few { count.old + length before.old.items < 2 ^ 64 }
     ensures ok { OnOk result (rows.new.rows ≡ with_row R.id_of row rows.old.rows) }
     ensures err { OnErr result (rows.new.rows ≡ rows.old.rows) }
     ensures kept { GoBackAsBefore R.id_of before.old.items rows.old before.new.items rows.new }
     ensures counted { count.new ≡ length rows.new.rows }
+    ensures few { count.new + length before.new.items < 2 ^ 64 }
     ensures changed { length before.new.items ≤ length before.old.items + 1 }
 {
-    let Ok(next) = count_with(rows, *count, row.id()) else {
+    if !can_count(*count, before.len()) {
         return Err(NoMemory);
-    };
+    }
+    let next = count_with(rows, *count, row.id());
     let Ok(()) = put_tracked(rows, before, row) else {
         return Err(NoMemory);
     };
@@ -375,12 +399,17 @@ fn remove_counted<R: Row + Drop>(
     requires id { 0 < id }
     requires tracked { IsTracked R.id_of before.old.items rows.old }
     requires counted { count.old ≡ length rows.old.rows }
+    requires few { count.old + length before.old.items < 2 ^ 64 }
     ensures ok { OnOk result (rows.new.rows ≡ drop_row R.id_of id rows.old.rows) }
     ensures err { OnErr result (rows.new.rows ≡ rows.old.rows) }
     ensures kept { GoBackAsBefore R.id_of before.old.items rows.old before.new.items rows.new }
     ensures counted { count.new ≡ length rows.new.rows }
+    ensures few { count.new + length before.new.items < 2 ^ 64 }
     ensures changed { length before.new.items ≤ length before.old.items + 1 }
 {
+    if !can_count(*count, before.len()) {
+        return Err(NoMemory);
+    }
     let next = count_without(rows, *count, id);
     let Ok(()) = remove_tracked(rows, before, id) else {
         return Err(NoMemory);
@@ -389,31 +418,63 @@ fn remove_counted<R: Row + Drop>(
     Ok(())
 }
 
-// The row is again what it was.
-fn put_back<R: Row + Drop>(rows: &mut Indexed<R>, image: Before<R>)
+// The row is again what it was; what was there.
+fn put_back<R: Row + Drop>(rows: &mut Indexed<R>, image: Before<R>) -> Option<R>
     requires room { 0 < rows.old.room }
     requires image { IsImage R.id_of image.id image.row }
+    ensures value { result ≡ row_at R.id_of image.id rows.old.rows }
     ensures rows { rows.new.rows ≡ put_back R.id_of image rows.old.rows }
     ensures room { rows.old.room ≤ rows.new.room + 1 }
 {
     let Before { id, row } = image;
-    rows.remove(id);
+    let there = rows.remove(id);
     match row {
         Some(row) => insert_row(rows, row),
         None => {}
     }
+    there
 }
 
-// Puts back all rows that changed.
-fn put_all_back<R: Row + Drop>(rows: &mut Indexed<R>, before: &mut Vec<Before<R>>)
-    requires { IsTracked R.id_of before.old.items rows.old }
-    ensures rows { rows.new.rows ≡ restored R.id_of before.old.items rows.old.rows }
-    ensures before { before.new.items ≡ [] }
-    ensures tracked { IsTracked R.id_of before.new.items rows.new }
+// How many rows there are with one that is put back.
+fn count_back(count: usize, is_there: bool, was_there: bool) -> usize
+    requires { count + 1 < 2 ^ 64 }
+    ensures count { result ≡ count_back is_there was_there count }
+    ensures most { result ≤ count + 1 }
 {
-    while let Some(image) = before.pop() {
-        put_back(rows, image);
-    }
+    let left = if is_there {
+        count.saturating_sub(1)
+    } else {
+        count
+    };
+    if was_there { left + 1 } else { left }
+}
+
+// Puts back the last of the rows that changed; what was there.
+fn put_last_back<R: Row + Drop>(
+    rows: &mut Indexed<R>,
+    before: &mut Vec<Before<R>>,
+    count: &mut usize,
+) -> Option<Before<R>>
+    requires tracked { IsTracked R.id_of before.old.items rows.old }
+    requires counted { count.old ≡ length rows.old.rows }
+    requires few { count.old + length before.old.items < 2 ^ 64 }
+    ensures kept { GoBackAsBefore R.id_of before.old.items rows.old before.new.items rows.new }
+    ensures counted { count.new ≡ length rows.new.rows }
+    ensures few { count.new + length before.new.items < 2 ^ 64 }
+    ensures row { IfSome result (λ b. b.row ≡ row_at R.id_of b.id rows.old.rows) }
+    ensures others { IfSome result (λ b. drop_row R.id_of b.id rows.new.rows ≡ drop_row R.id_of b.id rows.old.rows) }
+    ensures fewer { OnSome result (length before.old.items ≡ length before.new.items + 1) }
+    ensures same { IfNone result (rows.new.rows ≡ rows.old.rows) }
+    ensures none { IfNone result (before.new.items ≡ []) }
+{
+    let Some(image) = before.pop() else {
+        return None;
+    };
+    let id = image.id;
+    let was_there = image.row.is_some();
+    let row = put_back(rows, image);
+    *count = count_back(*count, row.is_some(), was_there);
+    Some(Before { id, row })
 }
 
 // What became of a row.

@@ -1,5 +1,5 @@
 -- Rows under change, with what each changed one was before.
-use Rattle.std.specs.Prelude.{◌≡◌, ◌<◌, ◌≤◌, ℕ, ⊤, List, [], ◌∷◌, length, Option, Some, None, if◌then◌else◌, map}
+use Rattle.std.specs.Prelude.{◌≡◌, ◌<◌, ◌≤◌, ◌+◌, ◌-◌, ◌^◌, ℕ, ⊤, List, [], ◌∷◌, length, Option, Some, None, if◌then◌else◌, map}
 use Rattle.swarm_index.specs.Index.{RowsWithRoom}
 use Rattle.swarm_model.specs.Changed.{event, verb_of}
 use Rattle.swarm_objects.specs.Rows.{RisesFrom, drop_row, has_row, row_at, with_row}
@@ -28,6 +28,12 @@ restored key (b ∷ before) rows = put_back key b (restored key before rows)
 abbrev pub remembered : {X : Type 0} → Before X → List (Before X) → List (Before X)
 remembered b before = if has_row before_id b.id before then before else with_row before_id b before
 
+-- how many there are then: one fewer where it is there, one more where it was
+abbrev pub count_back : Bool → Bool → ℕ → ℕ
+count_back is_there was_there count =
+    let left = if is_there then count - 1 else count in
+    if was_there then left + 1 else left
+
 abbrev pub IsImage : {X : Type 0} → (X → ℕ) → ℕ → Option X → Type 0
 IsImage key id None = ⊤
 IsImage key id (Some row) = key row ≡ id
@@ -55,9 +61,9 @@ DecidesRows {X} key same = (x y : X) → key x ≡ key y → Decides (same x y) 
 abbrev pub GoBackAsBefore : {X : Type 0} → (X → ℕ) → List (Before X) → RowsWithRoom X → List (Before X) → RowsWithRoom X → Type 0
 GoBackAsBefore key old rows new now = IsTracked key new now × (restored key new now.rows ≡ restored key old rows.rows)
 
--- and they are counted, as they are and as they were
+-- and they are counted, and can be while they are put back one by one
 pub record IsCounted {X : Type 0} (key : X → ℕ) (before : List (Before X)) (rows : RowsWithRoom X)
-    (count started : ℕ) : Type 0 where
+    (count : ℕ) : Type 0 where
   pub tracked : IsTracked key before rows
   pub now : count ≡ length rows.rows
-  pub start : started ≡ length (restored key before rows.rows)
+  pub few : count + length before < 2 ^ 64

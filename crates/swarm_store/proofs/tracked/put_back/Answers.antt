@@ -8,5 +8,5 @@ pub insert_row-requires-clause-new : goal.insert_row-requires-clause-new
 insert_row-requires-clause-new g c =
     let key = g.R.Row.id_of in
     let row = c.in-Some.row in
-    ap (row_at key (key row)) c.remove.ensures.rows
+    ap (row_at key (key row)) c.remove-there.ensures.rows
     ∙ gone key c.args.image.id (key row) c.args.rows.now.rows (subst (IsImage key c.args.image.id) c.in-Some.is c.requires.image)
