@@ -24,14 +24,16 @@ use Rattle.swarm_objects.specs.declared.duties.Duty.TheVariants as duty
 use Rattle.swarm_objects.specs.declared.duties.Duty.{Duty}
 use Rattle.swarm_objects.specs.declared.loops.Role.TheVariants as role
 use Rattle.swarm_objects.specs.declared.messages.Message.{Message}
-use Rattle.swarm_spans.proofs.Grown.{own-with, wider_itself, wider_with}
+use Rattle.swarm_spans.proofs.Grown.{low-end, own-with, wider_itself, wider_with}
 use Rattle.swarm_spans.specs.Spans.{Covers, IsWider, is_in, with_id}
 use Rattle.swarm_spans.specs.declared.span.Span.{Span}
 use Rattle.swarm_world.proofs.AgentsAlone.{TurnsAlone, beat-alone, one-agent, pull-alone, register-alone, taken-node}
 use Rattle.swarm_world.proofs.AgentsShown.{IsShown, had-duty, had-message, is_busy, same-tables, some-duty, wants-both, wants-parts}
+use Rattle.swarm_world.proofs.KnownSteps.{known-after}
 use Rattle.swarm_world.proofs.ReportsAlone.{IsPlaced, executor-of, report-alone, reported-shows}
-use Rattle.swarm_world.specs.Inside.Looks.{AreSpanned, is_told, wants_message}
-use Rattle.swarm_world.specs.Inside.Spanned.{after_turn, told_by}
+use Rattle.swarm_world.proofs.Unsaid.{had-unsaid, unsaid-more}
+use Rattle.swarm_world.specs.Inside.Looks.{AreSpanned, is_told, is_unsaid, wants_message}
+use Rattle.swarm_world.specs.Inside.Spanned.{after_turn, news_by, told_by}
 use Rattle.swarm_world.specs.declared.agent_spans.AgentSpans.{AgentSpans}
 
 -- The node of a duty.
@@ -170,7 +172,7 @@ own-node w d span own due covers =
 
 -- a span goes on covering where it has the one node whose agent may newly pass the test
 covers-alone : (test : World → NodeAgent → Bool) (w v : World) (n : ℕ) (span wide : Span) → IsShown test → TurnsAlone w v n →
-    IsWider wide span → ((a : NodeAgent) → a.node ≡ n → test v a ≡ true → is_in wide n ≡ true) →
+    IsWider wide span → ((a : NodeAgent) → Has v.agents a → a.node ≡ n → test v a ≡ true → is_in wide n ≡ true) →
     Covers agent_node (test w) span w.agents → Covers agent_node (test v) wide v.agents
 covers-alone test w v n span wide shown alone wider own covers = record {
   has = λ a there passes. go a there passes (a.node == n) refl;
@@ -179,10 +181,49 @@ covers-alone test w v n span wide shown alone wider own covers = record {
     go : (a : NodeAgent) → Has v.agents a → test v a ≡ true → (b : Bool) → (a.node == n) ≡ b → is_in wide a.node ≡ true
     go a there passes true is =
         let same : a.node ≡ n = grind (arith, nat_tests, is) in
-        subst (λ k. is_in wide k ≡ true) (sym same) (own a same passes)
+        subst (λ k. is_in wide k ≡ true) (sym same) (own a there same passes)
     go a there passes false is =
         let other = alone.other a there (λ same. grind (arith, nat_tests, is)) in
         wider.has a.node (covers.has a other.0 (shown v w a other.1 passes))
+
+pub news-wider : (d : Duty) (span : Span) → IsWider (news_by d span) span
+news-wider (duty.Register n) span = wider_with span (with_id span n) n refl
+news-wider (duty.Apply n) span = wider_with span (with_id span n) n refl
+news-wider (duty.Pull n) span = wider_with span (with_id span n) n refl
+news-wider (duty.Exec n x) span = wider_with span (with_id span n) n refl
+news-wider (duty.Report n x) span = wider_with span (with_id span n) n refl
+news-wider (duty.Forget n x) span = wider_with span (with_id span n) n refl
+news-wider _ span = wider_itself span
+
+own-added : (k n : ℕ) (span busy : Span) → k ≡ n → is_in busy n ≡ true → is_in (with_id span k) n ≡ true
+own-added k n span busy same within =
+    let low = low-end busy n within in
+    subst (λ (j : ℕ). is_in (with_id span j) n ≡ true) (sym same) (own-with span n (omega (arith, low)))
+
+-- the node of a duty is in the span after it, where its agent has news
+own-heard : (w : World) (d : Duty) (n : ℕ) (span busy : Span) (a : NodeAgent) → IsDuty w d → role_of d ≡ role.Agents →
+    first_of (duty_numbers d) ≡ Some n → is_in busy n ≡ true → Covers agent_node (is_unsaid w) span w.agents →
+    Has (effect w d).agents a → a.node ≡ n → is_unsaid (effect w d) a ≡ true → is_in (news_by d span) n ≡ true
+own-heard w (duty.Register k) n span busy a is own at within covers there node unsaid =
+    own-added k n span busy (let same : k ≡ n = cc in same) within
+own-heard w (duty.Beat k) n span busy a is own at within covers there node unsaid =
+    let same : k ≡ n = cc in
+    let of : a.node ≡ is.row.node = node ∙ sym same ∙ sym is.id_is in
+    subst (λ j. is_in span j ≡ true) node
+    (covers.has a there
+    (unsaid-more (effect w (duty.Beat k)) w a (λ live. subst (λ j. is_session_live w.tables j ≡ true) (sym of) is.fact.1.0)
+    (λ e has row. row) unsaid))
+own-heard w (duty.Apply k) n span busy a is own at within covers there node unsaid =
+    own-added k n span busy (let same : k ≡ n = cc in same) within
+own-heard w (duty.Pull k) n span busy a is own at within covers there node unsaid =
+    own-added k n span busy (let same : k ≡ n = cc in same) within
+own-heard w (duty.Exec k x) n span busy a is own at within covers there node unsaid =
+    own-added k n span busy (let same : k ≡ n = cc in same) within
+own-heard w (duty.Report k x) n span busy a is own at within covers there node unsaid =
+    own-added k n span busy (let same : k ≡ n = cc in same) within
+own-heard w (duty.Forget k x) n span busy a is own at within covers there node unsaid =
+    own-added k n span busy (let same : k ≡ n = cc in same) within
+own-heard w _ n span busy a is own at within covers there node unsaid = absurd cc
 
 covers-after : (w : World) (d : Duty) (spans : AgentSpans) → GivesOut w → RisesFrom agent_node 0 w.agents →
     role_of d ≡ role.Agents → is_due w d ≡ true → AreSpanned w spans w.agents →
@@ -195,11 +236,16 @@ covers-after w d spans gives rises own due covers =
     record {
       duties =
           covers-alone is_busy w v node.0 spans.duties spans.duties had-duty alone (wider_itself spans.duties)
-          (λ a at busy. node.2) covers.duties;
+          (λ a there at busy. node.2) covers.duties;
       tells =
           covers-alone wants_message w v node.0 spans.tells (told_by d spans.tells) had-message alone
           (told-wider d spans.tells)
-          (λ a at wants. own-told w d node.0 spans.tells a gives rises is own node.1 covers.tells at wants) covers.tells;
+          (λ a there at wants. own-told w d node.0 spans.tells a gives rises is own node.1 covers.tells at wants) covers.tells;
+      news =
+          covers-alone is_unsaid w v node.0 spans.news (news_by d spans.news) had-unsaid alone (news-wider d spans.news)
+          (λ a there at unsaid.
+          own-heard w d node.0 spans.news spans.duties a is own node.1 node.2 covers.news there at unsaid) covers.news;
+      steps = known-after w d spans.steps own covers.steps;
     }
 
 -- of a legal history

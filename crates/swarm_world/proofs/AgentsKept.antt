@@ -15,6 +15,7 @@ use Rattle.swarm_objects.specs.declared.rows.Change.{Change}
 use Rattle.swarm_world.proofs.AgentsCovered.{covers-on}
 use Rattle.swarm_world.proofs.AgentsSeen.{ShowsWorld, seen-covered, world-covered}
 use Rattle.swarm_world.proofs.Entering.{number-is}
+use Rattle.swarm_world.proofs.KnownSteps.{known-less}
 use Rattle.swarm_world.proofs.Recorded.{tables_are}
 use Rattle.swarm_world.proofs.RowsTurned.{covers-rows}
 use Rattle.swarm_world.specs.Inside.Parts.{HasParts, IsAt}
@@ -33,6 +34,9 @@ pub covered_wider : (p : Parts) (spans wide : AgentSpans) → AreWider wide span
 covered_wider p spans wide wider covers = record {
   duties = record { has = λ a there busy. wider.duties.has a.node (covers.duties.has a there busy) };
   tells = record { has = λ a there wants. wider.tells.has a.node (covers.tells.has a there wants) };
+  news = record { has = λ a there unsaid. wider.news.has a.node (covers.news.has a there unsaid) };
+  steps = λ a there.
+      known-less (tables_of p.records).clock spans.steps wide.steps a (wider.steps a.node) (covers.steps a there);
 }
 
 -- parts of one world

@@ -11,7 +11,9 @@ use Rattle.swarm_objects.specs.declared.messages.NodeSent.{NodeSent}
 use Rattle.swarm_spans.specs.Spans.{Covers, is_in}
 use Rattle.swarm_spans.specs.declared.span.Span.{Span}
 use Rattle.swarm_world.proofs.AgentsShown.{ShowsNoMore, had-duty, had-message, is_busy, same-tables}
-use Rattle.swarm_world.specs.Inside.Looks.{AreSpanned, looked_at, wants_message}
+use Rattle.swarm_world.proofs.KnownSteps.{known-seen, seen-known}
+use Rattle.swarm_world.proofs.Unsaid.{had-unsaid, seen-unsaid, unsaid-seen}
+use Rattle.swarm_world.specs.Inside.Looks.{AreSpanned, HasNoStep, is_unsaid, looked_at, wants_message}
 use Rattle.swarm_world.specs.declared.agent_spans.AgentSpans.{AgentSpans}
 
 -- these tables, what was sent and agents are the world's, but for times that no step looks at
@@ -72,6 +74,16 @@ world-covered times t sent agents w spans shows covers =
       tells =
           to-rows (wants_message l) (wants_message w) spans.tells agents w.agents shows.agents
           (λ a wants. had-message w l (seen_agent a) (seen-tables t sent agents w (seen_agent a) shows).1 wants) covers.tells;
+      news =
+          to-rows (is_unsaid l) (is_unsaid w) spans.news agents w.agents shows.agents
+          (λ a unsaid.
+          had-unsaid w l (seen_agent a) (seen-tables t sent agents w (seen_agent a) shows).1
+          (unsaid-seen w a unsaid)) covers.news;
+      steps = λ a there.
+          seen-known times w.tables.clock spans.steps a
+          (subst (λ k. HasNoStep k spans.steps (seen_agent a)) (ap (λ (u : Tables). u.clock) shows.tables)
+          (covers.steps (seen_agent a)
+          (subst (λ all. Has all (seen_agent a)) (sym shows.agents) (Has-map seen_agent w.agents a there))));
     }
 
 pub seen-covered : (times : TimesLaw) (t : Tables) (sent : List NodeSent) (agents : List NodeAgent) (w : World)
@@ -86,4 +98,14 @@ seen-covered times t sent agents w spans shows covers =
       tells =
           from-rows (wants_message l) (wants_message w) spans.tells agents w.agents shows.agents
           (λ a wants. had-message l w (seen_agent a) (seen-tables t sent agents w (seen_agent a) shows).0 wants) covers.tells;
+      news =
+          from-rows (is_unsaid l) (is_unsaid w) spans.news agents w.agents shows.agents
+          (λ a unsaid.
+          seen-unsaid w a
+          (had-unsaid l w (seen_agent a) (seen-tables t sent agents w (seen_agent a) shows).0 unsaid)) covers.news;
+      steps = λ a there.
+          let of = Has-map_cases seen_agent w.agents a (subst (λ all. Has all a) shows.agents there) in
+          subst (HasNoStep t.clock spans.steps) of.2
+          (subst (λ k. HasNoStep k spans.steps (seen_agent of.0)) (ap (λ (u : Tables). u.clock) (sym shows.tables))
+          (known-seen times w.tables.clock spans.steps of.0 (covers.steps of.0 of.1)));
     }

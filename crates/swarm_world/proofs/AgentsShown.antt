@@ -43,7 +43,7 @@ same-tables v w a tables sent = record {
 
 -- Lists of duties, of which the second has what the first has.
 
-more-joined : (xs ys us vs : List Duty) (d : Duty) → (Has xs d → Has us d) → (Has ys d → Has vs d) →
+pub more-joined : (xs ys us vs : List Duty) (d : Duty) → (Has xs d → Has us d) → (Has ys d → Has vs d) →
     Has (xs ++ ys) d → Has (us ++ vs) d
 more-joined xs ys us vs d first second =
     from_either xs ys d (λ h. Has-append_left us vs d (first h)) (λ h. Has-append_right us vs d (second h))
@@ -51,14 +51,14 @@ more-joined xs ys us vs d first second =
 more-when : (b c : Bool) (e d : Duty) → (b ≡ true → c ≡ true) → Has (when b e) d → Has (when c e) d
 more-when b c e d more = from_when (λ x. Has (when c e) x) b e d (λ t. to_when c e (more t))
 
-more-where : {X : Type 0} (p q : X → Bool) (f : X → Duty) (rows : List X) (d : Duty) →
+pub more-where : {X : Type 0} (p q : X → Bool) (f : X → Duty) (rows : List X) (d : Duty) →
     ((x : X) → Has rows x → p x ≡ true → q x ≡ true) → Has (duty_where p f rows) d → Has (duty_where q f rows) d
 more-where p q f rows d more =
     from_where (λ x. Has (duty_where q f rows) x) p f rows d (λ x there passes. to_where q f rows x there (more x there passes))
 
 -- The duties of an agent.
 
-live-same : (v w : World) (a : NodeAgent) → ShowsNoMore v w a →
+pub live-same : (v w : World) (a : NodeAgent) → ShowsNoMore v w a →
     is_session_live v.tables a.node ≡ is_session_live w.tables a.node
 live-same v w a shows =
     ap (λ clock. is_before_deadline clock (session_of v.tables a.node)) shows.clock
@@ -74,7 +74,7 @@ beat-same v w a shows =
     go None = refl
     go (Some s) = rw shows.clock (rw shows.heartbeat refl)
 
-wants-more : (t u : Tables) (e : Executor) →
+pub wants-more : (t u : Tables) (e : Executor) →
     (has_row task_id e.task t.tasks ≡ true → has_row task_id e.task u.tasks ≡ true) → wants_report t e ≡ true →
     wants_report u e ≡ true
 wants-more t u e more passes =

@@ -1,5 +1,5 @@
 -- The spans of the agents' loop over a turn, whatever became of it.
-use Rattle.std.proofs.Common.{◌≡◌, ℕ, true, false, List, Result, Ok, Err, refl, subst}
+use Rattle.std.proofs.Common.{◌≡◌, ◌≤◌, ℕ, true, false, arith, List, Result, Ok, Err, refl, subst, sym}
 use Rattle.swarm_model.specs.History.{replay}
 use Rattle.swarm_objects.specs.ChangeLists.{Makes}
 use Rattle.swarm_objects.specs.Duties.{is_due}
@@ -12,12 +12,17 @@ use Rattle.swarm_objects.specs.declared.loops.Role.{Role}
 use Rattle.swarm_objects.specs.declared.loops.Role.TheVariants as role
 use Rattle.swarm_objects.specs.declared.rows.Change.{Change}
 use Rattle.swarm_spans.proofs.Grown.{wider_itself}
-use Rattle.swarm_world.proofs.AgentsCovered.{told-wider}
+use Rattle.swarm_spans.specs.Spans.{IsWider}
+use Rattle.swarm_spans.specs.declared.span.Span.{Span}
+use Rattle.swarm_world.proofs.AgentsCovered.{news-wider, told-wider}
+use Rattle.swarm_world.proofs.KnownSteps.{steps-less}
+use Rattle.swarm_world.specs.Inside.Looks.{before_on}
 use Rattle.swarm_world.specs.Inside.Parts.{Enters, IsAt}
 use Rattle.swarm_world.specs.Inside.Records.{tables_of}
 use Rattle.swarm_world.specs.Inside.Spanned.{AgentsSpanLaw, CoversAgents, after_turn}
 use Rattle.swarm_world.specs.Inside.Touches.{AreTouched}
 use Rattle.swarm_world.specs.declared.agent_spans.AgentSpans.{AgentSpans}
+use Rattle.swarm_world.specs.declared.agent_spans.Steps.{Steps}
 use Rattle.swarm_world.specs.declared.parts.Parts.{Parts}
 
 pub agents_role : (r : Role) → is_agents r ≡ true → r ≡ role.Agents
@@ -41,7 +46,18 @@ agents_taken law version h d (Ok done) p q spans is own due after =
     law.turn h d p q spans is.legal own due is.stands after
 agents_taken law version h d (Err wanting) p q spans is own due after =
     law.same h p q spans (after_turn d spans) is.stands after
-    (record { duties = wider_itself spans.duties; tells = told-wider d spans.tells })
+    (record {
+      duties = wider_itself spans.duties;
+      tells = told-wider d spans.tells;
+      news = news-wider d spans.news;
+      steps = steps-less d spans.steps;
+    })
+
+same_wider : (span wide : Span) → wide ≡ span → IsWider wide span
+same_wider span wide same = subst (λ (s : Span). IsWider s span) (sym same) (wider_itself span)
+
+same_steps : (s t : Steps) (node : ℕ) → t ≡ s → before_on t node ≤ before_on s node
+same_steps s t node same = subst (λ (u : Steps). before_on u node ≤ before_on s node) (sym same) (omega arith)
 
 -- a duty over the rows
 pub rows_taken : {X E : Type 0} (law : AgentsSpanLaw) (version : ℕ) (h : List Entry) (d : Duty) (touched cs : List Change)
@@ -54,4 +70,9 @@ rows_taken law version h d all cs (Ok done) p q spans wide is other due makes sa
     (subst (AreTouched (tables_of p.records) spans wide) same are) after covers
 rows_taken law version h d all cs (Err wanting) p q spans wide is other due makes same are after covers =
     law.same h p q spans wide is.stands after
-    (record { duties = are.duties.wider; tells = are.tells.wider }) covers
+    (record {
+      duties = are.duties.wider;
+      tells = are.tells.wider;
+      news = same_wider spans.news wide.news are.news;
+      steps = λ node. same_steps spans.steps wide.steps node are.steps;
+    }) covers

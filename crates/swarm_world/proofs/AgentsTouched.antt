@@ -6,9 +6,11 @@ use Rattle.swarm_model.proofs.Laws.GivesOut.{GivesOut}
 use Rattle.swarm_objects.proofs.RowLemmas.{RisesFrom-filter, number_above}
 use Rattle.swarm_objects.specs.Agents.Messages.{assigned, due_set, is_assigned_on, next_message, sent_of}
 use Rattle.swarm_objects.specs.ChangeLists.{CanApply, CanApplyAll, Makes, apply_change, apply_changes}
+use Rattle.swarm_objects.specs.Nodes.Sessions.{is_before_deadline, is_session_live}
 use Rattle.swarm_objects.specs.Rows.{Has, RisesFrom, agent_node, has_row, put_row, row_at, sent_node, session_node, task_id}
 use Rattle.swarm_objects.specs.Tasks.New.{with_task}
 use Rattle.swarm_objects.specs.World.{Tables, World}
+use Rattle.swarm_objects.specs.declared.agents.Executor.{Executor}
 use Rattle.swarm_objects.specs.declared.agents.NodeAgent.{NodeAgent}
 use Rattle.swarm_objects.specs.declared.messages.Assigned.{Assigned}
 use Rattle.swarm_objects.specs.declared.messages.NodeSent.{NodeSent}
@@ -20,9 +22,11 @@ use Rattle.swarm_spans.proofs.Services.Outcomes.{TaskTurns, task-turns}
 use Rattle.swarm_spans.specs.Spans.{Covers, is_in}
 use Rattle.swarm_spans.specs.declared.span.Span.{Span}
 use Rattle.swarm_world.proofs.AgentsShown.{IsShown, ShowsNoMore, had-duty, had-message, is_busy}
-use Rattle.swarm_world.specs.Inside.Looks.{AreSpanned, wants_message}
+use Rattle.swarm_world.proofs.Unsaid.{unsaid-more}
+use Rattle.swarm_world.specs.Inside.Looks.{AreSpanned, HasNoStep, is_unsaid, wants_message}
 use Rattle.swarm_world.specs.Inside.Touches.{AreTouched, TellsSame, TouchesAllTold, WidensTold, told_on}
 use Rattle.swarm_world.specs.declared.agent_spans.AgentSpans.{AgentSpans}
+use Rattle.swarm_world.specs.declared.agent_spans.Steps.{Steps}
 
 -- What a node is told of each task.
 
@@ -189,6 +193,46 @@ covers-touched test w v cs span wide shown gives order before after makes sent a
         (untouched w v cs wide a gives before after makes sent widens.touches there
         (number_above agent_node 0 w.agents a order there) out) has))
 
+-- no change of rows gives an agent news
+unsaid-touched : (w v : World) (cs : List Change) (span wide : Span) → GivesOut w → Makes w.tables cs v.tables →
+    v.agents ≡ w.agents → wide ≡ span → Covers agent_node (is_unsaid w) span w.agents →
+    Covers agent_node (is_unsaid v) wide v.agents
+unsaid-touched w v cs span wide gives makes agents same covers = record {
+  has = λ a there unsaid.
+      let at : Has w.agents a = subst (λ rows. Has rows a) agents there in
+      subst (λ (s : Span). is_in s a.node ≡ true) (sym same)
+      (covers.has a at (unsaid-more v w a (still-live a) (more a at) unsaid));
+}
+  where
+    beside : SameBeside (apply_changes w.tables cs) w.tables
+    beside = beside-all w.tables cs
+
+    still-live : (a : NodeAgent) → is_session_live v.tables a.node ≡ true → is_session_live w.tables a.node ≡ true
+    still-live a live =
+        let clock : v.tables.clock ≡ w.tables.clock = ap (λ (t : Tables). t.clock) (sym makes.gives) ∙ beside.clock in
+        let session : row_at session_node a.node v.tables.sessions ≡ row_at session_node a.node w.tables.sessions =
+        ap (λ (t : Tables). row_at session_node a.node t.sessions) (sym makes.gives)
+        ∙ ap (λ rows. row_at session_node a.node rows) beside.sessions in
+        sym (ap (λ k. is_before_deadline k (row_at session_node a.node v.tables.sessions)) clock
+        ∙ ap (is_before_deadline w.tables.clock) session) ∙ live
+
+    more : (a : NodeAgent) → Has w.agents a → (e : Executor) → Has a.executors e →
+        has_row task_id e.task v.tables.tasks ≡ true → has_row task_id e.task w.tables.tasks ≡ true
+    more a there e is has =
+        none-new w.tables cs e.task ((gives.agents a there).executors.given e is).below makes.can
+        (subst (λ (t : Tables). has_row task_id e.task t.tasks ≡ true) (sym makes.gives) has)
+
+-- nor an executor a step
+steps-touched : (w v : World) (cs : List Change) (s wide : Steps) → Makes w.tables cs v.tables → v.agents ≡ w.agents →
+    wide ≡ s → ((a : NodeAgent) → Has w.agents a → HasNoStep w.tables.clock s a) → (a : NodeAgent) → Has v.agents a →
+    HasNoStep v.tables.clock wide a
+steps-touched w v cs s wide makes agents same known a there =
+    let clock : v.tables.clock ≡ w.tables.clock =
+    ap (λ (t : Tables). t.clock) (sym makes.gives) ∙ (beside-all w.tables cs).clock in
+    subst (λ k. HasNoStep k wide a) (sym clock)
+    (subst (λ (t : Steps). HasNoStep w.tables.clock t a) (sym same)
+    (known a (subst (λ rows. Has rows a) agents there)))
+
 pub spans-touched : (w v : World) (cs : List Change) (spans wide : AgentSpans) → GivesOut w → RisesFrom agent_node 0 w.agents →
     RisesFrom task_id 0 w.tables.tasks → RisesFrom task_id 0 v.tables.tasks → Makes w.tables cs v.tables →
     v.sent ≡ w.sent → v.agents ≡ w.agents → AreTouched w.tables spans wide cs → AreSpanned w spans w.agents →
@@ -200,4 +244,6 @@ spans-touched w v cs spans wide gives order before after makes sent agents are c
   tells =
       covers-touched wants_message w v cs spans.tells wide.tells had-message gives order before after makes sent agents
       are.tells covers.tells;
+  news = unsaid-touched w v cs spans.news wide.news gives makes agents are.news covers.news;
+  steps = steps-touched w v cs spans.steps wide.steps makes agents are.steps covers.steps;
 }

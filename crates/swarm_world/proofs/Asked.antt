@@ -33,5 +33,3 @@ pub may_be_told : (w : World) (a : NodeAgent) (live : Bool) (span : Span) → tr
     MayBeTold w a.node live span
 may_be_told w a live span on is may = λ lives told.
     may (wants-both w a (sym on) (sym is ∙ lives) told)
-
-pub ruleset agent_steps = (may_be_told, stays_asked)

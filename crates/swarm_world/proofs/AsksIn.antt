@@ -4,7 +4,9 @@ use Rattle.std.specs.Prelude.{find, flat_map, is_some, nat_le}
 use Rattle.swarm_agent.specs.Agent.{AgentState, at_node}
 use Rattle.swarm_agent.specs.Times.{TimesLaw, seen_agent}
 use Rattle.swarm_objects.proofs.RowLemmas.{has-found}
-use Rattle.swarm_objects.specs.Loops.Agents.{agent_duties}
+use Rattle.swarm_objects.proofs.Tests.{and_fails}
+use Rattle.swarm_objects.specs.Loops.Agents.{agent_duties, is_mode_on}
+use Rattle.swarm_objects.specs.Nodes.Sessions.{is_session_live}
 use Rattle.swarm_objects.specs.Rows.{Has, RisesFrom, agent_node, executor_task, first_of}
 use Rattle.swarm_objects.specs.World.{World}
 use Rattle.swarm_objects.specs.declared.agents.NodeAgent.{NodeAgent}
@@ -15,8 +17,10 @@ use Rattle.swarm_spans.proofs.InSpans.{first-found, first-none, in-rest, less-le
 use Rattle.swarm_spans.specs.Spans.{Covers, beyond, empty, has_duty, is_in}
 use Rattle.swarm_spans.specs.declared.span.Span.{Span}
 use Rattle.swarm_world.proofs.AgentsShown.{wants-duty, wants-parts}
+use Rattle.swarm_world.proofs.KnownSteps.{nothing-known, passed-on, seen-known}
 use Rattle.swarm_world.proofs.LooksOn.{rises-seen}
-use Rattle.swarm_world.specs.Inside.Looks.{AreSpanned, EachRises, IsAsked, is_told, wants_message}
+use Rattle.swarm_world.proofs.Unsaid.{unsaid-duty, unsaid-same, unsaid-seen}
+use Rattle.swarm_world.specs.Inside.Looks.{AreSpanned, EachRises, HasNoStep, IsAsked, IsHeard, IsPassed, has_news_on, is_told, is_unsaid, no_steps, wants_message}
 use Rattle.swarm_world.specs.declared.agent_spans.AgentSpans.{AgentSpans}
 
 -- the agent with its node, as it is seen
@@ -49,6 +53,21 @@ pub next_may : (w : World) (agents : List NodeAgent) (spans : AgentSpans) (node 
     is_in spans.tells node ≡ true
 next_may w agents spans node a covers is wants =
     covers.tells.has (seen_on node a) (next-there agents spans.duties node a is) wants
+
+-- and in the third where it has news
+pub next_may_say : (w : World) (agents : List NodeAgent) (spans : AgentSpans) (node : ℕ) (a : AgentState) →
+    AreSpanned w spans agents → IsNext agents spans.duties node a → is_unsaid w (at_node node a) ≡ true →
+    is_in spans.news node ≡ true
+next_may_say w agents spans node a covers is unsaid =
+    covers.news.has (seen_on node a) (next-there agents spans.duties node a is) (unsaid-seen w (at_node node a) unsaid)
+
+-- and what is known of steps is so
+pub next_steps : (times : TimesLaw) (w : World) (agents : List NodeAgent) (spans : AgentSpans) (node : ℕ) (a : AgentState) →
+    AreSpanned w spans agents → IsNext agents spans.duties node a →
+    HasNoStep w.tables.clock spans.steps (at_node node a)
+next_steps times w agents spans node a covers is =
+    seen-known times w.tables.clock spans.steps (at_node node a)
+    (covers.steps (seen_on node a) (next-there agents spans.duties node a is))
 
 -- its first duty is the first of all
 pub next_found : (times : TimesLaw) (w : World) (agents : List NodeAgent) (spans : AgentSpans) (node : ℕ) (a : AgentState)
@@ -90,25 +109,62 @@ tells-on w agents spans tells node a rises covers is (inr left) = record {
       (in-rest spans.tells node x.node (covers.tells.has x h wants) above);
 }
 
-pub next_stays : (w : World) (agents : List NodeAgent) (spans next : AgentSpans) (node : ℕ) (a : AgentState) →
+-- Each that has news has a duty.
+
+unsaid-covered : (w : World) (agents : List NodeAgent) (spans : AgentSpans) → AreSpanned w spans agents →
+    Covers agent_node (is_unsaid w) spans.duties agents
+unsaid-covered w agents spans covers = record { has = λ a h unsaid. covers.duties.has a h (unsaid-duty w a unsaid) }
+
+-- after its news was looked for, each that has some is in the span still
+news-on : (w : World) (agents : List NodeAgent) (spans : AgentSpans) (news : Span) (node : ℕ) (a : AgentState) →
     RisesFrom agent_node 0 agents → AreSpanned w spans agents → IsNext agents spans.duties node a →
-    next.duties ≡ spans.duties → IsAsked w node spans.tells next.tells → AreSpanned w next agents
-next_stays w agents spans next node a rises covers is same asked = record {
+    IsHeard w (at_node node a) spans.news news → Covers agent_node (is_unsaid w) news agents
+news-on w agents spans news node a rises covers is (inl same) =
+    subst (λ (s : Span). Covers agent_node (is_unsaid w) s agents) (sym same) covers.news
+news-on w agents spans news node a rises covers is (inr left) = record {
+  has = λ x h unsaid.
+      let said : is_unsaid w (seen_on node a) ≡ false =
+      unsaid-same w (at_node node a)
+      ∙ and_fails (is_mode_on a.mode) (has_news_on w (at_node node a) (is_session_live w.tables node)) left.0 in
+      let beyond-it : is_in (beyond spans.duties node) x.node ≡ true =
+      passed agent_node (is_unsaid w) spans.duties 0 agents (seen_on node a) rises (unsaid-covered w agents spans covers)
+      (sym is) said x h unsaid in
+      let above : node < x.node = low-end (beyond spans.duties node) x.node beyond-it in
+      subst (λ (s : Span). is_in s x.node ≡ true) (sym left.1)
+      (in-rest spans.news node x.node (covers.news.has x h unsaid) above);
+}
+
+pub next_stays : (times : TimesLaw) (w : World) (agents : List NodeAgent) (spans next : AgentSpans) (node : ℕ) (a : AgentState) →
+    RisesFrom agent_node 0 agents → AreSpanned w spans agents → IsNext agents spans.duties node a →
+    next.duties ≡ spans.duties → IsAsked w node spans.tells next.tells →
+    IsHeard w (at_node node a) spans.news next.news →
+    IsPassed w.tables.clock (at_node node a) spans.steps next.steps → AreSpanned w next agents
+next_stays times w agents spans next node a rises covers is same asked heard passed = record {
   duties = subst (λ (s : Span). Covers agent_node (has_duty (agent_duties w)) s agents) (sym same) covers.duties;
   tells = tells-on w agents spans next.tells node a rises covers is asked;
+  news = news-on w agents spans next.news node a rises covers is heard;
+  steps =
+      passed-on times w.tables.clock agents spans.steps next.steps node a rises
+      (next-there agents spans.duties node a is) passed covers.steps;
 }
 
 -- where it has no duty it leaves the span
 pub next_passes : (times : TimesLaw) (w : World) (agents : List NodeAgent) (spans next : AgentSpans) (node : ℕ) (a : AgentState) →
     RisesFrom agent_node 0 agents → AreSpanned w spans agents → IsNext agents spans.duties node a →
     next.duties ≡ beyond spans.duties node → IsAsked w node spans.tells next.tells →
+    IsHeard w (at_node node a) spans.news next.news →
+    IsPassed w.tables.clock (at_node node a) spans.steps next.steps →
     None ≡ first_of (agent_duties w (at_node node a)) → AreSpanned w next agents
-next_passes times w agents spans next node a rises covers is left asked none = record {
+next_passes times w agents spans next node a rises covers is left asked heard known none = record {
   duties = subst (λ (s : Span). Covers agent_node (has_duty (agent_duties w)) s agents) (sym left) (record {
     has = passed agent_node (has_duty (agent_duties w)) spans.duties 0 agents (seen_on node a) rises covers.duties (sym is)
         (ap (λ (ds : List Duty). is_some (first_of ds)) (times.duties w (at_node node a)) ∙ ap is_some (sym none));
   });
   tells = tells-on w agents spans next.tells node a rises covers is asked;
+  news = news-on w agents spans next.news node a rises covers is heard;
+  steps =
+      passed-on times w.tables.clock agents spans.steps next.steps node a rises
+      (next-there agents spans.duties node a is) known covers.steps;
 }
 
 pub fewer_left : (agents : List NodeAgent) (span left : Span) (node : ℕ) (a : AgentState) → IsNext agents span node a →
@@ -128,12 +184,16 @@ pub over_has : (w : World) (agents : List NodeAgent) (spans : AgentSpans) → Ar
 over_has w agents spans covers over = none_has w agents spans covers (sym (none-over agent_node spans.duties agents over))
 
 pub none_spanned : (w : World) (agents : List NodeAgent) (spans next : AgentSpans) → AreSpanned w spans agents →
-    None ≡ find (λ b. is_in spans.duties b.node) agents → next.duties ≡ empty → next.tells ≡ empty → AreSpanned w next agents
-none_spanned w agents spans next covers none duties tells = record {
+    None ≡ find (λ b. is_in spans.duties b.node) agents → next.duties ≡ empty → next.tells ≡ empty →
+    next.news ≡ empty → next.steps ≡ no_steps → AreSpanned w next agents
+none_spanned w agents spans next covers none duties tells news steps = record {
   duties = subst (λ (s : Span). Covers agent_node (has_duty (agent_duties w)) s agents) (sym duties)
       (none-left agent_node (has_duty (agent_duties w)) spans.duties agents covers.duties (sym none));
   tells = subst (λ (s : Span). Covers agent_node (wants_message w) s agents) (sym tells)
       (none-left agent_node (wants_message w) spans.duties agents (wants-covered w agents spans covers) (sym none));
+  news = subst (λ (s : Span). Covers agent_node (is_unsaid w) s agents) (sym news)
+      (none-left agent_node (is_unsaid w) spans.duties agents (unsaid-covered w agents spans covers) (sym none));
+  steps = λ x h. nothing-known w.tables.clock next.steps x steps;
 }
 
-pub ruleset asks_steps = (next_rises, next_may, next_found, next_stays, next_passes, none_has, over_has, none_spanned)
+pub ruleset asks_steps = (next_rises, next_may, next_may_say, next_steps, next_found, next_stays, next_passes, none_has, over_has, none_spanned)

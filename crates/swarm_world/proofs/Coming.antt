@@ -31,12 +31,11 @@ use Rattle.swarm_objects.specs.declared.replies.Reply.TheVariants as reply
 use Rattle.swarm_objects.specs.declared.services.Draft.{Draft}
 use Rattle.swarm_objects.specs.declared.services.Service.{Service}
 use Rattle.swarm_objects.specs.declared.watches.Watcher.{Watcher}
-use Rattle.swarm_sched.proofs.KnownAlike.{knows_alike}
-use Rattle.swarm_sched.specs.Inside.KnownNodes.{KnowsNodes}
 use Rattle.swarm_spans.specs.Services.Touches.{NewServicesLaw}
 use Rattle.swarm_spans.specs.TasksCovered.{HasNewServices, ServicesLaw, with_services}
 use Rattle.swarm_world.proofs.Entering.{are_usable}
 use Rattle.swarm_world.proofs.Recorded.{tables_are, usable_rows}
+use Rattle.swarm_world.specs.Inside.Known.{ForgetsServices}
 use Rattle.swarm_world.specs.Inside.Looks.{AreSpanned, looked_at}
 use Rattle.swarm_world.specs.Inside.Marks.{AreMarked, IsAfterCall, IsMarked, makes_service}
 use Rattle.swarm_world.specs.Inside.Parts.{HasHistory, HasParts, StandsFor}
@@ -245,9 +244,9 @@ stay-marked m p q w v has stay marked =
 
 come-marked : (m n : Marks) (p q : Parts) (h : List Entry) (v : World) → IsLegal h → StandsFor p (replay h)
     → HasParts q v → HasHistory q → Comes (replay h) v → ServicesLaw m.tasks n.tasks
-    → NewServicesLaw (tables_of p.records).next_id m.services n.services → n.agents ≡ m.agents → n.nodes ≡ m.nodes
+    → NewServicesLaw (tables_of p.records).next_id m.services n.services → n.agents ≡ m.agents → ForgetsServices m.known n.known
     → IsMarked m p → IsMarked n q
-come-marked m n p q h v legal stands has is come tasks services agents nodes marked =
+come-marked m n p q h v legal stands has is come tasks services agents forgets marked =
     let t = tables_of p.records in
     let u = with_services come.next_id come.services t in
     let before : t ≡ (replay h).tables = tables_are p.records (replay h) stands.has.records in
@@ -265,7 +264,7 @@ come-marked m n p q h v legal stands has is come tasks services agents nodes mar
           (record {
             tasks = tasks t.next_id t come.next_id come.services usable new marked.rows.tasks;
             services = services t come.next_id come.services usable later new marked.rows.services;
-            nodes = knows_alike t u n.nodes refl refl (subst (KnowsNodes t) (sym nodes) marked.rows.nodes);
+            known = forgets t u refl refl marked.rows.known;
           });
       agents =
           subst (CoversAgents q) (sym agents)
@@ -274,21 +273,23 @@ come-marked m n p q h v legal stands has is come tasks services agents nodes mar
           (record {
             duties = record { has = λ a there busy. marked.agents.duties.has a there busy };
             tells = record { has = λ a there wants. marked.agents.tells.has a there wants };
+            news = record { has = λ a there unsaid. marked.agents.news.has a there unsaid };
+            steps = marked.agents.steps;
           }));
     }
 
 -- a transaction that makes services alone
 pub made_marked : (m n : Marks) (ops : List Op) (p : Parts) (first : ℕ) → first ≡ (tables_of p.records).next_id
     → true ≡ list_all makes_service ops → ServicesLaw m.tasks n.tasks → NewServicesLaw first m.services n.services
-    → n.agents ≡ m.agents → n.nodes ≡ m.nodes → (h : List Entry) (q : Parts) → IsLegal h → StandsFor p (replay h)
+    → n.agents ≡ m.agents → ForgetsServices m.known n.known → (h : List Entry) (q : Parts) → IsLegal h → StandsFor p (replay h)
     → IsMarked m p → HasHistory q → IsAfterCall h (call.Txn ops) q → IsMarked n q
-made_marked m n ops p first from make tasks services agents nodes h q legal stands marked is after =
+made_marked m n ops p first from make tasks services agents forgets h q legal stands marked is after =
     let laws = subst (λ k. NewServicesLaw k m.services n.services) from services in
     elim after [
       | inl done ↦
           come-marked m n p q h (step (replay h) (what.Call (call.Txn ops))).after legal stands done.has is
-          (made (replay h) ops (sym make)) tasks laws agents nodes marked
+          (made (replay h) ops (sym make)) tasks laws agents forgets marked
       | inr same ↦
           come-marked m n p q h (replay h) legal stands same.has is (none-come (replay h) (replay h) refl refl refl) tasks
-          laws agents nodes marked
+          laws agents forgets marked
     ]

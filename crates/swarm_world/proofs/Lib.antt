@@ -18,6 +18,8 @@ pub mod Committing
 pub mod Dropping
 pub mod Entering
 pub mod Faulting
+pub mod Heard
+pub mod KnownSteps
 pub mod Lawful
 pub mod Looking
 pub mod LooksOn
@@ -35,6 +37,7 @@ pub mod RemoteCalls
 pub mod Renewing
 pub mod Reporting
 pub mod ReportsAlone
+pub mod RowsKnown
 pub mod RowsTouched
 pub mod RowsTurned
 pub mod SettleLines
@@ -42,4 +45,5 @@ pub mod Stepping
 pub mod Taking
 pub mod Ticking
 pub mod ToldNodes
+pub mod Unsaid
 pub mod Transacting

@@ -31,7 +31,6 @@ use Rattle.swarm_objects.specs.declared.nodes.Node.{Node}
 use Rattle.swarm_objects.specs.declared.nodes.NodeDraft.{NodeDraft}
 use Rattle.swarm_objects.specs.declared.replies.Refusal.TheVariants as refusal
 use Rattle.swarm_objects.specs.declared.replies.Refusal.{Refusal}
-use Rattle.swarm_sched.specs.Inside.KnownNodes.{KnowsNodes}
 use Rattle.swarm_settle.proofs.KnownCalls.{known-nodes-replay}
 use Rattle.swarm_spans.specs.Services.Touches.{ServiceNodesLaw}
 use Rattle.swarm_spans.proofs.Grown.{in-onwards}
@@ -40,9 +39,11 @@ use Rattle.swarm_spans.specs.TasksCovered.{HasNewNodes, NodesLaw, with_nodes}
 use Rattle.swarm_spans.specs.declared.span.Span.{Span}
 use Rattle.swarm_world.proofs.Coming.{HasLeft, same-sent}
 use Rattle.swarm_world.proofs.Entering.{are_usable}
+use Rattle.swarm_world.proofs.KnownSteps.{nothing-known}
 use Rattle.swarm_world.proofs.Marked.{agents-between}
 use Rattle.swarm_world.proofs.Recorded.{tables_are, usable_rows}
-use Rattle.swarm_world.specs.Inside.Looks.{AreSpanned, looked_at, wants_message}
+use Rattle.swarm_world.specs.Inside.Known.{KnowsAll}
+use Rattle.swarm_world.specs.Inside.Looks.{AreSpanned, is_unsaid, looked_at, wants_message}
 use Rattle.swarm_world.specs.Inside.Marks.{AreMarked, IsAfterCall, IsMarked, makes_node}
 use Rattle.swarm_world.specs.Inside.Parts.{HasHistory, HasParts, StandsFor}
 use Rattle.swarm_world.specs.Inside.Records.{tables_of}
@@ -250,8 +251,8 @@ covers-new test span wide first high old new wider all rises near either covers 
 come-marked : (m n : Marks) (p q : Parts) (h : List Entry) (v : World) → IsLegal h → StandsFor p (replay h)
     → HasParts q v → HasHistory q → NodesCome (replay h) v → NodesLaw m.tasks n.tasks
     → ServiceNodesLaw m.services n.services → AreWiderFrom (tables_of p.records).next_id n.agents m.agents
-    → ((t : Tables) → KnowsNodes t n.nodes) → IsMarked m p → IsMarked n q
-come-marked m n p q h v legal stands has is come tasks services agents nodes marked =
+    → ((t : Tables) → KnowsAll t n.known) → IsMarked m p → IsMarked n q
+come-marked m n p q h v legal stands has is come tasks services agents known marked =
     let t = tables_of p.records in
     let u = with_nodes come.next_id come.nodes t in
     let before : t ≡ (replay h).tables = tables_are p.records (replay h) stands.has.records in
@@ -278,7 +279,7 @@ come-marked m n p q h v legal stands has is come tasks services agents nodes mar
           (record {
             tasks = tasks t.next_id t come.next_id come.nodes usable new marked.rows.tasks;
             services = services t come.next_id come.nodes usable marked.rows.services;
-            nodes = nodes u;
+            known = known u;
           });
       agents =
           subst (λ (z : Tables). AreSpanned (looked_at z q.sent) n.agents q.agents) (sym tables)
@@ -292,21 +293,26 @@ come-marked m n p q h v legal stands has is come tasks services agents nodes mar
                 covers-new (wants_message (looked_at u p.sent)) m.agents.tells n.agents.tells t.next_id high p.agents
                 q.agents agents.former.tells agents.tells (agents-between q is) near either
                 (record { has = λ a there wants. marked.agents.tells.has a there wants });
+            news =
+                covers-new (is_unsaid (looked_at u p.sent)) m.agents.news n.agents.news t.next_id high p.agents
+                q.agents agents.former.news agents.news (agents-between q is) near either
+                (record { has = λ a there unsaid. marked.agents.news.has a there unsaid });
+            steps = λ a there. nothing-known u.clock n.agents.steps a agents.steps;
           }));
     }
 
 -- a transaction that makes nodes alone
 pub nodes_marked : (m n : Marks) (ops : List Op) (p : Parts) (first : ℕ) → first ≡ (tables_of p.records).next_id
     → true ≡ list_all makes_node ops → NodesLaw m.tasks n.tasks → ServiceNodesLaw m.services n.services
-    → AreWiderFrom first n.agents m.agents → ((t : Tables) → KnowsNodes t n.nodes) → (h : List Entry) (q : Parts)
+    → AreWiderFrom first n.agents m.agents → ((t : Tables) → KnowsAll t n.known) → (h : List Entry) (q : Parts)
     → IsLegal h → StandsFor p (replay h) → IsMarked m p → HasHistory q → IsAfterCall h (call.Txn ops) q → IsMarked n q
-nodes_marked m n ops p first from make tasks services agents nodes h q legal stands marked is after =
+nodes_marked m n ops p first from make tasks services agents known h q legal stands marked is after =
     let wide = subst (λ k. AreWiderFrom k n.agents m.agents) from agents in
     elim after [
       | inl done ↦
           come-marked m n p q h (step (replay h) (what.Call (call.Txn ops))).after legal stands done.has is
-          (made (replay h) ops (sym make)) tasks services wide nodes marked
+          (made (replay h) ops (sym make)) tasks services wide known marked
       | inr same ↦
           come-marked m n p q h (replay h) legal stands same.has is
-          (none-come (replay h) (replay h) refl refl refl) tasks services wide nodes marked
+          (none-come (replay h) (replay h) refl refl refl) tasks services wide known marked
     ]

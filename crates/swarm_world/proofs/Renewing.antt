@@ -25,17 +25,17 @@ use Rattle.swarm_objects.specs.declared.replies.Wanted.TheVariants as wanted_by
 use Rattle.swarm_objects.specs.declared.rows.Change.TheVariants as change
 use Rattle.swarm_objects.specs.declared.services.Draft.{Draft}
 use Rattle.swarm_objects.specs.declared.services.Service.{Service}
-use Rattle.swarm_sched.proofs.KnownAlike.{knows_alike}
-use Rattle.swarm_sched.specs.Inside.KnownNodes.{KnowsNodes}
 use Rattle.swarm_spans.specs.Services.Touches.{AreCovered, ServicePutLaw}
 use Rattle.swarm_spans.specs.TasksCovered.{AreTasksCovered, PutLaw}
 use Rattle.swarm_world.proofs.Coming.{HasLeft, covers-as, same-agents, same-sent}
 use Rattle.swarm_world.proofs.Entering.{are_usable}
 use Rattle.swarm_world.proofs.Recorded.{tables_are, usable_rows}
+use Rattle.swarm_world.specs.Inside.Known.{ForgetsServices}
 use Rattle.swarm_world.specs.Inside.Marks.{AreMarked, IsAfterCall, IsMarked}
 use Rattle.swarm_world.specs.Inside.Parts.{HasHistory, HasParts, StandsFor}
 use Rattle.swarm_world.specs.Inside.Records.{tables_of}
 use Rattle.swarm_world.specs.Inside.Spanned.{CoversAgents}
+use Rattle.swarm_world.specs.declared.known.Known.{Known}
 use Rattle.swarm_world.specs.declared.marks.Marks.{Marks}
 use Rattle.swarm_world.specs.declared.parts.Parts.{Parts}
 
@@ -116,16 +116,17 @@ pub record AreTouched (t : Tables) (name : List ℕ) (m n : Marks) : Type 0 wher
   pub puts : (s : Service) → service_by t name ≡ Some s
       → PutLaw s.id t m.tasks n.tasks × ServicePutLaw s.id t m.services n.services
   pub agents : n.agents ≡ m.agents
-  pub nodes : n.nodes ≡ m.nodes
+  pub known : ForgetsServices m.known n.known
 
 -- there is no such service
-pub none_touched : (t : Tables) (name : List ℕ) (m : Marks) → None ≡ service_by t name → AreTouched t name m m
-none_touched t name m none = record {
+pub none_touched : (t : Tables) (name : List ℕ) (m : Marks) (k : Known) → ForgetsServices m.known k
+    → None ≡ service_by t name → AreTouched t name m (record m { known = k })
+none_touched t name m k forgets none = record {
   tasks = λ are. are;
   services = λ are. are;
   puts = λ s e. absurd (never s (none ∙ e));
   agents = refl;
-  nodes = refl;
+  known = forgets;
 }
   where
     never : (s : Service) → None ≡ Some s → ⊥
@@ -135,13 +136,13 @@ none_touched t name m none = record {
 pub one_touched : (t : Tables) (name : List ℕ) (m n : Marks) (s : Service) → Some s ≡ service_by t name
     → (AreTasksCovered t m.tasks → AreTasksCovered t n.tasks) → PutLaw s.id t m.tasks n.tasks
     → (AreCovered t m.services → AreCovered t n.services) → ServicePutLaw s.id t m.services n.services
-    → n.agents ≡ m.agents → n.nodes ≡ m.nodes → AreTouched t name m n
-one_touched t name m n s row tasks put services service_put agents nodes = record {
+    → n.agents ≡ m.agents → ForgetsServices m.known n.known → AreTouched t name m n
+one_touched t name m n s row tasks put services service_put agents forgets = record {
   tasks = tasks;
   services = services;
   puts = λ r e. own r (row ∙ e);
   agents = agents;
-  nodes = nodes;
+  known = forgets;
 }
   where
     own : (r : Service) → Some s ≡ Some r → PutLaw r.id t m.tasks n.tasks × ServicePutLaw r.id t m.services n.services
@@ -174,7 +175,7 @@ renew-marked m n p q name h v stands has is renews touched marked =
               (record {
                 tasks = touched.tasks marked.rows.tasks;
                 services = touched.services marked.rows.services;
-                nodes = subst (KnowsNodes t) (sym touched.nodes) marked.rows.nodes;
+                known = touched.known t t refl refl marked.rows.known;
               });
           agents =
               subst (CoversAgents q) (sym touched.agents)
@@ -196,7 +197,7 @@ renew-marked m n p q name h v stands has is renews touched marked =
               (record {
                 tasks = puts.0 other.row other.id later marked.rows.tasks;
                 services = puts.1 other.row other.id later marked.rows.services;
-                nodes = knows_alike t u n.nodes refl refl (subst (KnowsNodes t) (sym touched.nodes) marked.rows.nodes);
+                known = touched.known t u refl refl marked.rows.known;
               });
           agents =
               subst (CoversAgents q) (sym touched.agents)
@@ -205,6 +206,8 @@ renew-marked m n p q name h v stands has is renews touched marked =
               (record {
                 duties = record { has = λ a there busy. marked.agents.duties.has a there busy };
                 tells = record { has = λ a there wants. marked.agents.tells.has a there wants };
+                news = record { has = λ a there unsaid. marked.agents.news.has a there unsaid };
+                steps = marked.agents.steps;
               }));
         }
 

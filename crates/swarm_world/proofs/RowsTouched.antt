@@ -14,10 +14,6 @@ use Rattle.swarm_objects.specs.declared.rows.Change.{Change}
 use Rattle.swarm_objects.specs.declared.sessions.NodeSession.{NodeSession}
 use Rattle.swarm_objects.specs.declared.tasks.Task.{Task}
 use Rattle.swarm_sessions.specs.OnRecord.{OnRecord, tables_with}
-use Rattle.swarm_sched.proofs.KnownAlike.{knows_alike}
-use Rattle.swarm_sched.specs.Inside.Known.{AreMoved}
-use Rattle.swarm_sched.specs.Inside.KnownNodes.{KnowsNodes}
-use Rattle.swarm_sched.specs.declared.known.Moved.{Moved}
 use Rattle.swarm_spans.proofs.Services.GoesOn.{come_goes_on, create_goes_on, down_goes_on, leave_goes_on, next_goes_on}
 use Rattle.swarm_spans.proofs.Services.Trimmed.{trim_goes_on}
 use Rattle.swarm_spans.proofs.Services.Updated.{update_goes_on}
@@ -30,10 +26,13 @@ use Rattle.swarm_spans.specs.declared.service_spans.ServiceSpans.{ServiceSpans}
 use Rattle.swarm_spans.specs.declared.span.Span.{Span}
 use Rattle.swarm_watch.specs.Watchings.{Watchings}
 use Rattle.swarm_world.proofs.Recorded.{tables_are, usable_rows}
+use Rattle.swarm_world.proofs.RowsKnown.{knows_rows_alike}
 use Rattle.swarm_world.specs.Inside.Commits.{Commits}
+use Rattle.swarm_world.specs.Inside.Known.{AreForeseen, KnowsAll}
 use Rattle.swarm_world.specs.Inside.Marks.{AreMarked}
 use Rattle.swarm_world.specs.Inside.Parts.{HasHistory}
 use Rattle.swarm_world.specs.Inside.Records.{AreUsable, HasRecords, tables_of}
+use Rattle.swarm_world.specs.declared.known.Foreseen.{Foreseen}
 use Rattle.swarm_world.specs.declared.marks.Marks.{Marks}
 use Rattle.swarm_world.specs.declared.parts.Parts.{Parts}
 use Rattle.swarm_world.specs.declared.records.Records.{Records}
@@ -43,10 +42,10 @@ pub same_rows : (m : Marks) (r s : Records) → s ≡ r → AreMarked m (tables_
 same_rows m r s same = subst (λ (x : Records). AreMarked m (tables_of x)) (sym same)
 
 -- where the spans over the rows, and what is remembered, are the same
-pub same_spans : (m n : Marks) (t : Tables) → n.tasks ≡ m.tasks → n.services ≡ m.services → n.nodes ≡ m.nodes
+pub same_spans : (m n : Marks) (t : Tables) → n.tasks ≡ m.tasks → n.services ≡ m.services → n.known ≡ m.known
     → AreMarked m t → AreMarked n t
-same_spans m n t tasks services nodes marked = record {
-  nodes = subst (KnowsNodes t) (sym nodes) marked.nodes;
+same_spans m n t tasks services known marked = record {
+  known = subst (KnowsAll t) (sym known) marked.known;
   tasks = subst (AreTasksCovered t) (sym tasks) marked.tasks;
   services = subst (AreCovered t) (sym services) marked.services;
 }
@@ -97,10 +96,10 @@ others-have node f t keeps = record { others = λ n. go n (eqb node n) refl }
 -- after its beat
 pub beat_marked : (node now heartbeat id : ℕ) (before after : Marks) (r : Records) (s : OnRecord) → AreUsable r
     → AreMarked before (tables_of r) → SessionLaw node before.tasks after.tasks → after.services ≡ before.services
-    → after.nodes ≡ before.nodes
+    → after.known ≡ before.known
     → s.rows ≡ (after_beat (tables_with r.sessions.rows now heartbeat id) node).sessions
     → AreMarked after (tables_of (record { store = r.store; sessions = s }))
-beat_marked node now heartbeat id before after r s are marked law services nodes rows =
+beat_marked node now heartbeat id before after r s are marked law services known rows =
     let t = tables_of r in
     let f = beaten (tables_with r.sessions.rows now heartbeat id) in
     let beats = change_row session_node node f r.sessions.rows in
@@ -110,9 +109,9 @@ beat_marked node now heartbeat id before after r s are marked law services nodes
       tasks = law t t.next_id beats usable (others-have node f t (λ x. refl)) marked.tasks;
       services = subst (AreCovered (record t { sessions = beats })) (sym services)
           (services-still t t.next_id beats before.services usable marked.services);
-      nodes =
-          knows_alike t (record t { sessions = beats }) after.nodes refl refl
-          (subst (KnowsNodes t) (sym nodes) marked.nodes);
+      known =
+          knows_rows_alike t (record t { sessions = beats }) after.known refl refl refl refl
+          (subst (KnowsAll t) (sym known) marked.known);
     })
 
 -- Changes of rows that were touched before.
@@ -134,10 +133,10 @@ committed all cs p is r m are has touched usable =
     let same = made all cs p is r are has in
     subst (AreMarked m) (sym same) (touched (subst IsUsable same usable))
 
-pub committed_moved : (touched cs : List Change) (p : Parts) (is : HasHistory p) (r : Records) (m : Moved) → touched ≡ cs
+pub committed_foreseen : (touched cs : List Change) (p : Parts) (is : HasHistory p) (r : Records) (m : Foreseen) → touched ≡ cs
     → HasRecords r (with_tables (replay is.history) (apply_changes (replay is.history).tables cs))
-    → AreMoved (apply_changes (tables_of p.records) touched) m → AreMoved (tables_of r) m
-committed_moved all cs p is r m are has = subst (λ (t : Tables). AreMoved t m) (sym (made all cs p is r are has))
+    → AreForeseen (apply_changes (tables_of p.records) touched) m → AreForeseen (tables_of r) m
+committed_foreseen all cs p is r m are has = subst (λ (t : Tables). AreForeseen t m) (sym (made all cs p is r are has))
 
 -- or memory was wanting
 pub not_committed : (p : Parts) (is : HasHistory p) (r : Records) (m : Marks) → HasRecords r (replay is.history)
@@ -156,10 +155,10 @@ commit_marked version all cs p is r heard (Ok done) m are did stays touched usab
 commit_marked version all cs p is r heard (Err wanting) m are did stays touched usable =
     not_committed p is r m (did.0 (replay is.history) is.stands.has.records) stays
 
-pub commit_moved : {X E : Type 0} (version : ℕ) (touched cs : List Change) (p : Parts) (is : HasHistory p)
-    (r : Records) (heard : Watchings) (result : Result X E) (m : Moved) → touched ≡ cs
-    → Commits version cs p.records p.watches result r heard → AreMoved (apply_changes (tables_of p.records) touched) m
-    → is_ok result ≡ true → AreMoved (tables_of r) m
-commit_moved version all cs p is r heard (Ok done) m are did moved yes_made =
-    committed_moved all cs p is r m are (did (replay is.history) is.stands.has.records).0 moved
-commit_moved version all cs p is r heard (Err wanting) m are did moved yes_made = absurd cc
+pub commit_foreseen : {X E : Type 0} (version : ℕ) (touched cs : List Change) (p : Parts) (is : HasHistory p)
+    (r : Records) (heard : Watchings) (result : Result X E) (m : Foreseen) → touched ≡ cs
+    → Commits version cs p.records p.watches result r heard → AreForeseen (apply_changes (tables_of p.records) touched) m
+    → is_ok result ≡ true → AreForeseen (tables_of r) m
+commit_foreseen version all cs p is r heard (Ok done) m are did moved yes_made =
+    committed_foreseen all cs p is r m are (did (replay is.history) is.stands.has.records).0 moved
+commit_foreseen version all cs p is r heard (Err wanting) m are did moved yes_made = absurd cc

@@ -9,7 +9,7 @@ use Rattle.swarm_objects.specs.Agents.Messages.{due_set, next_message, sent_of}
 use Rattle.swarm_objects.specs.Limits.{is_tick}
 use Rattle.swarm_objects.specs.Nodes.Sessions.{is_before_deadline, is_session_live}
 use Rattle.swarm_objects.specs.Refusals.{refuse, unless}
-use Rattle.swarm_objects.specs.Rows.{Has, agent_node, row_at, sent_node, session_node}
+use Rattle.swarm_objects.specs.Rows.{Has, agent_node, has_row, row_at, sent_node, session_node, task_id}
 use Rattle.swarm_objects.specs.Usable.{IsUsable}
 use Rattle.swarm_objects.specs.World.{Tables, World}
 use Rattle.swarm_objects.specs.declared.agents.NodeAgent.{NodeAgent}
@@ -20,8 +20,6 @@ use Rattle.swarm_objects.specs.declared.messages.NodeSent.{NodeSent}
 use Rattle.swarm_objects.specs.declared.replies.Refusal.TheVariants as refusal
 use Rattle.swarm_objects.specs.declared.replies.Reply.TheVariants as reply
 use Rattle.swarm_objects.specs.declared.sessions.NodeSession.{NodeSession}
-use Rattle.swarm_sched.proofs.KnownAlike.{knows_alike}
-use Rattle.swarm_sched.specs.Inside.KnownNodes.{KnowsNodes}
 use Rattle.swarm_spans.specs.Services.Touches.{ServiceTimeLaw}
 use Rattle.swarm_spans.specs.Spans.{Covers, full}
 use Rattle.swarm_spans.specs.TasksCovered.{TimeLaw, at_time}
@@ -29,9 +27,12 @@ use Rattle.swarm_spans.specs.declared.span.Span.{Span}
 use Rattle.swarm_world.proofs.AgentsKept.{shows}
 use Rattle.swarm_world.proofs.AgentsSeen.{seen-covered, world-covered}
 use Rattle.swarm_world.proofs.AgentsShown.{wants-both, wants-parts}
+use Rattle.swarm_world.proofs.KnownSteps.{nothing-known}
 use Rattle.swarm_world.proofs.Marked.{agents_full}
 use Rattle.swarm_world.proofs.Recorded.{tables_are}
-use Rattle.swarm_world.specs.Inside.Looks.{AreSpanned, is_told, wants_message}
+use Rattle.swarm_world.proofs.Unsaid.{unsaid-more}
+use Rattle.swarm_world.specs.Inside.Known.{ForgetsServices}
+use Rattle.swarm_world.specs.Inside.Looks.{AreSpanned, is_told, is_unsaid, no_steps, wants_message}
 use Rattle.swarm_world.specs.Inside.Marks.{AreMarked, IsAfterCall, IsMarked}
 use Rattle.swarm_world.specs.Inside.Parts.{HasHistory, HasParts, StandsFor}
 use Rattle.swarm_world.specs.Inside.Records.{tables_of}
@@ -42,12 +43,12 @@ use Rattle.swarm_world.specs.declared.parts.Parts.{Parts}
 
 -- the spans over the rows
 pub timed : (before after : Marks) (t : Tables) → IsUsable t → TimeLaw t before.tasks after.tasks
-    → ServiceTimeLaw t before.services after.services → after.nodes ≡ before.nodes → (clock : ℕ) → AreMarked before t
+    → ServiceTimeLaw t before.services after.services → ForgetsServices before.known after.known → (clock : ℕ) → AreMarked before t
     → AreMarked after (at_time clock t)
-timed before after t usable tasks services nodes clock marked = record {
+timed before after t usable tasks services forgets clock marked = record {
   tasks = tasks clock marked.tasks;
   services = services clock marked.services;
-  nodes = knows_alike t (at_time clock t) after.nodes refl refl (subst (KnowsNodes t) (sym nodes) marked.nodes);
+  known = forgets t (at_time clock t) refl refl marked.known;
 }
 
 -- the world after a tick, of whatever length
@@ -90,14 +91,26 @@ still-wanted w v clock a tables le sent wants =
         subst (λ (t : Tables). is_some (next_message (sent_of w a.node) (due_set t a.node)) ≡ true) tables
         (subst (λ (rows : List NodeSent). is_some (next_message (row_at sent_node a.node rows) (due_set v.tables a.node)) ≡ true) sent some)
 
--- What time leaves of the agents' spans: each agent may have a duty, and none other wants a message.
+-- nor has an agent news by it
+still-unsaid : (w v : World) (clock : ℕ) (a : NodeAgent) → v.tables ≡ at_time clock w.tables → w.tables.clock ≤ clock
+    → is_unsaid v a ≡ true → is_unsaid w a ≡ true
+still-unsaid w v clock a tables le =
+    unsaid-more v w a
+    (λ live. still-live w.tables.clock clock (row_at session_node a.node w.tables.sessions) le
+    (subst (λ (t : Tables). is_session_live t a.node ≡ true) tables live))
+    (λ e is there. subst (λ (t : Tables). has_row task_id e.task t.tasks ≡ true) tables there)
 
-agents-timed : (times : TimesLaw) (q : Parts) (w v : World) (tells : Span) → HasHistory q → HasParts q v → IsLater w v
-    → Covers agent_node (wants_message w) tells w.agents → CoversAgents q (record { duties = full; tells = tells })
-agents-timed times q w v tells is has later covers =
-    let all : AgentSpans = record { duties = full; tells = full } in
-    let every = world-covered times (tables_of q.records) q.sent q.agents v all (shows q v has) (agents_full q all refl refl is) in
-    seen-covered times (tables_of q.records) q.sent q.agents v (record { duties = full; tells = tells }) (shows q v has)
+-- What time leaves of the agents' spans: each agent may have a duty, and none other wants a message or has news. Nothing
+-- is known of steps.
+
+agents-timed : (times : TimesLaw) (q : Parts) (w v : World) (tells news : Span) → HasHistory q → HasParts q v → IsLater w v
+    → Covers agent_node (wants_message w) tells w.agents → Covers agent_node (is_unsaid w) news w.agents
+    → CoversAgents q (record { duties = full; tells = tells; news = news; steps = no_steps })
+agents-timed times q w v tells news is has later covers said =
+    let all : AgentSpans = record { duties = full; tells = full; news = full; steps = no_steps } in
+    let every = world-covered times (tables_of q.records) q.sent q.agents v all (shows q v has) (agents_full q all refl refl refl refl is) in
+    seen-covered times (tables_of q.records) q.sent q.agents v
+    (record { duties = full; tells = tells; news = news; steps = no_steps }) (shows q v has)
     (record {
       duties = every.duties;
       tells = record {
@@ -105,13 +118,20 @@ agents-timed times q w v tells is has later covers =
             covers.has a (subst (λ (rows : List NodeAgent). Has rows a) later.agents there)
             (still-wanted w v later.clock a later.tables later.rises later.sent wants);
       };
+      news = record {
+        has = λ a there unsaid.
+            said.has a (subst (λ (rows : List NodeAgent). Has rows a) later.agents there)
+            (still-unsaid w v later.clock a later.tables later.rises unsaid);
+      };
+      steps = λ a there. nothing-known v.tables.clock no_steps a refl;
     })
 
 pub tick_marked : (times : TimesLaw) (m n : Marks) (ms : ℕ) (p : Parts)
     → ((clock : ℕ) → AreMarked m (tables_of p.records) → AreMarked n (at_time clock (tables_of p.records)))
-    → n.agents.duties ≡ full → n.agents.tells ≡ m.agents.tells → (h : List Entry) (q : Parts) → IsLegal h
+    → n.agents.duties ≡ full → n.agents.tells ≡ m.agents.tells → n.agents.news ≡ m.agents.news
+    → n.agents.steps ≡ no_steps → (h : List Entry) (q : Parts) → IsLegal h
     → StandsFor p (replay h) → IsMarked m p → HasHistory q → IsAfterCall h (call.Tick ms) q → IsMarked n q
-tick_marked times m n ms p law duties tells h q legal stands marked is after =
+tick_marked times m n ms p law duties tells news steps h q legal stands marked is after =
     elim after [
       | inl done ↦ later (step w (what.Call (call.Tick ms))).after (later-ticked w ms (is_tick ms) refl) done
       | inr same ↦ later w (later-itself w) same
@@ -131,6 +151,6 @@ tick_marked times m n ms p law duties tells h q legal stands marked is after =
           ∙ ap (at_time is-later.clock) (sym (tables_are p.records w stands.has.records))))
           (law is-later.clock marked.rows);
       agents =
-          subst (CoversAgents q) (λ i. record { duties = sym duties i; tells = sym tells i })
-          (agents-timed times q w v m.agents.tells is done.has is-later covers.tells);
+          subst (CoversAgents q) (λ i. record { duties = sym duties i; tells = sym tells i; news = sym news i; steps = sym steps i })
+          (agents-timed times q w v m.agents.tells m.agents.news is done.has is-later covers.tells covers.news);
     }

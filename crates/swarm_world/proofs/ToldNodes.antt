@@ -155,10 +155,12 @@ pub ruleset all_steps = (told_none, told_one, told_all)
 
 pub told_joined : (t : Tables) (cs : List Change) (nodes : Span) (spans wide : AgentSpans) → TouchesAllTold t nodes cs →
     IsWider wide.duties spans.duties → IsWider wide.duties nodes → IsWider wide.tells spans.tells →
-    IsWider wide.tells nodes → AreTouched t spans wide cs
-told_joined t cs nodes spans wide touches duties all-duties tells all-tells = record {
+    IsWider wide.tells nodes → wide.news ≡ spans.news → wide.steps ≡ spans.steps → AreTouched t spans wide cs
+told_joined t cs nodes spans wide touches duties all-duties tells all-tells same steps = record {
   duties = record { wider = duties; touches = both wide.duties all-duties };
   tells = record { wider = tells; touches = both wide.tells all-tells };
+  news = same;
+  steps = steps;
 }
   where
     both : (span : Span) → IsWider span nodes → TouchesAllTold t span cs

@@ -3,6 +3,7 @@ pub mod Beginnings
 pub mod BesideOps
 pub mod Commits
 pub mod Kept
+pub mod Known
 pub mod Looks
 pub mod Lookups
 pub mod Marks

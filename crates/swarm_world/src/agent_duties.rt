@@ -13,7 +13,7 @@ ghost use Rattle.swarm_objects.specs.declared.duties.Duty.TheVariants as duty;
 ghost use Rattle.swarm_world.specs.Inside.Marks.{AreMarked};
 ghost use Rattle.swarm_world.specs.Inside.Parts.{Enters, HasDuty, HasHistory, IsAt, StandsFor};
 ghost use Rattle.swarm_world.specs.Inside.Records.{tables_of};
-ghost use Rattle.swarm_world.specs.Inside.Spanned.{after_turn};
+ghost use Rattle.swarm_world.specs.Inside.Spanned.{after_turn, with_told};
 
 use crate::commits::commit;
 use crate::marks::Marks;
@@ -51,7 +51,7 @@ impl Parts {
         ensures enters { (h : Seq Entry) → IsAt version self.old h →
             Enters h (what.Duty (duty.Register node)) result self.new }
         ensures marks { IsUsable (tables_of self.new.records) → AreMarked marks.new (tables_of self.new.records) }
-        ensures agents { marks.new.agents ≡ after_turn (duty.Register node) marks.old.agents }
+        ensures agents { marks.new.agents ≡ with_told (duty.Register node) marks.old.agents }
     {
         entries_are_noted();
         marks.agents.tells.add(node);
@@ -158,11 +158,11 @@ impl Parts {
         let Ok(changes) = raise_state(self.alloc, &self.records, version, task, state) else {
             return Err(NoMemory);
         };
-        let moved = marks.touch(&self.records, changes.as_slice());
+        let foreseen = marks.touch(&self.records, changes.as_slice());
         let Ok(()) = commit(&mut self.records, &mut self.watches, version, changes) else {
             return Err(NoMemory);
         };
-        marks.remember(moved, true);
+        marks.remember(foreseen, true);
         self.agents.reported(node, task);
         Ok(())
     }
@@ -177,8 +177,9 @@ impl Parts {
         self.agents.forget(node, task);
     }
 
-    /// The duty of the agents' loop, which is due, is done as the entry with this number; or memory is wanting.
-    pub fn take_by_agents(
+    // The duty of the agents' loop, which is due, is done as the entry with this number; or memory is wanting. What its
+    // agent owes by it is heard apart.
+    fn do_by_agents(
         &mut self,
         marks: &mut Marks,
         version: Version,
@@ -189,7 +190,7 @@ impl Parts {
         requires marks { AreMarked marks.old (tables_of self.old.records) }
         ensures enters { (h : Seq Entry) → IsAt version self.old h → Enters h (what.Duty duty) result self.new }
         ensures marks { IsUsable (tables_of self.new.records) → AreMarked marks.new (tables_of self.new.records) }
-        ensures agents { marks.new.agents ≡ after_turn duty marks.old.agents }
+        ensures agents { marks.new.agents ≡ with_told duty marks.old.agents }
     {
         match duty {
             Duty::Register(node) => self.register(marks, version, node),
@@ -211,5 +212,24 @@ impl Parts {
             // those of other loops
             _ => unreachable!(),
         }
+    }
+
+    /// The duty of the agents' loop, which is due, is done as the entry with this number; or memory is wanting.
+    #[tactic(auto, using(crate::proofs::Heard::turn_steps))]
+    pub fn take_by_agents(
+        &mut self,
+        marks: &mut Marks,
+        version: Version,
+        duty: Duty,
+    ) -> Result<(), NoMemory>
+        requires at { HasDuty duty self.old }
+        requires own { is_agents (role_of duty) ≡ true }
+        requires marks { AreMarked marks.old (tables_of self.old.records) }
+        ensures enters { (h : Seq Entry) → IsAt version self.old h → Enters h (what.Duty duty) result self.new }
+        ensures marks { IsUsable (tables_of self.new.records) → AreMarked marks.new (tables_of self.new.records) }
+        ensures agents { marks.new.agents ≡ after_turn duty marks.old.agents }
+    {
+        marks.hear(duty);
+        self.do_by_agents(marks, version, duty)
     }
 }

@@ -9,6 +9,8 @@ mod changes;
 mod commits;
 mod faults;
 mod firsts;
+mod known;
+mod known_lines;
 mod lines;
 mod looks;
 mod marks;

@@ -6,12 +6,11 @@ use swarm_alloc::{gets_address, port_of, wants_note};
 use swarm_global::{come_of, leave_of};
 use swarm_jobs::{is_old, next_duty};
 use swarm_objects::{Duty, Node, Rows, Service, Task};
-use swarm_replicated::{create_duty, down_duty, is_gone};
+use swarm_replicated::is_gone;
 use swarm_restart::{wants_raise, wants_restart};
 use swarm_sessions::{is_expired, is_orphaned};
 use swarm_spans::reads::{ToAllocate, ToSchedule, ToWait};
 use swarm_spans::{NodeLine, ServiceLine, TaskLine, TaskReads};
-use swarm_update::update_duty;
 use swarm_upkeep::{is_misplaced, is_removable, is_trimmed_past};
 
 // The duty where there is one.
@@ -164,32 +163,6 @@ impl TaskLine for Trims {
     }
 }
 
-/// Replicated services that give up a slot.
-pub struct Downs;
-
-impl ServiceLine for Downs {
-    ghost use Rattle.swarm_spans.specs.Services.Lines.{downs};
-
-    ghost duties = { downs };
-
-    fn duty<R: Rows>(rows: &R, service: &Service) -> Option<Duty> {
-        down_duty(rows, service)
-    }
-}
-
-/// Replicated services that get a task.
-pub struct Creates;
-
-impl ServiceLine for Creates {
-    ghost use Rattle.swarm_spans.specs.Services.Lines.{creates};
-
-    ghost duties = { creates };
-
-    fn duty<R: Rows>(rows: &R, service: &Service) -> Option<Duty> {
-        create_duty(rows, service)
-    }
-}
-
 /// Global services that leave a node.
 pub struct Leaves;
 
@@ -226,19 +199,6 @@ impl ServiceLine for JobCreates {
 
     fn duty<R: Rows>(rows: &R, service: &Service) -> Option<Duty> {
         next_duty(rows, service)
-    }
-}
-
-/// Services with something to do about an update.
-pub struct Updates;
-
-impl ServiceLine for Updates {
-    ghost use Rattle.swarm_spans.specs.Services.Lines.{updates};
-
-    ghost duties = { updates };
-
-    fn duty<R: Rows>(rows: &R, service: &Service) -> Option<Duty> {
-        update_duty(rows, service)
     }
 }
 

@@ -9,11 +9,11 @@ ghost use Rattle.swarm_objects.specs.Nodes.Sessions.{is_session_live, session_of
 ghost use Rattle.swarm_objects.specs.Rows.{RisesFrom, agent_node, executor_task, first_of, has_row, is_some_and, task_id};
 ghost use Rattle.swarm_objects.specs.Usable.{IsUsable};
 ghost use Rattle.swarm_spans.specs.Spans.{is_in};
-ghost use Rattle.swarm_world.specs.Inside.Looks.{AreSpanned, EachRises, IsAsked, MayBeTold, is_told, looked_at, wants_message};
+ghost use Rattle.swarm_world.specs.Inside.Looks.{AreSpanned, EachRises, HasNoStep, IsAsked, IsHeard, IsPassed, MayBeTold, MayHaveNews, is_told, is_unsaid, looked_at, wants_message};
 ghost use Rattle.swarm_world.specs.Inside.Records.{tables_of};
 ghost use Rattle.swarm_world.specs.Inside.Spanned.{AgentsSpanLaw};
 
-use crate::agent_spans::AgentSpans;
+use crate::agent_spans::{AgentSpans, Steps};
 use crate::records::Records;
 use swarm_agent::theorems::{times_that_no_step_looks_at, what_is_found_is_the_first_duty};
 use swarm_agent::{Agent, Agents, has_passed};
@@ -121,15 +121,28 @@ fn inbox_duty(
     None
 }
 
-// The first executor that has a step to make.
-fn first_step(records: &Records, node: Id, agent: &Agent) -> Option<Duty>
-    ensures { let t = tables_of records.now in
+// The first executor that has a step to make: looked for behind those of which it is known that they have none.
+fn first_step(records: &Records, node: Id, agent: &Agent, steps: &mut Steps) -> Option<Duty>
+    requires rises { RisesFrom executor_task 0 agent.now.executors }
+    requires none { HasNoStep (tables_of records.now).clock steps.old (at_node node agent.now) }
+    ensures first { let t = tables_of records.now in
         result ≡ first_of (duty_where (has_step t.clock) (λ e. Duty.Exec node e.task) agent.now.executors) }
+    ensures passed { IsPassed (tables_of records.now).clock (at_node node agent.now) steps.old steps.new }
 {
     what_is_found_is_the_first_duty();
-    match agent.step_due(records.now()) {
-        Some(task) => Some(Duty::Exec(node, task)),
-        None => None,
+    let after = steps.before_on(node).saturating_sub(1);
+    match agent.step_due_after(after, records.now()) {
+        Some(task) => {
+            *steps = Steps { node, before: task };
+            Some(Duty::Exec(node, task))
+        }
+        None => {
+            *steps = Steps {
+                node,
+                before: u64::MAX,
+            };
+            None
+        }
     }
 }
 
@@ -166,8 +179,8 @@ fn first_forgotten(node: Id, agent: &Agent) -> Option<Duty>
     }
 }
 
-// The first about executors, behind their steps.
-fn first_told(records: &Records, sent: &Sents, node: Id, agent: &Agent, live: bool) -> Option<Duty>
+// The first that is reported or forgotten.
+fn first_news(records: &Records, sent: &Sents, node: Id, agent: &Agent, live: bool) -> Option<Duty>
     requires { RisesFrom executor_task 0 agent.now.executors }
     ensures { let w = looked_at (tables_of records.now) sent.now in let a = at_node node agent.now in
         result ≡ first_of (report_duties w a live
@@ -181,28 +194,68 @@ fn first_told(records: &Records, sent: &Sents, node: Id, agent: &Agent, live: bo
     first_forgotten(node, agent)
 }
 
+// The first about executors, behind their steps: looked for only where the agent may have news. Where it has none, its
+// node leaves the span, with those before it.
+#[tactic(auto, using(crate::proofs::Heard::heard_steps))]
+fn first_told(
+    records: &Records,
+    sent: &Sents,
+    node: Id,
+    agent: &Agent,
+    live: bool,
+    news: &mut Span,
+) -> Option<Duty>
+    requires rises { RisesFrom executor_task 0 agent.now.executors }
+    requires live { live ≡ is_session_live (tables_of records.now) node }
+    requires may { MayHaveNews (looked_at (tables_of records.now) sent.now) (at_node node agent.now) live news.old }
+    ensures first { let w = looked_at (tables_of records.now) sent.now in let a = at_node node agent.now in
+        result ≡ first_of (report_duties w a live
+        ++ duty_where is_forgotten (λ e. Duty.Forget node e.task) a.executors) }
+    ensures heard { IsHeard (looked_at (tables_of records.now) sent.now) (at_node node agent.now) news.old news.new }
+{
+    if !news.has(node) {
+        return None;
+    }
+    match first_news(records, sent, node, agent, live) {
+        Some(duty) => Some(duty),
+        None => {
+            news.pass(node);
+            None
+        }
+    }
+}
+
 // The first about executors.
+#[tactic(auto, using(crate::proofs::Heard::within_steps))]
 fn first_executed(
     records: &Records,
     sent: &Sents,
     node: Id,
     agent: &Agent,
     live: bool,
+    news: &mut Span,
+    steps: &mut Steps,
 ) -> Option<Duty>
-    requires { RisesFrom executor_task 0 agent.now.executors }
-    ensures { let t = tables_of records.now in
+    requires rises { RisesFrom executor_task 0 agent.now.executors }
+    requires live { live ≡ is_session_live (tables_of records.now) node }
+    requires may_say { MayHaveNews (looked_at (tables_of records.now) sent.now) (at_node node agent.now) live news.old }
+    requires none { HasNoStep (tables_of records.now).clock steps.old (at_node node agent.now) }
+    ensures first { let t = tables_of records.now in
         let w = looked_at t sent.now in let a = at_node node agent.now in
         result ≡ first_of (duty_where (has_step t.clock) (λ e. Duty.Exec node e.task) a.executors
         ++ report_duties w a live
         ++ duty_where is_forgotten (λ e. Duty.Forget node e.task) a.executors) }
+    ensures heard { IsHeard (looked_at (tables_of records.now) sent.now) (at_node node agent.now) news.old news.new }
+    ensures passed { IsPassed (tables_of records.now).clock (at_node node agent.now) steps.old steps.new }
 {
-    match first_step(records, node, agent) {
+    match first_step(records, node, agent, steps) {
         Some(duty) => Some(duty),
-        None => first_told(records, sent, node, agent, live),
+        None => first_told(records, sent, node, agent, live, news),
     }
 }
 
 // The first behind that about the session.
+#[tactic(auto, using(crate::proofs::Heard::within_steps))]
 fn first_within(
     records: &Records,
     sent: &Sents,
@@ -210,10 +263,15 @@ fn first_within(
     agent: &Agent,
     live: bool,
     tells: &mut Span,
+    news: &mut Span,
+    steps: &mut Steps,
 ) -> Option<Duty>
     requires usable { IsUsable (tables_of records.now) }
     requires rises { RisesFrom executor_task 0 agent.now.executors }
+    requires live { live ≡ is_session_live (tables_of records.now) node }
     requires may { MayBeTold (looked_at (tables_of records.now) sent.now) node live tells.old }
+    requires may_say { MayHaveNews (looked_at (tables_of records.now) sent.now) (at_node node agent.now) live news.old }
+    requires none { HasNoStep (tables_of records.now).clock steps.old (at_node node agent.now) }
     ensures first { let t = tables_of records.now in
         let w = looked_at t sent.now in let a = at_node node agent.now in
         result ≡ first_of (inbox_duties w a live a.inbox
@@ -221,15 +279,17 @@ fn first_within(
         ++ report_duties w a live
         ++ duty_where is_forgotten (λ e. Duty.Forget node e.task) a.executors) }
     ensures asked { IsAsked (looked_at (tables_of records.now) sent.now) node tells.old tells.new }
+    ensures heard { IsHeard (looked_at (tables_of records.now) sent.now) (at_node node agent.now) news.old news.new }
+    ensures passed { IsPassed (tables_of records.now).clock (at_node node agent.now) steps.old steps.new }
 {
     match inbox_duty(records, sent, node, agent, live, tells) {
         Some(duty) => Some(duty),
-        None => first_executed(records, sent, node, agent, live),
+        None => first_executed(records, sent, node, agent, live, news, steps),
     }
 }
 
 // The first of an agent that is on.
-#[tactic(auto, using(crate::proofs::Asked::stays_asked))]
+#[tactic(auto, using(crate::proofs::Heard::on_steps))]
 fn first_on(
     records: &Records,
     sent: &Sents,
@@ -237,41 +297,64 @@ fn first_on(
     agent: &Agent,
     lease: Lease,
     tells: &mut Span,
+    news: &mut Span,
+    steps: &mut Steps,
 ) -> Option<Duty>
     requires usable { IsUsable (tables_of records.now) }
     requires rises { RisesFrom executor_task 0 agent.now.executors }
     requires beat { let t = tables_of records.now in
         lease.wants_beat ≡ is_some_and (is_beat_due t) (session_of t node) }
+    requires live { lease.live ≡ is_session_live (tables_of records.now) node }
     requires may { MayBeTold (looked_at (tables_of records.now) sent.now) node lease.live tells.old }
+    requires may_say { MayHaveNews (looked_at (tables_of records.now) sent.now) (at_node node agent.now) lease.live news.old }
+    requires none { HasNoStep (tables_of records.now).clock steps.old (at_node node agent.now) }
     ensures first { let w = looked_at (tables_of records.now) sent.now in
         result ≡ first_of (duties_on w (at_node node agent.now) lease.live) }
     ensures asked { IsAsked (looked_at (tables_of records.now) sent.now) node tells.old tells.new }
+    ensures heard { IsHeard (looked_at (tables_of records.now) sent.now) (at_node node agent.now) news.old news.new }
+    ensures passed { IsPassed (tables_of records.now).clock (at_node node agent.now) steps.old steps.new }
 {
     match session_duty(records, sent, node, agent, lease) {
         Some(duty) => Some(duty),
-        None => first_within(records, sent, node, agent, lease.live, tells),
+        None => first_within(records, sent, node, agent, lease.live, tells, news, steps),
     }
 }
 
 // The first of the node's agent.
-#[tactic(auto, using(crate::proofs::Asked::agent_steps))]
+#[tactic(auto, using(crate::proofs::Heard::agent_steps))]
 fn agent_first(
     records: &Records,
     sent: &Sents,
     node: Id,
     agent: &Agent,
     tells: &mut Span,
+    news: &mut Span,
+    steps: &mut Steps,
 ) -> Option<Duty>
     requires usable { IsUsable (tables_of records.now) }
     requires rises { RisesFrom executor_task 0 agent.now.executors }
     requires may { let w = looked_at (tables_of records.now) sent.now in
         wants_message w (at_node node agent.now) ≡ true → is_in tells.old node ≡ true }
+    requires may_say { let w = looked_at (tables_of records.now) sent.now in
+        is_unsaid w (at_node node agent.now) ≡ true → is_in news.old node ≡ true }
+    requires none { HasNoStep (tables_of records.now).clock steps.old (at_node node agent.now) }
     ensures first { let w = looked_at (tables_of records.now) sent.now in
         result ≡ first_of (agent_duties w (at_node node agent.now)) }
     ensures asked { IsAsked (looked_at (tables_of records.now) sent.now) node tells.old tells.new }
+    ensures heard { IsHeard (looked_at (tables_of records.now) sent.now) (at_node node agent.now) news.old news.new }
+    ensures passed { IsPassed (tables_of records.now).clock (at_node node agent.now) steps.old steps.new }
 {
     if is_on(agent) {
-        first_on(records, sent, node, agent, lease_of(records, node), tells)
+        first_on(
+            records,
+            sent,
+            node,
+            agent,
+            lease_of(records, node),
+            tells,
+            news,
+            steps,
+        )
     } else {
         None
     }
@@ -317,7 +400,15 @@ pub fn agents_first_in(
     }
     times_that_no_step_looks_at();
     while let Some((node, agent)) = next_agent_in(agents, &spans.duties) {
-        match agent_first(records, sent, *node, agent, &mut spans.tells) {
+        match agent_first(
+            records,
+            sent,
+            *node,
+            agent,
+            &mut spans.tells,
+            &mut spans.news,
+            &mut spans.steps,
+        ) {
             Some(duty) => return Some(duty),
             None => spans.duties.pass(*node),
         }

@@ -1,4 +1,5 @@
-// Where a duty of the control loops over the rows may be: for each line of duties the span of the rows that may have one.
+// Where a duty of the control loops over the rows may be: for each line of duties the span of the rows that may have
+// one.
 ghost use Rattle.std.specs.Prelude.{◌≡◌, ◌++◌, ◌∷◌, List as Seq, Option as Optional, [], false, flat_map, true, ℕ};
 ghost use Rattle.std.specs.List.{list_all};
 ghost use Rattle.swarm_model.specs.History.{IsLegal, replay};
@@ -11,25 +12,27 @@ ghost use Rattle.swarm_objects.specs.Loops.Allocator.{port_duties};
 ghost use Rattle.swarm_objects.specs.Rows.{first_of};
 ghost use Rattle.swarm_objects.specs.Usable.{IsUsable};
 ghost use Rattle.swarm_objects.specs.World.{Tables};
-ghost use Rattle.swarm_sched.specs.Inside.Known.{AreMoved};
-ghost use Rattle.swarm_sched.specs.Inside.KnownNodes.{KnowsNodes};
 ghost use Rattle.swarm_spans.specs.Lines.{addresses, deletes, expires, goes, notes, olds, orphans, raises, rejects, restarts};
 ghost use Rattle.swarm_spans.specs.Services.Lines.{comes, creates, downs, job_creates, leaves, trims, updates};
 ghost use Rattle.swarm_spans.specs.Services.Touches.{NewServicesLaw, ServiceNodesLaw};
 ghost use Rattle.swarm_spans.specs.Spans.{CoversNodes, CoversServices, CoversTasks, full};
 ghost use Rattle.swarm_spans.specs.TasksCovered.{NodesLaw, ServicesLaw, SessionLaw, at_time};
 ghost use Rattle.swarm_world.specs.Inside.Kept.{IsFirst};
+ghost use Rattle.swarm_world.specs.Inside.Known.{AreForeseen, ForgetsServices, KnowsAll};
+ghost use Rattle.swarm_world.specs.Inside.Looks.{no_steps};
 ghost use Rattle.swarm_world.specs.Inside.Marks.{AreMarked, IsAfterCall, IsMarked, makes_node, makes_service};
 ghost use Rattle.swarm_world.specs.Inside.Parts.{HasHistory, StandsFor};
 ghost use Rattle.swarm_world.specs.Inside.Records.{tables_of};
-ghost use Rattle.swarm_world.specs.Inside.Spanned.{AreWiderFrom};
+ghost use Rattle.swarm_world.specs.Inside.Spanned.{AreWiderFrom, news_by, steps_by};
 ghost use Rattle.swarm_world.specs.declared.parts.Parts.{Parts as Whole};
 
-use crate::agent_spans::AgentSpans;
+use crate::agent_spans::{AgentSpans, Steps};
 use crate::firsts::is_agents;
+use crate::known::{Foreseen, Known};
+use crate::known_lines::{Creates, Downs, Updates, first_by_known};
 use crate::lines::{
-    Addresses, Comes, Creates, Deletes, Downs, Expires, Goes, JobCreates, Leaves, Notes, Olds,
-    Orphans, Ports, Raises, Rejects, Restarts, Trims, Unallocated, Unplaced, Updates, Waiting,
+    Addresses, Comes, Deletes, Expires, Goes, JobCreates, Leaves, Notes, Olds, Orphans, Ports,
+    Raises, Rejects, Restarts, Trims, Unallocated, Unplaced, Waiting,
 };
 use crate::looks::agents_first_in;
 use crate::parts::Parts;
@@ -38,19 +41,18 @@ use crate::scheduling::first_scheduled;
 use std::alloc::Global;
 use swarm_agent::theorems::times_that_no_step_looks_at;
 use swarm_objects::{Call, Change, Duty, Id, Name, Op, Role, Rows};
-use swarm_sched::{KnownNodes, Moved};
 use swarm_spans::{
     ServiceSpans, Span, TaskSpans, first_of_nodes, first_of_services, first_of_tasks, narrowed,
 };
 
-/// For each line of duties a span that has each row with a duty of the line, and the spans of the agents' loop. And what is
-/// remembered of the nodes.
+/// For each line of duties a span that has each row with a duty of the line, and the spans of the agents' loop. And
+/// what is remembered of the rows.
 #[derive(Drop)]
 pub struct Marks {
     pub tasks: TaskSpans,
     pub services: ServiceSpans,
     pub agents: AgentSpans,
-    pub nodes: KnownNodes,
+    pub known: Known,
 }
 
 #[tactic(auto, using(crate::proofs::Marking::first_steps))]
@@ -88,16 +90,19 @@ fn restart<R: Rows>(rows: &R, restarts_in: &mut Span, raises_in: &mut Span) -> O
 #[tactic(auto, using(crate::proofs::Marking::first_steps))]
 fn replicated<R: Rows>(
     rows: &R,
+    known: &mut Known,
     goes_in: &mut Span,
     downs_in: &mut Span,
     creates_in: &mut Span,
 ) -> Option<Duty>
     requires usable { IsUsable (R.tables rows.now) }
+    requires knows { KnowsAll (R.tables rows.now) known.old }
     requires goes { CoversTasks goes (R.tables rows.now) goes_in.old }
     requires downs { CoversServices downs (R.tables rows.now) downs_in.old }
     requires creates { CoversServices creates (R.tables rows.now) creates_in.old }
     ensures first { let t = R.tables rows.now in
         result ≡ first_of (flat_map (goes t) t.tasks ++ flat_map (downs t) t.services ++ flat_map (creates t) t.services) }
+    ensures knows { KnowsAll (R.tables rows.now) known.new }
     ensures goes { CoversTasks goes (R.tables rows.now) goes_in.new }
     ensures downs { CoversServices downs (R.tables rows.now) downs_in.new }
     ensures creates { CoversServices creates (R.tables rows.now) creates_in.new }
@@ -105,10 +110,10 @@ fn replicated<R: Rows>(
     if let Some(duty) = first_of_tasks::<Goes, R>(rows, goes_in) {
         return Some(duty);
     }
-    if let Some(duty) = first_of_services::<Downs, R>(rows, downs_in) {
+    if let Some(duty) = first_by_known::<Downs, R>(rows, known, downs_in) {
         return Some(duty);
     }
-    first_of_services::<Creates, R>(rows, creates_in)
+    first_by_known::<Creates, R>(rows, known, creates_in)
 }
 
 #[tactic(auto, using(crate::proofs::Marking::first_steps))]
@@ -215,23 +220,23 @@ fn make_nodes(ops: &[Op]) -> bool
 
 impl Marks {
     // Every row may have a duty.
-    fn with_nodes(nodes: KnownNodes) -> Marks
-        requires { (t : Tables) → KnowsNodes t nodes }
+    fn with_known(known: Known) -> Marks
+        requires { (t : Tables) → KnowsAll t known }
         ensures { (p : Whole) → HasHistory p → IsMarked result p }
     {
         Marks {
             tasks: TaskSpans::full(),
             services: ServiceSpans::full(),
             agents: AgentSpans::full(),
-            nodes,
+            known,
         }
     }
 
-    /// Every row may have a duty. Nothing is remembered of the nodes so far.
+    /// Every row may have a duty. Nothing is remembered so far.
     pub fn new(alloc: Global) -> Marks
         ensures { (p : Whole) → HasHistory p → IsMarked result p }
     {
-        Marks::with_nodes(KnownNodes::new(alloc))
+        Marks::with_known(Known::new(alloc))
     }
 
     /// The same spans for one look. It takes no memory.
@@ -242,7 +247,7 @@ impl Marks {
             tasks: self.tasks,
             services: self.services,
             agents: self.agents,
-            nodes: KnownNodes::none(),
+            known: Known::none(),
         }
     }
 
@@ -253,11 +258,11 @@ impl Marks {
         self.tasks = TaskSpans::full();
         self.services = ServiceSpans::full();
         self.agents = AgentSpans::full();
-        self.nodes.forget_all();
+        self.known.forget_all();
     }
 
-    // Where the spans of tasks that wait have no end, they end with the last that waits. By them a touch, a tick or a beat
-    // widens others, again and again.
+    // Where the spans of tasks that wait have no end, they end with the last that waits. By them a touch, a tick or a
+    // beat widens others, again and again.
     fn end_waiting<R: Rows>(&mut self, rows: &R)
         requires usable { IsUsable (R.tables rows.now) }
         requires marks { AreMarked self.old (R.tables rows.now) }
@@ -287,56 +292,61 @@ impl Marks {
         let _ = first_of_tasks::<Unallocated, R>(rows, &mut self.tasks.to_allocate);
     }
 
-    /// With what these changes touch of the rows: asked before they are made. What agents owe is touched apart. Gives what
-    /// will be known of the nodes.
-    pub fn touch(&mut self, records: &Records, changes: &[Change]) -> Moved
+    /// With what these changes touch of the rows: asked before they are made. What agents owe is touched apart. Gives
+    /// what will be known.
+    pub fn touch(&mut self, records: &Records, changes: &[Change]) -> Foreseen
         requires usable { IsUsable (tables_of records.now) }
         requires marks { AreMarked self.old (tables_of records.now) }
         ensures stays { AreMarked self.new (tables_of records.now) }
         ensures goes_on { let u = apply_changes (tables_of records.now) changes.now in IsUsable u → AreMarked self.new u }
-        ensures moved { AreMoved (apply_changes (tables_of records.now) changes.now) result }
+        ensures foreseen { AreForeseen (apply_changes (tables_of records.now) changes.now) result }
         ensures agents { self.new.agents ≡ self.old.agents }
     {
         self.pass_waiting(records);
-        let moved = self.nodes.forget_changed(records, changes);
+        let foreseen = self.known.forget_changed(records, changes);
         self.tasks.touch(records, changes);
         self.services.touch(records, changes);
-        moved
+        foreseen
     }
 
-    /// What is known of the nodes now is remembered, if the changes were made.
-    pub fn remember(&mut self, moved: Moved, are_made: bool)
-        ensures marks { (t : Tables) → AreMarked self.old t → (are_made ≡ true → AreMoved t moved) → AreMarked self.new t }
+    /// What is known now is remembered, if the changes were made.
+    pub fn remember(&mut self, foreseen: Foreseen, are_made: bool)
+        ensures marks { (t : Tables) → AreMarked self.old t → (are_made ≡ true → AreForeseen t foreseen) → AreMarked self.new t }
         ensures agents { self.new.agents ≡ self.old.agents }
     {
         if are_made {
-            self.nodes.remember(moved);
+            self.known.remember(foreseen);
         }
     }
 
-    /// With what may have a duty as time goes by. No message becomes due by that: what a node is told doesn't hang on the
-    /// time, and a session only ends.
+    /// With what may have a duty as time goes by. No message becomes due by that: what a node is told doesn't hang on
+    /// the time, and a session only ends. But a step may become due.
     pub fn touch_time(&mut self, records: &Records)
         requires { IsUsable (tables_of records.now) }
         ensures rows { let t = tables_of records.now in
             (clock : ℕ) → AreMarked self.old t → AreMarked self.new (at_time clock t) }
         ensures duties { self.new.agents.duties ≡ full }
         ensures tells { self.new.agents.tells ≡ self.old.agents.tells }
+        ensures news { self.new.agents.news ≡ self.old.agents.news }
+        ensures steps { self.new.agents.steps ≡ no_steps }
     {
         self.tasks = self.tasks.with_time(records);
         self.services = self.services.with_time(records);
+        self.known.forget_services();
         self.agents.duties = Span::full();
+        self.agents.steps = Steps::none();
     }
 
-    // With services that come from this id on. Nothing that is remembered of nodes changes, and nothing that agents owe.
+    // With services that come from this id on. Nothing that agents owe changes.
     fn touch_services(&mut self, first: Id)
         ensures tasks { ServicesLaw self.old.tasks self.new.tasks }
         ensures services { NewServicesLaw first self.old.services self.new.services }
         ensures agents { self.new.agents ≡ self.old.agents }
-        ensures nodes { self.new.nodes ≡ self.old.nodes }
+        ensures known { ForgetsServices self.old.known self.new.known }
     {
         self.tasks = self.tasks.with_services();
         self.services = self.services.with_services(first);
+        self.known.forget_services();
     }
 
     // With nodes that come from this id on. What is remembered of nodes is by all of them.
@@ -344,22 +354,23 @@ impl Marks {
         ensures tasks { NodesLaw self.old.tasks self.new.tasks }
         ensures services { ServiceNodesLaw self.old.services self.new.services }
         ensures agents { AreWiderFrom first self.new.agents self.old.agents }
-        ensures nodes { (t : Tables) → KnowsNodes t self.new.nodes }
+        ensures known { (t : Tables) → KnowsAll t self.new.known }
     {
         self.tasks = self.tasks.with_nodes();
         self.services = self.services.with_nodes();
         self.agents = self.agents.with_nodes(first);
-        self.nodes.forget_all();
+        self.known.forget_all();
     }
 
     // With what the update of the service may touch, whether it is done or not: what concerns its row, if there is one.
-    // Nothing that is remembered of nodes changes, and nothing that agents owe.
+    // Nothing that agents owe changes.
     fn touch_update(&mut self, parts: &Parts, name: &Name)
         requires { HasHistory parts.now }
         ensures { (asked : Optional ℕ) (draft : Draft) (h : Seq Entry) (q : Whole) → IsLegal h →
             StandsFor parts.now (replay h) → IsMarked self.old parts.now → HasHistory q →
             IsAfterCall h (Call.Txn (Op.UpdateService name.now asked draft ∷ [])) q → IsMarked self.new q }
     {
+        self.known.forget_services();
         if let Some(service) = parts.records.store.service_named(name) {
             self.tasks.touch_service(&parts.records, service.id);
             self.services.touch_service(&parts.records, service.id);
@@ -411,11 +422,25 @@ impl Marks {
         }
     }
 
+    /// The agent that does the duty may owe a report then, or have an executor that goes or has a step. The rows' spans
+    /// stay.
+    pub fn hear(&mut self, duty: Duty)
+        ensures tasks { self.new.tasks ≡ self.old.tasks }
+        ensures services { self.new.services ≡ self.old.services }
+        ensures known { self.new.known ≡ self.old.known }
+        ensures duties { self.new.agents.duties ≡ self.old.agents.duties }
+        ensures tells { self.new.agents.tells ≡ self.old.agents.tells }
+        ensures news { self.new.agents.news ≡ news_by duty self.old.agents.news }
+        ensures steps { self.new.agents.steps ≡ steps_by duty self.old.agents.steps }
+    {
+        self.agents.hear(duty);
+    }
+
     /// With what a node's session concerns, where it begins, is lengthened or ends.
     pub fn touch_session(&mut self, node: Id)
         ensures goes_on { SessionLaw node self.old.tasks self.new.tasks }
         ensures services { self.new.services ≡ self.old.services }
-        ensures nodes { self.new.nodes ≡ self.old.nodes }
+        ensures known { self.new.known ≡ self.old.known }
         ensures agents { self.new.agents ≡ self.old.agents }
     {
         self.tasks = self.tasks.with_session(node);
@@ -436,9 +461,12 @@ impl Marks {
             Role::Dispatcher => dispatcher(rows, &mut self.tasks.expires, &mut self.tasks.orphans),
             Role::Enforcer => first_of_tasks::<Rejects, R>(rows, &mut self.tasks.rejects),
             Role::Restart => restart(rows, &mut self.tasks.restarts, &mut self.tasks.raises),
-            Role::Update => first_of_services::<Updates, R>(rows, &mut self.services.updates),
+            Role::Update => {
+                first_by_known::<Updates, R>(rows, &mut self.known, &mut self.services.updates)
+            }
             Role::Replicated => replicated(
                 rows,
+                &mut self.known,
                 &mut self.tasks.goes,
                 &mut self.services.downs,
                 &mut self.services.creates,
@@ -451,14 +479,16 @@ impl Marks {
                 &mut self.tasks.addresses,
                 &mut self.tasks.notes,
             ),
-            Role::Scheduler => { first_scheduled(rows, &mut self.nodes, &mut self.tasks.schedules) }
+            Role::Scheduler => {
+                first_scheduled(rows, &mut self.known.nodes, &mut self.tasks.schedules)
+            }
             Role::Reaper => reaper(rows, &mut self.tasks.deletes, &mut self.services.trims),
             Role::Agents => unreachable!(),
         }
     }
 
-    /// The first duty of the control loop. Rows before it, which have none, leave their spans. Memory is taken only for what is
-    /// remembered of the nodes; where it is wanting, less is remembered, and the answer is the same.
+    /// The first duty of the control loop. Rows before it, which have none, leave their spans. Memory is taken only for
+    /// what is remembered; where it is wanting, less is remembered, and the answer is the same.
     pub fn find(&mut self, parts: &Parts, role: Role) -> Option<Duty>
         requires at { HasHistory parts.now }
         requires marks { IsMarked self.old parts.now }

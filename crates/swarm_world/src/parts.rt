@@ -121,10 +121,10 @@ impl Parts {
             return Err(NoMemory);
         };
         entries_are_noted();
-        let moved = marks.touch(&self.records, changes.as_slice());
+        let foreseen = marks.touch(&self.records, changes.as_slice());
         touch_agents(&self.records, changes.as_slice(), &mut marks.agents);
         let committed = commit(&mut self.records, &mut self.watches, version, changes);
-        marks.remember(moved, committed.is_ok());
+        marks.remember(foreseen, committed.is_ok());
         committed
     }
 

@@ -50,8 +50,8 @@ impl Marks {
 }
 
 impl Parts {
-    /// What the settle test answers where this is the first duty of all control loops, or there is none. The span has each
-    /// task that waits to be raised.
+    /// What the settle test answers where this is the first duty of all control loops, or there is none. The span has
+    /// each task that waits to be raised.
     pub fn settled_by(&self, first: Option<Duty>, waiting: Span) -> Settle
         requires at { HasHistory self.now }
         requires waiting { CoversTasks to_wait (tables_of self.now.records) waiting }

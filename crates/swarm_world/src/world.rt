@@ -24,9 +24,10 @@ use turn_cell::Counted;
 /// The world with its history. Contracts see the history: the world is its replay.
 #[derive(Drop)]
 pub struct World {
-    parts: Parts,
+    // large, as the marks are, so that the world itself is moved lightly
+    parts: Box<Parts>,
     history: Vec<Entry>,
-    // where a duty may be: no part of what contracts see, and large, so that the world itself is moved lightly
+    // where a duty may be: no part of what contracts see
     marks: Box<Marks>,
     // the duty that the last look named, where nothing came since
     known: Option<Duty>,
@@ -55,6 +56,9 @@ impl World {
         let Ok(parts) = Parts::new(alloc) else {
             return Err(NoMemory);
         };
+        let Ok(parts) = Box::new(alloc, parts) else {
+            return Err(NoMemory);
+        };
         let Ok(marks) = Box::new(alloc, Marks::new(alloc)) else {
             return Err(NoMemory);
         };
@@ -72,6 +76,13 @@ impl World {
         ensures usable { IsUsable (tables_of result.now) }
     {
         &self.parts.records
+    }
+
+    // Halt stands in the history.
+    fn is_halted(&self) -> bool
+        ensures { result ≡ (replay self.now).halted }
+    {
+        self.parts.halted
     }
 
     // Appends Halt to a history without it. It takes no memory.
@@ -107,9 +118,10 @@ impl World {
         };
         let version = self.history.len() as u64 + 1;
         let marks = &mut *self.marks;
-        marks.touch_call(&self.parts, &call);
+        let parts = &mut *self.parts;
+        marks.touch_call(parts, &call);
         self.known = None;
-        let Ok(reply) = self.parts.enter(marks, version, &call) else {
+        let Ok(reply) = parts.enter(marks, version, &call) else {
             return Reply::Refused(Refusal::NoMemory);
         };
         let entry = Entry {
@@ -128,7 +140,7 @@ impl World {
         ensures calls { Calls by call self.old self.new result }
         ensures lawful { IsLawful self.new }
     {
-        if self.parts.halted {
+        if self.is_halted() {
             return Reply::Refused(Refusal::Halted);
         }
         let count = self.history.len() as u64;
@@ -145,7 +157,7 @@ impl World {
         ensures turns { Turns by role self.old self.new result }
         ensures lawful { IsLawful self.new }
     {
-        if self.parts.halted {
+        if self.is_halted() {
             return Turn::Halted;
         }
         let count = self.history.len() as u64;
@@ -153,7 +165,8 @@ impl World {
             return Turn::Full(count);
         }
         let marks = &mut *self.marks;
-        let Some(duty) = marks.find_unless(self.known, &self.parts, role) else {
+        let parts = &mut *self.parts;
+        let Some(duty) = marks.find_unless(self.known, parts, role) else {
             return Turn::Idle;
         };
         // an entry and Halt
@@ -161,7 +174,7 @@ impl World {
             return Turn::NoMemory;
         };
         self.known = None;
-        let Ok(()) = self.parts.take(marks, count + 1, role, duty) else {
+        let Ok(()) = parts.take(marks, count + 1, role, duty) else {
             return Turn::NoMemory;
         };
         let entry = Entry {
@@ -182,10 +195,12 @@ impl World {
         ensures lawful { IsLawful self.now }
     {
         let mut marks = self.marks.apart();
-        marks.settle(&self.parts)
+        let parts = &*self.parts;
+        marks.settle(parts)
     }
 
-    /// The settle test, as `settled` gives it. What the look finds is kept, so that the next one needn't look there again.
+    /// The settle test, as `settled` gives it. What the look finds is kept, so that the next one needn't look there
+    /// again.
     #[tactic(auto, using(crate::proofs::Lawful::lawful))]
     pub fn look(&mut self) -> Settle
         ensures same { self.new ≡ self.old }
@@ -193,9 +208,10 @@ impl World {
         ensures lawful { IsLawful self.new }
     {
         let marks = &mut *self.marks;
-        let first = marks.find_among(&self.parts, &Role::ALL);
+        let parts = &*self.parts;
+        let first = marks.find_among(parts, &Role::ALL);
         self.known = first;
-        self.parts.settled_by(first, marks.tasks.to_wait)
+        parts.settled_by(first, marks.tasks.to_wait)
     }
 
     /// All entries, in order.

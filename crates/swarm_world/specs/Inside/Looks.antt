@@ -1,15 +1,20 @@
 -- What the agents' loop looks at, and which nodes its spans cover.
-use Rattle.std.specs.Prelude.{Bool, List, [], false, is_some, true, ℕ, ◌&&◌, ◌∷◌, ◌≡◌, ◌⊎◌, ⊤}
+use Rattle.std.specs.Prelude.{Bool, List, [], false, if◌then◌else◌, is_some, true, ℕ, ◌&&◌, ◌++◌, ◌<◌, ◌==◌, ◌∷◌, ◌≡◌, ◌⊎◌, ⊤}
 use Rattle.swarm_objects.specs.Agents.Messages.{message_for}
-use Rattle.swarm_objects.specs.Loops.Agents.{agent_duties, is_mode_on}
+use Rattle.swarm_objects.specs.Loops.Agents.{agent_duties, has_step, is_forgotten, is_mode_on, report_duties}
+use Rattle.swarm_objects.specs.Loops.Words.{duty_where}
 use Rattle.swarm_objects.specs.Nodes.Sessions.{is_session_live}
-use Rattle.swarm_objects.specs.Rows.{RisesFrom, agent_node, executor_task}
+use Rattle.swarm_objects.specs.Rows.{Has, RisesFrom, agent_node, executor_task, first_of}
 use Rattle.swarm_objects.specs.World.{Tables, World, empty_world}
+use Rattle.swarm_objects.specs.declared.agents.Executor.{Executor}
 use Rattle.swarm_objects.specs.declared.agents.NodeAgent.{NodeAgent}
+use Rattle.swarm_objects.specs.declared.duties.Duty.TheVariants as duty
+use Rattle.swarm_objects.specs.declared.duties.Duty.{Duty}
 use Rattle.swarm_objects.specs.declared.messages.NodeSent.{NodeSent}
 use Rattle.swarm_spans.specs.Spans.{Covers, beyond, has_duty, is_in}
 use Rattle.swarm_spans.specs.declared.span.Span.{Span}
 use Rattle.swarm_world.specs.declared.agent_spans.AgentSpans.{AgentSpans}
+use Rattle.swarm_world.specs.declared.agent_spans.Steps.{Steps}
 
 -- the world with these tables, in which this was sent
 abbrev pub looked_at : Tables → List NodeSent → World
@@ -37,7 +42,49 @@ MayBeTold w node live span = live ≡ true → is_told w node ≡ true → is_in
 abbrev pub IsAsked : World → ℕ → Span → Span → Type 0
 IsAsked w node span next = (next ≡ span) ⊎ ((is_told w node ≡ false) × (next ≡ beyond span node))
 
--- each node whose agent has a duty is in the one span, and each whose agent wants a message in the other
+-- News.
+
+-- for a node with or without a live session: what is reported, and the executors that go
+abbrev pub news_duties : World → NodeAgent → Bool → List Duty
+news_duties w a live = report_duties w a live ++ duty_where is_forgotten (λ e. duty.Forget a.node e.task) a.executors
+
+abbrev pub has_news_on : World → NodeAgent → Bool → Bool
+has_news_on w a live = is_some (first_of (news_duties w a live))
+
+abbrev pub is_unsaid : World → NodeAgent → Bool
+is_unsaid w a = is_mode_on a.mode && has_news_on w a (is_session_live w.tables a.node)
+
+-- the node is in the span, where its agent has news
+abbrev pub MayHaveNews : World → NodeAgent → Bool → Span → Type 0
+MayHaveNews w a live span = has_news_on w a live ≡ true → is_in span a.node ≡ true
+
+-- the span stays as it is, or the agent has no news, and its node leaves it with those before
+abbrev pub IsHeard : World → NodeAgent → Span → Span → Type 0
+IsHeard w a span next =
+    (next ≡ span) ⊎ ((has_news_on w a (is_session_live w.tables a.node) ≡ false) × (next ≡ beyond span a.node))
+
+-- Steps.
+
+-- nothing is known
+abbrev pub no_steps : Steps
+no_steps = record { node = 0; before = 0 }
+
+-- the task of the node before which no executor has a step
+abbrev pub before_on : Steps → ℕ → ℕ
+before_on s node = if s.node == node then s.before else 0
+
+-- so it is for this agent
+pub record HasNoStep (clock : ℕ) (s : Steps) (a : NodeAgent) : Type 0 where
+  pub has : (e : Executor) → Has a.executors e → e.task < before_on s a.node → has_step clock e ≡ false
+
+-- what is known stays as it is, or it is of this agent
+abbrev pub IsPassed : ℕ → NodeAgent → Steps → Steps → Type 0
+IsPassed clock a s next = (next ≡ s) ⊎ ((next.node ≡ a.node) × HasNoStep clock next a)
+
+-- each node whose agent has a duty is in the first span, each whose agent wants a message in the second, and each whose
+-- agent has news in the third; and what is known of steps is so
 pub record AreSpanned (w : World) (spans : AgentSpans) (agents : List NodeAgent) : Type 0 where
   pub duties : Covers agent_node (has_duty (agent_duties w)) spans.duties agents
   pub tells : Covers agent_node (wants_message w) spans.tells agents
+  pub news : Covers agent_node (is_unsaid w) spans.news agents
+  pub steps : (a : NodeAgent) → Has agents a → HasNoStep w.tables.clock spans.steps a

@@ -7,20 +7,20 @@ use Rattle.swarm_objects.specs.declared.calls.Entry.{Entry}
 use Rattle.swarm_objects.specs.declared.calls.Op.TheVariants as op
 use Rattle.swarm_objects.specs.declared.calls.Op.{Op}
 use Rattle.swarm_objects.specs.declared.calls.What.TheVariants as what
-use Rattle.swarm_sched.specs.Inside.KnownNodes.{KnowsNodes}
 use Rattle.swarm_spans.specs.Services.Touches.{AreCovered}
 use Rattle.swarm_spans.specs.TasksCovered.{AreTasksCovered}
+use Rattle.swarm_world.specs.Inside.Known.{KnowsAll}
 use Rattle.swarm_world.specs.Inside.Parts.{StandsFor}
 use Rattle.swarm_world.specs.Inside.Records.{tables_of}
 use Rattle.swarm_world.specs.Inside.Spanned.{CoversAgents}
 use Rattle.swarm_world.specs.declared.marks.Marks.{Marks}
 use Rattle.swarm_world.specs.declared.parts.Parts.{Parts}
 
--- each row with a duty of a line is in the line's span, and what is remembered of the tasks on nodes is so
+-- each row with a duty of a line is in the line's span, and what is remembered is so
 pub record AreMarked (m : Marks) (t : Tables) : Type 0 where
   pub tasks : AreTasksCovered t m.tasks
   pub services : AreCovered t m.services
-  pub nodes : KnowsNodes t m.nodes
+  pub known : KnowsAll t m.known
 
 -- and each node of an agent in those of the agents' loop
 pub record IsMarked (m : Marks) (p : Parts) : Type 0 where

@@ -1,5 +1,5 @@
 -- The spans that the world keeps of the agents' loop.
-use Rattle.std.specs.Prelude.{List, false, true, ℕ, ◌≡◌}
+use Rattle.std.specs.Prelude.{List, false, if◌then◌else◌, nat_lt, true, ℕ, ◌&&◌, ◌==◌, ◌≡◌, ◌≤◌}
 use Rattle.swarm_model.specs.History.{IsLegal, replay, step}
 use Rattle.swarm_objects.specs.ChangeLists.{Makes}
 use Rattle.swarm_objects.specs.Duties.{is_due}
@@ -13,34 +13,63 @@ use Rattle.swarm_objects.specs.declared.loops.Role.TheVariants as role
 use Rattle.swarm_objects.specs.declared.rows.Change.{Change}
 use Rattle.swarm_spans.specs.Spans.{IsWider, onwards, with_id}
 use Rattle.swarm_spans.specs.declared.span.Span.{Span}
-use Rattle.swarm_world.specs.Inside.Looks.{AreSpanned, looked_at}
+use Rattle.swarm_world.specs.Inside.Looks.{AreSpanned, before_on, looked_at, no_steps}
 use Rattle.swarm_world.specs.Inside.Parts.{IsAt, StandsFor}
 use Rattle.swarm_world.specs.Inside.Records.{tables_of}
 use Rattle.swarm_world.specs.Inside.Touches.{AreTouched}
 use Rattle.swarm_world.specs.declared.agent_spans.AgentSpans.{AgentSpans}
+use Rattle.swarm_world.specs.declared.agent_spans.Steps.{Steps}
 use Rattle.swarm_world.specs.declared.parts.Parts.{Parts}
 
 abbrev pub CoversAgents : Parts → AgentSpans → Type 0
 CoversAgents p spans = AreSpanned (looked_at (tables_of p.records) p.sent) spans p.agents
 
--- the one has what the other has
+-- the one has what the other has, and knows no more of steps
 pub record AreWider (wide spans : AgentSpans) : Type 0 where
   pub duties : IsWider wide.duties spans.duties
   pub tells : IsWider wide.tells spans.tells
+  pub news : IsWider wide.news spans.news
+  pub steps : (node : ℕ) → before_on wide.steps node ≤ before_on spans.steps node
 
--- and each node from this one on
+-- and each node from this one on, with nothing known of steps
 pub record AreWiderFrom (first : ℕ) (wide spans : AgentSpans) : Type 0 where
   pub former : AreWider wide spans
   pub duties : IsWider wide.duties (onwards first)
   pub tells : IsWider wide.tells (onwards first)
+  pub news : IsWider wide.news (onwards first)
+  pub steps : wide.steps ≡ no_steps
 
 -- a node that registers is sent all that is due; no other duty of the agents' loop makes a message due
 abbrev pub told_by : Duty → Span → Span
 told_by (duty.Register node) span = with_id span node
 told_by _ span = span
 
+-- the agent that does a duty may have news then; a beat is of a live session, and gives none
+abbrev pub news_by : Duty → Span → Span
+news_by (duty.Register node) span = with_id span node
+news_by (duty.Apply node) span = with_id span node
+news_by (duty.Pull node) span = with_id span node
+news_by (duty.Exec node task) span = with_id span node
+news_by (duty.Report node task) span = with_id span node
+news_by (duty.Forget node task) span = with_id span node
+news_by _ span = span
+
+-- an executor of the node may have a step from this task on
+abbrev pub lowered : ℕ → ℕ → Steps → Steps
+lowered node task s = if s.node == node && nat_lt task s.before then record s { before = task } else s
+
+-- one that made a step may have the next one, and after a message each may have one; no other duty gives an executor a step
+abbrev pub steps_by : Duty → Steps → Steps
+steps_by (duty.Apply node) s = lowered node 0 s
+steps_by (duty.Exec node task) s = lowered node task s
+steps_by _ s = s
+
+abbrev pub with_told : Duty → AgentSpans → AgentSpans
+with_told d spans = record spans { tells = told_by d spans.tells }
+
 abbrev pub after_turn : Duty → AgentSpans → AgentSpans
-after_turn d spans = record { duties = spans.duties; tells = told_by d spans.tells }
+after_turn d spans =
+    record spans { tells = told_by d spans.tells; news = news_by d spans.news; steps = steps_by d spans.steps }
 
 -- how they go on covering
 pub record AgentsSpanLaw : Type 0 where

@@ -38,7 +38,10 @@ pub record WidensTold (t : Tables) (span wide : Span) (cs : List Change) : Type 
   pub wider : IsWider wide span
   pub touches : TouchesAllTold t wide cs
 
--- so does each of the two
+-- so does each of the first two. No change of rows gives an agent news: a task that comes is new, and has no executor.
+-- And none gives an executor a step.
 pub record AreTouched (t : Tables) (spans wide : AgentSpans) (cs : List Change) : Type 0 where
   pub duties : WidensTold t spans.duties wide.duties cs
   pub tells : WidensTold t spans.tells wide.tells cs
+  pub news : wide.news ≡ spans.news
+  pub steps : wide.steps ≡ spans.steps

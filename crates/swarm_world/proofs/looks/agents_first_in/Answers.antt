@@ -1,5 +1,5 @@
 use Rattle.std.proofs.Common.{refl, sym, ◌∙◌}
-use Rattle.swarm_world.proofs.AsksIn.{fewer_left, next_found, next_passes, next_rises, next_stays, none_spanned}
+use Rattle.swarm_world.proofs.AsksIn.{fewer_left, next_found, next_passes, next_rises, next_stays, next_steps, none_spanned}
 use Rattle.swarm_world.proofs.looks.agents_first_in.Goals as goal
 use Rattle.swarm_world.specs.Inside.Looks.{looked_at}
 use Rattle.swarm_world.specs.Inside.Records.{tables_of}
@@ -9,6 +9,11 @@ agent_first-requires-clause-rises c =
     next_rises c.times_that_no_step_looks_at.ensures c.args.agents.now c.loop-node.spans.duties c.in-Some.node.now
     c.in-Some.agent.now c.requires.rises c.in-Some.ensures
 
+pub agent_first-requires-clause-none : goal.agent_first-requires-clause-none
+agent_first-requires-clause-none c =
+    next_steps c.times_that_no_step_looks_at.ensures (looked_at (tables_of c.args.records.now) c.args.sent.now)
+    c.args.agents.now c.loop-node.spans c.in-Some.node.now c.in-Some.agent.now c.loop-node.invariant c.in-Some.ensures
+
 pub returns-in-Some-agent_first-clause-first : goal.returns-in-Some-agent_first-clause-first
 returns-in-Some-agent_first-clause-first c =
     next_found c.times_that_no_step_looks_at.ensures (looked_at (tables_of c.args.records.now) c.args.sent.now)
@@ -17,9 +22,9 @@ returns-in-Some-agent_first-clause-first c =
 
 pub returns-in-Some-agent_first-clause-covers : goal.returns-in-Some-agent_first-clause-covers
 returns-in-Some-agent_first-clause-covers c =
-    next_stays (looked_at (tables_of c.args.records.now) c.args.sent.now) c.args.agents.now c.loop-node.spans _
+    next_stays c.times_that_no_step_looks_at.ensures (looked_at (tables_of c.args.records.now) c.args.sent.now) c.args.agents.now c.loop-node.spans _
     c.in-Some.node.now c.in-Some.agent.now c.requires.ordered c.loop-node.invariant c.in-Some.ensures refl
-    c.agent_first.ensures.asked
+    c.agent_first.ensures.asked c.agent_first.ensures.heard c.agent_first.ensures.passed
 
 pub loop-node-smaller : goal.loop-node-smaller
 loop-node-smaller c =
@@ -29,11 +34,12 @@ loop-node-smaller c =
 pub loop-node-preserved : goal.loop-node-preserved
 loop-node-preserved c =
     next_passes c.times_that_no_step_looks_at.ensures (looked_at (tables_of c.args.records.now) c.args.sent.now)
-    c.args.agents.now c.loop-node.spans (record { duties = c.pass.new.self; tells = c.agent_first.new.tells })
+    c.args.agents.now c.loop-node.spans (record { duties = c.pass.new.self; tells = c.agent_first.new.tells; news = c.agent_first.new.news; steps = c.agent_first.new.steps })
     c.in-Some.node.now c.in-Some.agent.now c.requires.ordered c.loop-node.invariant c.in-Some.ensures c.pass.ensures
-    c.agent_first.ensures.asked c.in-None.ensures.first
+    c.agent_first.ensures.asked c.agent_first.ensures.heard c.agent_first.ensures.passed c.in-None.ensures.first
 
 pub returns-clause-covers : goal.returns-clause-covers
 returns-clause-covers c =
     none_spanned (looked_at (tables_of c.args.records.now) c.args.sent.now) c.args.agents.now c.loop-node.spans
-    c.empty.result c.loop-node.invariant c.in_default.ensures c.empty.ensures.duties c.empty.ensures.tells
+    c.empty.result c.loop-node.invariant c.in_default.ensures c.empty.ensures.duties c.empty.ensures.tells c.empty.ensures.news
+    c.empty.ensures.steps

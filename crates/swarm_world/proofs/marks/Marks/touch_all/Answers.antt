@@ -7,6 +7,6 @@ returns c =
       tasks = c.full-self.result;
       services = c.full-self-2.result;
       agents = c.full-self-3.result;
-      nodes = c.forget_all.new.self;
+      known = c.forget_all.new.self;
     }) c.full-self.ensures.covers c.full-self-2.ensures.covers c.forget_all.ensures c.full-self-3.ensures.duties
-    c.full-self-3.ensures.tells
+    c.full-self-3.ensures.tells c.full-self-3.ensures.news c.full-self-3.ensures.steps

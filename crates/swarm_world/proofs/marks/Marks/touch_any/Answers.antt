@@ -8,10 +8,10 @@ returns-then-make_services c =
     made_marked c.args.self.now c.touch_services.new.self c.args.ops.now c.args.parts.now c.next_id-first.result
     c.next_id-first.ensures (sym c.if-make_services.true ∙ c.make_services.ensures)
     c.touch_services.ensures.tasks c.touch_services.ensures.services c.touch_services.ensures.agents
-    c.touch_services.ensures.nodes
+    c.touch_services.ensures.known
 
 pub returns-then-make_nodes : goal.returns-then-make_nodes
 returns-then-make_nodes c =
     nodes_marked c.args.self.now c.touch_nodes.new.self c.args.ops.now c.args.parts.now c.next_id-first.result
     c.next_id-first.ensures (sym c.if-make_nodes.true ∙ c.make_nodes.ensures) c.touch_nodes.ensures.tasks
-    c.touch_nodes.ensures.services c.touch_nodes.ensures.agents c.touch_nodes.ensures.nodes
+    c.touch_nodes.ensures.services c.touch_nodes.ensures.agents c.touch_nodes.ensures.known

@@ -12,8 +12,8 @@ touch_time-requires c = usable_rows c.args.parts.now.records (are_usable c.args.
 pub returns-in-Tick : goal.returns-in-Tick
 returns-in-Tick c = λ h q legal stands marked is after.
     tick_marked c.times_that_no_step_looks_at.ensures c.args.self.now c.touch_time.new.self c.in-Tick.field-0
-    c.args.parts.now c.touch_time.ensures.rows c.touch_time.ensures.duties c.touch_time.ensures.tells h q legal stands
-    marked is (subst (λ call. IsAfterCall h call q) c.in-Tick.is after)
+    c.args.parts.now c.touch_time.ensures.rows c.touch_time.ensures.duties c.touch_time.ensures.tells c.touch_time.ensures.news
+    c.touch_time.ensures.steps h q legal stands marked is (subst (λ call. IsAfterCall h call q) c.in-Tick.is after)
 
 pub returns-in-Txn : goal.returns-in-Txn
 returns-in-Txn c = λ h q legal stands marked is after.

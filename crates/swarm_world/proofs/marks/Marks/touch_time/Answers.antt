@@ -1,4 +1,3 @@
-use Rattle.std.proofs.Common.{refl}
 use Rattle.swarm_world.proofs.Ticking.{timed}
 use Rattle.swarm_world.proofs.marks.Marks.touch_time.Goals as goal
 use Rattle.swarm_world.specs.Inside.Records.{tables_of}
@@ -6,4 +5,4 @@ use Rattle.swarm_world.specs.Inside.Records.{tables_of}
 pub returns-clause-rows : goal.returns-clause-rows
 returns-clause-rows c =
     timed c.args.self.now _ (tables_of c.args.records.now) c.requires c.with_time-self.ensures.goes_on
-    c.with_time-self-2.ensures.goes_on refl
+    c.with_time-self-2.ensures.goes_on c.forget_services.ensures

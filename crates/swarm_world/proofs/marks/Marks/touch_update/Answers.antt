@@ -15,15 +15,21 @@ touch_service-requires-in-Some c = usable_rows c.args.parts.now.records (are_usa
 pub returns-in-Some : goal.returns-in-Some
 returns-in-Some c =
     renewed_marked c.args.self.now
-    (record c.args.self.now { tasks = c.touch_service.new.self; services = c.touch_service-in-Some.new.self })
+    (record c.args.self.now {
+      tasks = c.touch_service.new.self;
+      services = c.touch_service-in-Some.new.self;
+      known = c.forget_services.new.self;
+    })
     c.args.parts.now c.args.name.now
     (one_touched (tables_of c.args.parts.now.records) c.args.name.now c.args.self.now _ c.in-Some.service.now
     (sym (sym c.service_named.ensures ∙ ap option_copied c.in-Some.is)) c.touch_service.ensures.stays
     c.touch_service.ensures.goes_on c.touch_service-in-Some.ensures.stays c.touch_service-in-Some.ensures.goes_on
-    refl refl)
+    refl c.forget_services.ensures)
 
 pub returns-in_default : goal.returns-in_default
 returns-in_default c =
-    renewed_marked c.args.self.now c.args.self.now c.args.parts.now c.args.name.now
-    (none_touched (tables_of c.args.parts.now.records) c.args.name.now c.args.self.now
+    renewed_marked c.args.self.now (record c.args.self.now { known = c.forget_services.new.self }) c.args.parts.now
+    c.args.name.now
+    (none_touched (tables_of c.args.parts.now.records) c.args.name.now c.args.self.now c.forget_services.new.self
+    c.forget_services.ensures
     (sym (sym c.service_named.ensures ∙ ap option_copied c.in_default.is)))

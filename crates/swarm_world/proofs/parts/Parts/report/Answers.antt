@@ -4,7 +4,7 @@ use Rattle.swarm_world.proofs.Beginning.{not_made}
 use Rattle.swarm_world.proofs.Entering.{are_usable}
 use Rattle.swarm_world.proofs.Recorded.{usable_rows}
 use Rattle.swarm_world.proofs.Reporting.{reported_none, reported_some}
-use Rattle.swarm_world.proofs.RowsTouched.{committed, committed_moved, not_committed}
+use Rattle.swarm_world.proofs.RowsTouched.{committed, committed_foreseen, not_committed}
 use Rattle.swarm_world.specs.Inside.Records.{tables_of}
 use Rattle.swarm_world.proofs.parts.Parts.report.Goals as goal
 
@@ -38,21 +38,21 @@ returns-clause-enters c = λ h is.
     (sym c.in-Some.is ∙ c.state_of.ensures (replay h).agents is.stands.has.agents) c.in-Ok.ensures did.0 did.1
     c.reported-2.ensures refl refl refl refl
 
-pub touch-moved-requires-clause-usable : goal.touch-moved-requires-clause-usable
-touch-moved-requires-clause-usable c = usable_rows c.args.self.now.records (are_usable c.args.self.now c.requires.at)
+pub touch-foreseen-requires-clause-usable : goal.touch-foreseen-requires-clause-usable
+touch-foreseen-requires-clause-usable c = usable_rows c.args.self.now.records (are_usable c.args.self.now c.requires.at)
 
 pub returns-in_default-commit-clause-marks : goal.returns-in_default-commit-clause-marks
 returns-in_default-commit-clause-marks c = λ usable.
     let is = c.requires.at in
-    not_committed c.args.self.now is c.commit.new.records c.touch-moved.new.self
-    (c.in_default-commit.ensures.0 (replay is.history) is.stands.has.records) c.touch-moved.ensures.stays
+    not_committed c.args.self.now is c.commit.new.records c.touch-foreseen.new.self
+    (c.in_default-commit.ensures.0 (replay is.history) is.stands.has.records) c.touch-foreseen.ensures.stays
 
 pub returns-clause-marks : goal.returns-clause-marks
 returns-clause-marks c = λ usable.
     let is = c.requires.at in
     let has = (c.in-Ok-commit.ensures (replay is.history) is.stands.has.records).0 in
     c.remember.ensures.marks (tables_of c.commit.new.records)
-    (committed c.as_slice.result.now c.in-Ok.changes c.args.self.now is c.commit.new.records c.touch-moved.new.self
-    c.as_slice.ensures has c.touch-moved.ensures.goes_on usable)
-    (λ done. committed_moved c.as_slice.result.now c.in-Ok.changes c.args.self.now is c.commit.new.records c.touch-moved.result
-    c.as_slice.ensures has c.touch-moved.ensures.moved)
+    (committed c.as_slice.result.now c.in-Ok.changes c.args.self.now is c.commit.new.records c.touch-foreseen.new.self
+    c.as_slice.ensures has c.touch-foreseen.ensures.goes_on usable)
+    (λ done. committed_foreseen c.as_slice.result.now c.in-Ok.changes c.args.self.now is c.commit.new.records c.touch-foreseen.result
+    c.as_slice.ensures has c.touch-foreseen.ensures.foreseen)

@@ -12,7 +12,8 @@ pub returns-in_default : goal.returns-in_default
 returns-in_default c =
     let kept = c.self.invariant in
     let H = c.self.inside.history.items in
-    let running : (replay H).halted ≡ false = sym kept.stands.has.halted ∙ c.if-self.false in
+    let running : (replay H).halted ≡ false =
+    ap (λ (h : List Entry). (replay h).halted) c.self.view_is ∙ sym c.is_halted.ensures ∙ c.if-is_halted.false in
     let count : c.len-count.result ≡ length H = omega (arith, c.len-count.ensures) in
     let f = full H kept.legal running (omega (arith, c.len-count.ensures)) in
     record {

@@ -5,6 +5,7 @@ use Rattle.swarm_objects.specs.declared.calls.Entry.{Entry}
 use Rattle.swarm_world.proofs.Entering.{ending}
 use Rattle.swarm_world.specs.Inside.Parts.{StandsFor}
 use Rattle.swarm_world.specs.Work.{call_by}
+use Rattle.swarm_world.specs.declared.parts.Parts.{Parts}
 use Rattle.swarm_world.proofs.world.World.halt.Goals as goal
 
 pub invariant_of-self : goal.invariant_of-self
@@ -14,7 +15,9 @@ invariant_of-self c =
     let running : (replay H).halted ≡ false = ap (λ (h : List Entry). (replay h).halted) c.self.view_is ∙ c.requires in
     let gone = ending H c.args.by kept.legal running in
     let more = c.in-Ok.ensures.items in
-    let now = c.halt.ensures H kept.legal kept.stands in
+    let now =
+    c.halt.ensures H kept.legal
+    (subst (λ (p : Parts). StandsFor p (replay H)) (sym c.deref_mut.ensures.value) kept.stands) in
     record {
       legal = subst IsLegal (sym more) gone.legal;
       stands = subst (StandsFor c.halt.new.self) (sym gone.world ∙ ap replay (sym more)) now;

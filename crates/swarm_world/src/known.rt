@@ -1,0 +1,92 @@
+// What is remembered of the rows from one look to the next.
+ghost use Rattle.swarm_objects.specs.ChangeLists.{apply_changes};
+ghost use Rattle.swarm_objects.specs.Usable.{IsUsable};
+ghost use Rattle.swarm_objects.specs.World.{Tables};
+ghost use Rattle.swarm_world.specs.Inside.Known.{AreForeseen, ForgetsServices, KnowsAll};
+
+use std::alloc::Global;
+use swarm_objects::{Change, Rows};
+use swarm_replicated::KnownPlaces;
+use swarm_sched::{KnownNodes, Moved};
+use swarm_update::KnownSurvey;
+
+/// What the tasks on nodes come to and how nodes are sorted; how many places the service holds that was counted last; and
+/// what its tasks tell of the update that was looked at last.
+#[derive(Drop)]
+pub struct Known {
+    pub nodes: KnownNodes,
+    pub places: KnownPlaces,
+    pub survey: KnownSurvey,
+}
+
+/// What will be known once changes are made.
+#[derive(Drop)]
+pub struct Foreseen {
+    nodes: Moved,
+    places: KnownPlaces,
+}
+
+impl Known {
+    /// Nothing is remembered, and nothing will be that takes memory.
+    pub fn none() -> Known
+        ensures { (t : Tables) → KnowsAll t result }
+    {
+        Known {
+            nodes: KnownNodes::none(),
+            places: KnownPlaces::none(),
+            survey: KnownSurvey::none(),
+        }
+    }
+
+    /// Nothing is remembered so far. What there is no memory for never will be.
+    pub fn new(alloc: Global) -> Known
+        ensures { (t : Tables) → KnowsAll t result }
+    {
+        Known {
+            nodes: KnownNodes::new(alloc),
+            places: KnownPlaces::none(),
+            survey: KnownSurvey::new(alloc),
+        }
+    }
+
+    /// Forgets what these changes of the rows make untrue. It is asked before they are made, and gives what will be so
+    /// of what is forgotten.
+    pub fn forget_changed<R: Rows>(&mut self, rows: &R, changes: &[Change]) -> Foreseen
+        requires usable { IsUsable (R.tables rows.now) }
+        requires knows { KnowsAll (R.tables rows.now) self.old }
+        ensures stays { KnowsAll (R.tables rows.now) self.new }
+        ensures goes_on { KnowsAll (apply_changes (R.tables rows.now) changes.now) self.new }
+        ensures foreseen { AreForeseen (apply_changes (R.tables rows.now) changes.now) result }
+    {
+        self.survey.forget_changed(rows, changes);
+        Foreseen {
+            nodes: self.nodes.forget_changed(rows, changes),
+            places: self.places.forget_changed(rows, changes),
+        }
+    }
+
+    /// Remembers what is so by now.
+    pub fn remember(&mut self, foreseen: Foreseen)
+        ensures { (t : Tables) → KnowsAll t self.old → AreForeseen t foreseen → KnowsAll t self.new }
+    {
+        self.nodes.remember(foreseen.nodes);
+        self.places = foreseen.places;
+    }
+
+    /// Forgets what hangs on the rows of services and on the time.
+    pub fn forget_services(&mut self)
+        ensures { ForgetsServices self.old self.new }
+    {
+        self.places.forget_all();
+        self.survey.forget_all();
+    }
+
+    /// Forgets all.
+    pub fn forget_all(&mut self)
+        ensures { (t : Tables) → KnowsAll t self.new }
+    {
+        self.nodes.forget_all();
+        self.places.forget_all();
+        self.survey.forget_all();
+    }
+}
