@@ -15,8 +15,8 @@ use swarm_objects::{
 };
 use swarm_plain::Plain;
 
-// A service with id 7 and these ports.
-fn service(alloc: Global, name: Name, ports: List<Port>) -> Service
+/// A service with id 7 and these ports.
+pub fn service(alloc: Global, name: Name, ports: List<Port>) -> Service
     ensures id { result.id ≡ 7 }
     ensures near { is_near_service result ≡ true }
 {

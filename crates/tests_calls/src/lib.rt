@@ -1,7 +1,7 @@
 //! Tests of calls that no script makes alone, of parts that none reaches, and of what none shows.
 //!
-//! They are a crate of their own, so that an edit of a library doesn't prove them again, and one crate, since each crate
-//! of tests loads its libraries and is linked.
+//! They are a crate of their own, so that an edit of a library doesn't prove them again, and one crate, since each
+//! crate of tests loads its libraries and is linked.
 #![tactic(auto)]
 
 #[cfg(test)]
@@ -10,6 +10,8 @@ mod allocations;
 mod assignments;
 #[cfg(test)]
 mod duties;
+#[cfg(test)]
+mod few_reads;
 #[cfg(test)]
 mod lists;
 #[cfg(test)]

@@ -160,8 +160,8 @@ pub fn task(alloc: Global, node: Option<Id>, state: TaskState, desired: Desired)
     }
 }
 
-// Node 1.
-fn one_node(alloc: Global, state: NodeState) -> Result<List<Node>, NoMemory>
+/// Node 1.
+pub fn one_node(alloc: Global, state: NodeState) -> Result<List<Node>, NoMemory>
     ensures { IfOk result AreNodes }
 {
     list_of(alloc, node(alloc, 1, "a", state)?)

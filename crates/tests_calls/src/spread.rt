@@ -4,7 +4,7 @@ ghost use Rattle.swarm_objects.specs.Usable.{IsUsable};
 use crate::small_rows::{task, zones};
 use std::alloc::Global;
 use std::test::Fail;
-use swarm_objects::{Desired, Id, Key, Name, NoMemory, Node, Rows, Task, TaskState, add};
+use swarm_objects::{Desired, Id, Key, Name, NoMemory, Node, Rows, Task, TaskState, add, list_of};
 use swarm_spread::{Admits, SpreadTree};
 
 // Every node will do.
@@ -61,5 +61,34 @@ fn best_of_zones(alloc: Global) -> Result<Option<Id>, NoMemory> {
 #[test]
 fn first_node_of_the_first_zone(rt: HostRuntime) -> Result<(), Fail> {
     assert_eq!(rt; best_of_zones(rt.alloc())?, Some(1));
+    Ok(())
+}
+
+// Whether a tree stands once it is built, and once it counts a task on node 1 that isn't there.
+fn stand<R: Rows>(alloc: Global, rows: &R, keys: &[Key]) -> Result<(bool, bool), NoMemory>
+    requires { IsUsable (R.tables rows.now) }
+{
+    let mut tree = SpreadTree::build(alloc, rows, 7, keys)?;
+    let is_built = tree.stands(rows);
+    tree.add(1)?;
+    let is_added = tree.stands(rows);
+    drop(tree);
+    Ok((is_built, is_added))
+}
+
+fn stand_over_zones(alloc: Global) -> Result<(bool, bool), NoMemory> {
+    let zones = zones(alloc)?;
+    let keys = list_of(alloc, Key::Label(Name::new(alloc, "zone")?))?;
+    let stand = stand(alloc, &zones, keys.as_slice());
+    drop(keys);
+    drop(zones);
+    stand
+}
+
+#[test]
+fn a_tree_with_a_task_too_many_does_not_stand(rt: HostRuntime) -> Result<(), Fail> {
+    let (is_built, is_added) = stand_over_zones(rt.alloc())?;
+    assert!(rt; is_built);
+    assert!(rt; !is_added);
     Ok(())
 }

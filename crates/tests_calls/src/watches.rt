@@ -234,7 +234,8 @@ fn poll_in_turn(watches: &mut Watches) -> Result<[Answer; 3], NoMemory>
     Ok([early, slow, polled(watches, 2)?])
 }
 
-// What the second watcher is answered, then the first, and the second again, where two events come before and two after.
+// What the second watcher is answered, then the first, and the second again, where two events come before and two
+// after.
 fn polled_in_turn(alloc: Global) -> Result<[Answer; 3], NoMemory> {
     let mut watches = Watches::new(alloc);
     let answers = poll_in_turn(&mut watches);
