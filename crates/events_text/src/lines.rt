@@ -99,7 +99,8 @@ fn json_text(alloc: Global, value: &Value) -> Result<List<u8>, AllocError>
     Ok(List::from_vec(text.into_bytes()))
 }
 
-/// The line of an entry that was answered so, between the worlds before and after it: JSON without spaces, and a newline.
+/// The line of an entry that was answered so, between the worlds before and after it: JSON without spaces, and a
+/// newline.
 ///
 /// It asks for worlds whose rows stand by rising id, as all do that a legal history makes, and for an entry that has a
 /// text.

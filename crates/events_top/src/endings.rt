@@ -53,8 +53,8 @@ fn illegal(alloc: Global, number: u64, why: &str) -> Result<String, AllocError>
     Ok(text)
 }
 
-/// What tells the ending, where it is a fault of the journal: the line of a replay, and of an entry that isn't legal why
-/// it isn't on a second line.
+/// What tells the ending, where it is a fault of the journal: the line of a replay, and of an entry that isn't legal
+/// why it isn't on a second line.
 pub fn ending_text(alloc: Global, ending: Ending, why: &str) -> Result<String, AllocError>
     ensures { IfOk result (λ text. string_bytes text ≡ ending_text ending why.now) }
 {

@@ -1,5 +1,5 @@
-// The least numbers that are free, found without memory: ports of a protocol, and addresses of a network. They are looked
-// for by words of numbers.
+// The least numbers that are free, found without memory: ports of a protocol, and addresses of a network. They are
+// looked for by words of numbers.
 ghost use Rattle.std.specs.Prelude.{◌≡◌, ◌+◌, ◌-◌, ◌^◌};
 ghost use Rattle.std.specs.List.{list_any};
 ghost use Rattle.swarm_objects.specs.Loops.Allocator.{has_free_address, has_free_port};

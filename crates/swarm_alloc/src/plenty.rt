@@ -46,8 +46,8 @@ fn left_over(left: usize, udp: bool, service: &Service) -> usize
         .saturating_sub(count_given(udp, service.numbers.as_slice()))
 }
 
-/// Services hold fewer numbers of the protocol than there are, so one is free. Whether one is free where they hold as many
-/// or more, because of numbers that are no ports to give or held twice, isn't said.
+/// Services hold fewer numbers of the protocol than there are, so one is free. Whether one is free where they hold as
+/// many or more, because of numbers that are no ports to give or held twice, isn't said.
 pub fn has_plenty<R: Rows>(rows: &R, udp: bool) -> bool
     requires { IsUsable (R.tables rows.now) }
     ensures { result ≡ true → has_free_port (R.tables rows.now) udp ≡ true }

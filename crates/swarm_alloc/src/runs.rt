@@ -1,5 +1,5 @@
-// How many numbers are held without a gap, from one number on: addresses of a network, and ports of a protocol. One pass
-// over the rows tells it of as many numbers as a word has bits.
+// How many numbers are held without a gap, from one number on: addresses of a network, and ports of a protocol. One
+// pass over the rows tells it of as many numbers as a word has bits.
 ghost use Rattle.std.specs.Prelude.{◌≡◌, ◌≤◌, ◌+◌, ◌==◌};
 ghost use Rattle.std.specs.List.{list_any};
 ghost use Rattle.swarm_alloc.specs.Runs.{HasMore, IsHeldRun};
@@ -62,8 +62,8 @@ fn with_task(word: u64, network: Id, from: u64, task: &Task) -> u64
     }
 }
 
-/// How many addresses of the network are held without a gap, from this one on: up to the last, and up to those of a word.
-/// Where all are held, the pass over the tasks ends as soon as that is known.
+/// How many addresses of the network are held without a gap, from this one on: up to the last, and up to those of a
+/// word. Where all are held, the pass over the tasks ends as soon as that is known.
 pub fn addresses_held_from<R: Rows>(rows: &R, network: Id, from: u64, last: u64) -> u64
     requires usable { IsUsable (R.tables rows.now) }
     requires order { from ≤ last }

@@ -169,8 +169,8 @@ impl Cluster {
         }
     }
 
-    /// A pause, for a caller that does the duties of all control loops itself: as long as it is kept, nobody is woken, and
-    /// who waits it out before each turn makes at most the turn that it had begun.
+    /// A pause, for a caller that does the duties of all control loops itself: as long as it is kept, nobody is woken,
+    /// and who waits it out before each turn makes at most the turn that it had begun.
     pub fn pause(&self) -> Pause<'_> {
         Pause::begin(self)
     }

@@ -1,5 +1,5 @@
-// A map from ids to rows, by pages of 64 places. Ids are given out in order, so the directory of pages is a vector by their numbers: a
-// look-up reads a place there and one on the page.
+// A map from ids to rows, by pages of 64 places. Ids are given out in order, so the directory of pages is a vector by
+// their numbers: a look-up reads a place there and one on the page.
 ghost use Rattle.std.specs.Prelude.{◌≡◌, ◌≤◌, ◌/◌, ◌%◌, IfErr, IfNone, IsTrue, None, OnErr, OnOk, Some, [], drop, is_some, length, slice_index_or};
 ghost use Rattle.std.specs.BTreeMap.{insert_entry, is_at};
 ghost use Rattle.std.specs.BTreeMap.Range.{entries_between};

@@ -13,8 +13,8 @@ use std::marker::Model;
 use std::mem;
 use swarm_objects::{Id, NoMemory};
 
-/// Rows by rising id, found by id and by each of their keys in a time that grows with the logarithm of their number.
-/// Contracts see the rows, and the room: how many inserts and replaces can't want memory.
+/// Rows by rising id. A row is found by its id by two reads, and one with a key by one hash of the key; the next row of
+/// either is behind it. Contracts see the rows, and the room: how many inserts and replaces can't want memory.
 #[derive(Drop)]
 pub struct Indexed<R: Row + Drop> {
     table: Table<R>,

@@ -36,8 +36,8 @@ fn next_tick(look: Look, left: Ms) -> Ms
     time_till(look.now, look.settle, LONGEST_TICK.min(left))
 }
 
-/// Makes turns of the loop whose duty the settle test names, until it names none or so many duties were done; a turn that
-/// finds none, since a worker was quicker, isn't counted. Gives the last look.
+/// Makes turns of the loop whose duty the settle test names, until it names none or so many duties were done; a turn
+/// that finds none, since a worker was quicker, isn't counted. Gives the last look.
 pub fn take_duties<R: Wait>(
     rt: &R,
     cluster: &Cluster,

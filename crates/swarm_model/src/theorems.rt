@@ -11,8 +11,8 @@ ghost use Rattle.swarm_model.specs.Laws.Rises.{RisingLaw};
 ghost use Rattle.swarm_model.specs.OneCaller.{RepliesLaw, SerialLaw, SerialPartLaw, SerialUndoneLaw};
 ghost use Rattle.swarm_model.specs.Laws.Worlds.{OrderLaw, SizeLaw, SoundLaw};
 
-/// A task keeps what it was made with, and its node; its state and what is wanted of it only rise; no id comes back, and no
-/// two things share one, of whatever kinds they are.
+/// A task keeps what it was made with, and its node; its state and what is wanted of it only rise; no id comes back,
+/// and no two things share one, of whatever kinds they are.
 pub fn tasks_rise()
     ensures { RisingLaw }
 {}
@@ -28,8 +28,8 @@ pub fn dead_sessions_change_nothing()
     ensures { DeadSessionLaw }
 {}
 
-/// What an accepted transaction makes of sessions, of what was sent and of agents, its operations and the ids of its reply
-/// tell; all else beside the tables stays.
+/// What an accepted transaction makes of sessions, of what was sent and of agents, its operations and the ids of its
+/// reply tell; all else beside the tables stays.
 pub fn transactions_tell_what_stands_beside()
     ensures { BesideLaw }
 {}
@@ -44,8 +44,8 @@ pub fn tasks_are_of_services()
     ensures { OfServiceLaw }
 {}
 
-/// The events of an entry are exactly what happened to objects, each once, by kind and id; a poll tells all that its filter
-/// admits, and once, or how many wait where these are more than 10,000.
+/// The events of an entry are exactly what happened to objects, each once, by kind and id; a poll tells all that its
+/// filter admits, and once, or how many wait where these are more than 10,000.
 pub fn polls_tell_every_change_once()
     ensures changes { ChangesLaw }
     ensures order { EventOrderLaw }

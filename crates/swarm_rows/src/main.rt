@@ -33,8 +33,8 @@
 //!   `wait N`, or its fault. `entries`: the same of each line of a journal. `entry`: of the whole text. `constraints`:
 //!   each line as a constraint without spaces, or `BadConstraint` and the place of its fault.
 //!
-//! The output is one line with the number of rows, and of those that differ; above it the head of each that differs, and
-//! what was seen of it.
+//! The output is one line with the number of rows, and of those that differ; above it the head of each that differs,
+//! and what was seen of it.
 #![tactic(auto)]
 
 mod comparisons;

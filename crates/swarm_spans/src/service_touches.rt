@@ -201,7 +201,8 @@ fn touch_by<S: Sight, R: Rows>(rows: &R, change: &Change, span: &mut Span)
 #[tactic(auto, using(crate::proofs::Services::Touching::all_steps))]
 pub fn add_shifted<S: Sight, R: Rows>(rows: &R, changes: &[Change], span: &mut Span)
     ensures wider { IsWider span.new span.old }
-    ensures has { let t = R.tables rows.now in HasShiftedBut (S.quiet t) (S.see t) span.new t (apply_changes t changes.now) }
+    ensures has { let t = R.tables rows.now in
+        HasShiftedBut (S.quiet t) (S.see t) span.new t (apply_changes t changes.now) }
 {
     let mut left = changes;
     while let Some((change, others)) = left.split_first() {

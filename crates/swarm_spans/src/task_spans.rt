@@ -208,8 +208,8 @@ impl TaskSpans {
         }
     }
 
-    /// With what may have a duty as time goes by, and nothing else changes. At any time only tasks on nodes that are DOWN
-    /// are orphans.
+    /// With what may have a duty as time goes by, and nothing else changes. At any time only tasks on nodes that are
+    /// DOWN are orphans.
     pub fn with_time<R: Rows>(self, rows: &R) -> TaskSpans
         requires { IsUsable (R.tables rows.now) }
         ensures goes_on { TimeLaw (R.tables rows.now) self result }

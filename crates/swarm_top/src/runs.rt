@@ -75,8 +75,8 @@ fn run_all<R: Threads + Wait + Sync, S: Source, O: Sink, G: Gate + Sync>(
     ending
 }
 
-/// Runs a script by caller 0 beside so many workers. Gives how the reading ended, and the world. Where memory is wanting
-/// for a cluster nothing is read or put.
+/// Runs a script by caller 0 beside so many workers. Gives how the reading ended, and the world. Where memory is
+/// wanting for a cluster nothing is read or put.
 pub fn run_beside<R: Threads + Wait + Sync, S: Source, O: Sink, G: Gate + Sync>(
     rt: &R,
     alloc: Global,

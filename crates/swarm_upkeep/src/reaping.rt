@@ -73,8 +73,8 @@ fn is_newest<R: Rows>(rows: &R, service: &Service, task: &Task) -> bool
     }
 }
 
-// The place has more such tasks than are kept. This one is the oldest of them, and not the place's newest. Whether it is the
-// oldest is asked first: that walk ends at the first such task.
+// The place has more such tasks than are kept. This one is the oldest of them, and not the place's newest. Whether it
+// is the oldest is asked first: that walk ends at the first such task.
 fn is_oldest_past<R: Rows>(rows: &R, service: &Service, task: &Task) -> bool
     requires { IsUsable (R.tables rows.now) }
     ensures { let t = R.tables rows.now in

@@ -1,5 +1,5 @@
-//! Journals of whole runs, made by an independent program and gone over entry by entry, on the plain world and beside it
-//! on the store with its watches, and then on the one world.
+//! Journals of whole runs, made by an independent program and gone over entry by entry, on the plain world and beside
+//! it on the store with its watches, and then on the one world.
 //!
 //! Before each entry, the first duty of every control loop over any rows is compared with the head of the plain loop's
 //! list. The entry is then done on the plain world and on the store with its watches: their answers and their rows are

@@ -1,4 +1,5 @@
-//! Which loops a worker has, that a caller hears of another one's entry without waiting, and that a pause is waited out.
+//! Which loops a worker has, that a caller hears of another one's entry without waiting, and that a pause is waited
+//! out.
 ghost use Rattle.std.specs.Prelude.{IfOk};
 ghost use Rattle.turn_cell.specs.Passes.{IsPassOf};
 

@@ -1,5 +1,5 @@
-//! Public calls of the store under their own contracts, one function each: the must-fail edits put wrong bodies in their
-//! place.
+//! Public calls of the store under their own contracts, one function each: the must-fail edits put wrong bodies in
+//! their place.
 //!
 //! The clauses of each function are word for word those of the call, so what they refuse, the call's contract refuses.
 #![tactic(auto)]

@@ -41,8 +41,8 @@ fn enter_lines(
     Ok(true)
 }
 
-// Each world has an owner of its own with one way out, which drops it by name: else the proof goes through all its parts
-// at each.
+// Each world has an owner of its own with one way out, which drops it by name: else the proof goes through all its
+// parts at each.
 fn beside_plain(
     plain: &mut Replay,
     texts: &mut Texts,

@@ -1,7 +1,0 @@
-use Rattle.swarm_world.proofs.Marked.{all_are_marked}
-use Rattle.swarm_world.proofs.marks.Marks.with_nodes.Goals as goal
-
-pub returns : goal.returns
-returns c =
-    all_are_marked (record { tasks = c.full.result; services = c.full-2.result; agents = c.full-3.result; nodes = c.args.nodes })
-    c.full.ensures.covers c.full-2.ensures.covers c.requires c.full-3.ensures.duties c.full-3.ensures.tells
