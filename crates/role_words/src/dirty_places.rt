@@ -138,7 +138,8 @@ pub fn first_to_replace<R: Rows>(rows: &R, service: &Service) -> Option<u64>
 #[tactic(auto, using(crate::proofs::Dirty::any_first))]
 pub fn has_waiting_place<R: Rows>(rows: &R, service: &Service) -> bool
     requires { IsUsable (R.tables rows.now) }
-    ensures { let t = R.tables rows.now in result ≡ list_any (is_to_replace t service.now) (place_numbers t service.now) }
+    ensures { let t = R.tables rows.now in
+        result ≡ list_any (is_to_replace t service.now) (place_numbers t service.now) }
 {
     first_to_replace(rows, service).is_some()
 }

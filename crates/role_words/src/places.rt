@@ -7,13 +7,13 @@ ghost use Rattle.swarm_objects.specs.Tasks.Places.{closes, has_live, is_held_pla
 ghost use Rattle.swarm_objects.specs.Usable.{IsUsable};
 
 use std::marker::Model;
-use swarm_objects::walks::{TasksAt, tasks_at};
+use swarm_objects::walks::{TasksWith, tasks_at};
 use swarm_objects::{Place, Rows, Service, Task};
 
 /// The tasks of a place of a service that are left, by rising id. Contracts see the list of them.
 #[derive(Drop)]
 pub struct PlaceTasks<'a, R: Rows> {
-    rest: TasksAt<'a, R>,
+    rest: TasksWith<'a, R>,
     service: &'a Service,
     place: Place,
 }

@@ -3,11 +3,15 @@ use Rattle.std.proofs.Common.{◌≡◌, ℕ, ◌+◌, ◌<◌, ◌≤◌, Bool,
 use Rattle.std.proofs.lemmas.Bool.Decides.{nat_tests}
 use Rattle.std.proofs.lemmas.List.Sums.{sum_by-cons}
 use Rattle.std.specs.Iterator.{MakesProgress, item_count}
-use Rattle.std.specs.Prelude.{length, ⊤, map, filter, find, count_by}
+use Rattle.std.specs.List.{cons_option}
+use Rattle.std.specs.Prelude.{Option, length, ⊤, map, filter, find, count_by}
 use Rattle.std.specs.Option.{option_map}
-use Rattle.swarm_objects.specs.Rows.{row_above, RisesFrom, first_of}
+use Rattle.swarm_objects.specs.Rows.{row_above, row_at, rows_named, task_id, RisesFrom, first_of}
+use Rattle.swarm_objects.specs.Tasks.Words.{has_key}
+use Rattle.swarm_objects.specs.declared.tasks.Task.{Task}
+use Rattle.swarm_objects.specs.declared.tasks.TaskKey.{TaskKey}
 use Rattle.swarm_objects.proofs.RowLemmas.{RisesFrom-filter}
-use Rattle.swarm_objects.specs.Walks.{walk}
+use Rattle.swarm_objects.specs.Walks.{named_with, walk}
 
 pub walk-Some : {X : Type 0} (key : X → ℕ) (after : ℕ) (rows : List X) (x : X) → row_above key after rows ≡ Some x
     → (walk key after rows ≡ x ∷ walk key (key x) rows) × (after < key x)
@@ -101,3 +105,34 @@ first_right [] ys e = refl
 first_right (y ∷ xs) ys e = absurd cc
 
 pub ruleset first_steps = (first_left, first_right)
+
+-- tasks by their ids
+
+-- the first id is that of a task with the key
+pub named_first : (key : TaskKey) (tasks : List Task) (ids rest : List ℕ) (id : ℕ) (x : Task) → ids ≡ id ∷ rest
+    → Some x ≡ row_at task_id id tasks → has_key key x ≡ true
+    → named_with key ids tasks ≡ x ∷ named_with key rest tasks
+named_first key tasks ids rest id x is row has =
+    ap (λ (l : List ℕ). named_with key l tasks) is
+    ∙ ap (λ (r : Option Task). filter (has_key key) (cons_option r (rows_named task_id rest tasks))) (sym row)
+    ∙ ap (λ (b : Bool). cond b (x ∷ named_with key rest tasks) (named_with key rest tasks)) has
+
+-- or of another one
+pub named_other : (key : TaskKey) (tasks : List Task) (ids rest : List ℕ) (id : ℕ) (x : Task) → ids ≡ id ∷ rest
+    → Some x ≡ row_at task_id id tasks → has_key key x ≡ false → named_with key ids tasks ≡ named_with key rest tasks
+named_other key tasks ids rest id x is row has =
+    ap (λ (l : List ℕ). named_with key l tasks) is
+    ∙ ap (λ (r : Option Task). filter (has_key key) (cons_option r (rows_named task_id rest tasks))) (sym row)
+    ∙ ap (λ (b : Bool). cond b (x ∷ named_with key rest tasks) (named_with key rest tasks)) has
+
+-- or of none
+pub named_none : (key : TaskKey) (tasks : List Task) (ids rest : List ℕ) (id : ℕ) → ids ≡ id ∷ rest
+    → None ≡ row_at task_id id tasks → named_with key ids tasks ≡ named_with key rest tasks
+named_none key tasks ids rest id is row =
+    ap (λ (l : List ℕ). named_with key l tasks) is
+    ∙ ap (λ (r : Option Task). filter (has_key key) (cons_option r (rows_named task_id rest tasks))) (sym row)
+
+-- or there is none
+pub named_end : (key : TaskKey) (tasks : List Task) (ids : List ℕ) → length ids ≡ 0 → named_with key ids tasks ≡ []
+named_end key tasks [] is = refl
+named_end key tasks (id ∷ ids) is = absurd (omega (arith, is))

@@ -8,14 +8,14 @@ ghost use Rattle.swarm_objects.specs.Tasks.Words.{is_live, is_of};
 ghost use Rattle.std.specs.Prelude.{count_by};
 ghost use Rattle.swarm_objects.specs.Usable.{IsUsable};
 
-use crate::walks::{NodeTasks, tasks_on};
+use crate::walks::{TasksWith, tasks_on};
 use crate::{Id, Rows, Task};
 use std::marker::Model;
 
 /// The tasks from ASSIGNED to RUNNING on a node that are left, by rising id. Contracts see the list of them.
 #[derive(Drop)]
 pub struct PlacedTasks<'a, R: Rows> {
-    rest: NodeTasks<'a, R>,
+    rest: TasksWith<'a, R>,
 }
 
 impl<'a, R: Rows> Model for PlacedTasks<'a, R> {

@@ -1,10 +1,13 @@
 // Rows one after the other, as iterators that are seen as the list of the rows that are left.
-ghost use Rattle.std.specs.Prelude.{◌≡◌, filter};
+ghost use Rattle.std.specs.Prelude.{◌≡◌, ◌∷◌, MatchOption, [], filter};
 ghost use Rattle.std.specs.Iterator.{YieldsFirstRef, item_count};
-ghost use Rattle.swarm_objects.specs.Tasks.Words.{is_at, is_of, is_on};
+ghost use Rattle.std.specs.Option.{option_copied};
+ghost use Rattle.swarm_objects.specs.Rows.{row_above, task_id};
+ghost use Rattle.swarm_objects.specs.Tasks.Words.{has_key, is_at, is_of, is_on};
 ghost use Rattle.swarm_objects.specs.Usable.{IsUsable};
+ghost use Rattle.swarm_objects.specs.Walks.{named_with};
 
-use crate::{Id, Network, Node, Place, Rows, Service, Task};
+use crate::{Id, Network, Node, Place, Rows, Service, Task, TaskKey};
 use std::marker::Model;
 
 /// The nodes that are left, by rising id. Contracts see the list of them.
@@ -175,27 +178,68 @@ pub fn networks<R: Rows>(rows: &R) -> NetworkRows<'_, R>
     NetworkRows { rows, after: 0 }
 }
 
-/// The tasks of a service that are left, by rising id. Contracts see the list of them.
-#[derive(Drop)]
-pub struct ServiceTasks<'a, R: Rows> {
-    rows: &'a R,
-    service: Id,
-    after: Id,
+// How the tasks with a key that are left are met.
+#[derive(Clone, Copy)]
+enum Left<'a> {
+    // those of these ids that have the key
+    Named(&'a [Id]),
+    // from one to the next by the key, behind this id
+    Behind(Id),
 }
 
-impl<'a, R: Rows> Model for ServiceTasks<'a, R> {
-    ghost use Rattle.std.specs.Prelude.{List, filter};
+/// The tasks with a key that are left, by rising id. The key is looked up once, where the rows have the ids at hand.
+/// Contracts see the list of the tasks.
+#[derive(Drop)]
+pub struct TasksWith<'a, R: Rows> {
+    rows: &'a R,
+    key: TaskKey,
+    left: Left<'a>,
+}
+
+impl<'a, R: Rows> Model for TasksWith<'a, R> {
+    ghost use Rattle.std.specs.Prelude.{List};
     ghost use Rattle.swarm_objects.specs.declared.tasks.Task.{Task as Row};
-    ghost use Rattle.swarm_objects.specs.Rows.{task_id};
-    ghost use Rattle.swarm_objects.specs.Tasks.Words.{is_of};
-    ghost use Rattle.swarm_objects.specs.Walks.{walk};
+    ghost use Rattle.swarm_objects.specs.Walks.{left_with};
 
     ghost Value = { List Row };
 
-    ghost view = { λ it. walk task_id it.after (filter (is_of it.service) (R.tables it.rows.now).tasks) };
+    ghost view = { λ it. left_with it.key it.left (R.tables it.rows.now).tasks };
 }
 
-impl<'a, R: Rows> Iterator for ServiceTasks<'a, R> {
+// The task with the key that has the least id above this one.
+fn next_with<R: Rows>(rows: &R, key: TaskKey, after: Id) -> Option<&Task>
+    ensures { option_copied result ≡ row_above task_id after (filter (has_key key) (R.tables rows.now).tasks) }
+{
+    match key {
+        TaskKey::Service(service) => rows.next_task_of(service, after),
+        TaskKey::Place(service, place) => rows.next_task_at(service, place, after),
+        TaskKey::Node(node) => rows.next_task_on(node, after),
+    }
+}
+
+// The first of these ids' tasks that has the key, and the ids behind it.
+fn first_named<'a, R: Rows>(
+    rows: &'a R,
+    key: TaskKey,
+    ids: &'a [Id],
+) -> Option<(&'a Task, &'a [Id])>
+    ensures { let tasks = (R.tables rows.now).tasks in
+        MatchOption result (named_with key ids.now tasks ≡ [])
+        (λ first. named_with key ids.now tasks ≡ first.0.now ∷ named_with key first.1.now tasks) }
+{
+    let mut left = ids;
+    while let Some((id, others)) = left.split_first() {
+        if let Some(task) = rows.task(*id) {
+            if task.has_key(key) {
+                return Some((task, others));
+            }
+        }
+        left = others;
+    }
+    None
+}
+
+impl<'a, R: Rows> Iterator for TasksWith<'a, R> {
     type Item = &'a Task;
 
     ghost next_gives = { YieldsFirstRef (λ it. it) };
@@ -204,121 +248,54 @@ impl<'a, R: Rows> Iterator for ServiceTasks<'a, R> {
 
     #[tactic(auto, using(crate::proofs::WalkLemmas::walk_end))]
     fn next(&mut self) -> Option<&'a Task> {
-        let row = self.rows.next_task_of(self.service, self.after)?;
-        self.after = row.id;
-        Some(row)
+        match self.left {
+            Left::Named(ids) => {
+                let (task, others) = first_named(self.rows, self.key, ids)?;
+                self.left = Left::Named(others);
+                Some(task)
+            }
+            Left::Behind(after) => {
+                let task = next_with(self.rows, self.key, after)?;
+                self.left = Left::Behind(task.id);
+                Some(task)
+            }
+        }
     }
+}
+
+// The tasks with the key, by rising id.
+#[tactic(auto, using(crate::proofs::WalkLemmas::walk_begins_among))]
+fn tasks_with<R: Rows>(rows: &R, key: TaskKey) -> TasksWith<'_, R>
+    requires { IsUsable (R.tables rows.now) }
+    ensures { result ≡ filter (has_key key) (R.tables rows.now).tasks }
+{
+    let left = match rows.ids_with(key) {
+        Some(ids) => Left::Named(ids),
+        None => Left::Behind(0),
+    };
+    TasksWith { rows, key, left }
 }
 
 /// The tasks of the service, by rising id.
-#[tactic(auto, using(crate::proofs::WalkLemmas::walk_begins_among))]
-pub fn tasks_of<R: Rows>(rows: &R, service: Id) -> ServiceTasks<'_, R>
+pub fn tasks_of<R: Rows>(rows: &R, service: Id) -> TasksWith<'_, R>
     requires { IsUsable (R.tables rows.now) }
     ensures { result ≡ filter (is_of service) (R.tables rows.now).tasks }
 {
-    ServiceTasks {
-        rows,
-        service,
-        after: 0,
-    }
-}
-
-/// The tasks at a place of a service that are left, by rising id. Contracts see the list of them.
-#[derive(Drop)]
-pub struct TasksAt<'a, R: Rows> {
-    rows: &'a R,
-    service: Id,
-    place: Place,
-    after: Id,
-}
-
-impl<'a, R: Rows> Model for TasksAt<'a, R> {
-    ghost use Rattle.std.specs.Prelude.{List, filter};
-    ghost use Rattle.swarm_objects.specs.declared.tasks.Task.{Task as Row};
-    ghost use Rattle.swarm_objects.specs.Rows.{task_id};
-    ghost use Rattle.swarm_objects.specs.Tasks.Words.{is_at};
-    ghost use Rattle.swarm_objects.specs.Walks.{walk};
-
-    ghost Value = { List Row };
-
-    ghost view = { λ it. walk task_id it.after (filter (is_at it.service it.place) (R.tables it.rows.now).tasks) };
-}
-
-impl<'a, R: Rows> Iterator for TasksAt<'a, R> {
-    type Item = &'a Task;
-
-    ghost next_gives = { YieldsFirstRef (λ it. it) };
-
-    ghost remaining = { item_count (λ it. it) };
-
-    #[tactic(auto, using(crate::proofs::WalkLemmas::walk_end))]
-    fn next(&mut self) -> Option<&'a Task> {
-        let row = self
-            .rows
-            .next_task_at(self.service, self.place, self.after)?;
-        self.after = row.id;
-        Some(row)
-    }
+    tasks_with(rows, TaskKey::Service(service))
 }
 
 /// The tasks whose place is this one of the service, by rising id.
-#[tactic(auto, using(crate::proofs::WalkLemmas::walk_begins_among))]
-pub fn tasks_at<R: Rows>(rows: &R, service: Id, place: Place) -> TasksAt<'_, R>
+pub fn tasks_at<R: Rows>(rows: &R, service: Id, place: Place) -> TasksWith<'_, R>
     requires { IsUsable (R.tables rows.now) }
     ensures { result ≡ filter (is_at service place) (R.tables rows.now).tasks }
 {
-    TasksAt {
-        rows,
-        service,
-        place,
-        after: 0,
-    }
-}
-
-/// The tasks of a node that are left, by rising id. Contracts see the list of them.
-#[derive(Drop)]
-pub struct NodeTasks<'a, R: Rows> {
-    rows: &'a R,
-    node: Id,
-    after: Id,
-}
-
-impl<'a, R: Rows> Model for NodeTasks<'a, R> {
-    ghost use Rattle.std.specs.Prelude.{List, filter};
-    ghost use Rattle.swarm_objects.specs.declared.tasks.Task.{Task as Row};
-    ghost use Rattle.swarm_objects.specs.Rows.{task_id};
-    ghost use Rattle.swarm_objects.specs.Tasks.Words.{is_on};
-    ghost use Rattle.swarm_objects.specs.Walks.{walk};
-
-    ghost Value = { List Row };
-
-    ghost view = { λ it. walk task_id it.after (filter (is_on it.node) (R.tables it.rows.now).tasks) };
-}
-
-impl<'a, R: Rows> Iterator for NodeTasks<'a, R> {
-    type Item = &'a Task;
-
-    ghost next_gives = { YieldsFirstRef (λ it. it) };
-
-    ghost remaining = { item_count (λ it. it) };
-
-    #[tactic(auto, using(crate::proofs::WalkLemmas::walk_end))]
-    fn next(&mut self) -> Option<&'a Task> {
-        let row = self.rows.next_task_on(self.node, self.after)?;
-        self.after = row.id;
-        Some(row)
-    }
+    tasks_with(rows, TaskKey::Place(service, place))
 }
 
 /// The tasks of the node, by rising id.
-#[tactic(auto, using(crate::proofs::WalkLemmas::walk_begins_among))]
-pub fn tasks_on<R: Rows>(rows: &R, node: Id) -> NodeTasks<'_, R>
+pub fn tasks_on<R: Rows>(rows: &R, node: Id) -> TasksWith<'_, R>
     requires { IsUsable (R.tables rows.now) }
     ensures { result ≡ filter (is_on node) (R.tables rows.now).tasks }
 {
-    NodeTasks {
-        rows,
-        node,
-        after: 0,
-    }
+    tasks_with(rows, TaskKey::Node(node))
 }

@@ -6,6 +6,8 @@ use Rattle.swarm_objects.specs.Values.Ranks.{desired_rank, rank}
 use Rattle.swarm_objects.specs.declared.tasks.Desired.TheVariants as desired
 use Rattle.swarm_objects.specs.declared.tasks.Place.{Place}
 use Rattle.swarm_objects.specs.declared.tasks.Task.{Task}
+use Rattle.swarm_objects.specs.declared.tasks.TaskKey.TheVariants as task_key
+use Rattle.swarm_objects.specs.declared.tasks.TaskKey.{TaskKey}
 use Rattle.swarm_objects.specs.declared.tasks.TaskState.{TaskState}
 use Rattle.swarm_objects.specs.declared.tasks.TaskState.TheVariants as state
 
@@ -38,6 +40,12 @@ is_at service place t = t.service == service && same_place t.place place
 
 abbrev pub is_on : ℕ → Task → Bool
 is_on node t = option_eq same_number t.node (Some node)
+
+-- it has the key by which it is found
+abbrev pub has_key : TaskKey → Task → Bool
+has_key (task_key.Service service) = is_of service
+has_key (task_key.Place service place) = is_at service place
+has_key (task_key.Node node) = is_on node
 
 -- above RUNNING
 abbrev pub has_ended : Task → Bool
