@@ -1,5 +1,5 @@
 -- What an index is after its table or its spare rows changed.
-use Rattle.std.proofs.Common.{◌≡◌, ℕ, Bool, true, false, cond, eqb, List, Option, Some, None, refl, sym, ap, ◌∙◌, subst, arith}
+use Rattle.std.proofs.Common.{◌≡◌, ℕ, Bool, true, false, cond, eqb, List, [], Option, Some, None, refl, sym, ap, ◌∙◌, subst, arith}
 use Rattle.std.proofs.lemmas.Bool.Decides.{nat_tests}
 use Rattle.std.specs.Prelude.{filter, is_some}
 use Rattle.swarm_index.proofs.Merging.{above_of_both, apart_drop_first, apart_drop_second, apart_put_first, apart_put_second, apart_with_first, apart_with_second, at_all, drop_first, drop_second, insert_first, insert_second, next_of_both, put_first, put_moved, put_second}
@@ -8,7 +8,7 @@ use Rattle.swarm_index.proofs.RowsAt.{at_drop, at_put, at_with, rising_all, risi
 use Rattle.swarm_index.specs.Index.{RowsWithRoom}
 use Rattle.swarm_index.specs.Inside.Merged.{IsIndex, first_some, lesser, with_all}
 use Rattle.swarm_objects.proofs.Gaps.{IsRising-with_row}
-use Rattle.swarm_objects.specs.Rows.{IsRising, drop_row, put_row, row_above, row_at, with_row}
+use Rattle.swarm_objects.specs.Rows.{IsRising, drop_row, put_row, row_above, row_at, rows_named, with_row}
 
 -- the index with these rows, seen as one list
 pub record Shows {X : Type 0} (key : X → ℕ) (table spare seen : List X) : Type 0 where
@@ -180,6 +180,11 @@ module _ {X : Type 0} (key : X → ℕ) (table spare seen : List X) (was : IsInd
 
         left : fewer ≡ drop_row key (key new) table
         left = g ∙ ap (drop_row key j) t ∙ ap (λ n. drop_row key n table) jn
+
+-- the rows that a list names, where no row is spare
+pub named_only : {X : Type 0} (key : X → ℕ) (table spare seen : List X) → with_all key spare table ≡ seen → (p : X → Bool) (ids : List ℕ) → spare ≡ []
+    → filter p (rows_named key ids table) ≡ filter p table → filter p (rows_named key ids seen) ≡ filter p seen
+named_only key table spare seen view p ids none e = subst (λ ys. filter p (rows_named key ids ys) ≡ filter p ys) (ap (λ xs. with_all key xs table) (sym none) ∙ view) e
 
 -- what is seen of an index whose parts stayed
 pub view_same : {X : Type 0} (key : X → ℕ) (table same : List X) (spare still now : RowsWithRoom X) → same ≡ table → still ≡ spare → record { rows = with_all key spare.rows table; room = spare.room } ≡ now

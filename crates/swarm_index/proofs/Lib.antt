@@ -4,6 +4,7 @@ pub mod InPage
 pub mod Indexing
 pub mod MarkLemmas
 pub mod Merging
+pub mod NamedRows
 pub mod Nexts
 pub mod PageSteps
 pub mod Paged

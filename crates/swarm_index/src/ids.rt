@@ -1,6 +1,7 @@
 // The ids of the rows that have one digest of their keys of one number, by rising number.
 ghost use Rattle.std.specs.Prelude.{◌≡◌, ◌↔◌, ◌∷◌, [], ◌==◌, ◌&&◌, ◌||◌, not, ℕ, IfOk, OnErr, OnOk, IsTrue};
 ghost use Rattle.swarm_index.specs.Inside.Ids.{has_id, IsNextId};
+ghost use Rattle.swarm_objects.specs.Rows.{IsRising, itself};
 
 use std::alloc::Global;
 use std::marker::Model;
@@ -64,6 +65,14 @@ impl Ids {
         ensures { IsTrue result ↔ (self.now ≡ []) }
     {
         self.ids.is_empty()
+    }
+
+    // All of them.
+    pub fn as_slice(&self) -> &[Id]
+        ensures same { result.now ≡ self.now }
+        ensures order { IsRising itself result.now }
+    {
+        self.ids.as_slice()
     }
 
     // The least one above this number.

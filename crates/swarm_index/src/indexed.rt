@@ -1,9 +1,24 @@
 // Rows by rising id.
-ghost use Rattle.std.specs.Prelude.{◌≡◌, ◌+◌, ◌<◌, ◌≤◌, IfErr, IfOk, IsTrue, None, OnErr, OnOk, Some, [], filter};
+ghost use Rattle.std.specs.Prelude.{
+  ◌≡◌,
+  ◌+◌,
+  ◌<◌,
+  ◌≤◌,
+  IfErr,
+  IfOk,
+  IfSome,
+  IsTrue,
+  None,
+  OnErr,
+  OnOk,
+  Some,
+  [],
+  filter,
+};
 ghost use Rattle.std.specs.Option.{option_copied};
 ghost use Rattle.swarm_index.specs.Inside.Merged.{lesser};
 ghost use Rattle.swarm_index.specs.Keys.{has_key, value_of};
-ghost use Rattle.swarm_objects.specs.Rows.{IsRising, drop_row, has_row, put_row, row_above, row_at, with_row};
+ghost use Rattle.swarm_objects.specs.Rows.{IsRising, drop_row, has_row, itself, put_row, row_above, row_at, rows_named, with_row};
 
 use crate::spare::Spare;
 use crate::table::Table;
@@ -150,6 +165,24 @@ impl<R: Row + Drop> Indexed<R> {
             self.spare.next_by_key(which, key, after),
             self.table.next_by_key(which, key, after),
         )
+    }
+
+    /// Ids by rising number: those of all rows whose key of the number `which` is this one, and maybe others. So a walk
+    /// over these rows looks the key up once, and passes each row whose key is another. None where no one list has the
+    /// ids, since memory was wanting for a row.
+    pub fn ids_by_key(&self, which: u32, key: &IndexKey<'_>) -> Option<&[Id]>
+        requires { which < R.KEYS }
+        ensures value { IfSome result (λ ids.
+            let has = has_key R.key_of which (value_of key.now) in
+            filter has (rows_named R.id_of ids.now self.now.rows) ≡ filter has self.now.rows) }
+        ensures rising { IfSome result (λ ids. IsRising itself ids.now) }
+        ensures order { IsRising R.id_of self.now.rows }
+    {
+        if self.spare.is_empty() {
+            Some(self.table.ids_by_key(which, key))
+        } else {
+            None
+        }
     }
 }
 

@@ -3,6 +3,7 @@
 ghost use Rattle.std.specs.Prelude.{◌≡◌, ◌<◌, ◌≤◌, ◌==◌, ℕ, OnErr, OnOk, Some, false};
 ghost use Rattle.std.specs.Bool.{OnTrue};
 ghost use Rattle.std.specs.Option.{option_copied, option_eq};
+ghost use Rattle.swarm_index.specs.Inside.Ids.{has_id};
 ghost use Rattle.swarm_index.specs.Inside.Marks.{
   AddsMarks,
   DropsMarks,
@@ -20,6 +21,7 @@ ghost use Rattle.swarm_index.specs.Inside.Marks.{
   same_mark,
 };
 ghost use Rattle.swarm_index.specs.Keys.{value_of};
+ghost use Rattle.swarm_objects.specs.Rows.{IsRising, itself};
 ghost use Rattle.swarm_objects.specs.Same.{same_number};
 
 use crate::ids::Ids;
@@ -78,6 +80,17 @@ impl Marks {
         }
     }
 
+    // All ids with this mark, by rising number.
+    pub fn ids(&self, which: u32, digest: u64) -> &[Id]
+        ensures marked { (i : ℕ) → has_id result.now i ≡ has_mark self.now.map which digest i }
+        ensures order { IsRising itself result.now }
+    {
+        match self.map.get(&(which, digest)) {
+            Some(ids) => ids.as_slice(),
+            None => &[],
+        }
+    }
+
     // The least id above the number with this mark.
     pub fn next(&self, which: u32, digest: u64, after: Id) -> Option<Id>
         ensures { IsNextMark self.now.map which digest after result }
@@ -100,7 +113,8 @@ fn has_one_digest(key: &IndexKey<'_>, other: &IndexKey<'_>) -> bool
 fn has_digest_of<'a, R: Row>(row: Option<&'a R>, which: u32, other: &IndexKey<'_>) -> bool
     requires { which < R.KEYS }
     ensures { result
-        ≡ option_eq same_number (digest_in R.key_of which (option_copied row.entry)) (Some (digest (value_of other.now))) }
+        ≡ option_eq same_number (digest_in R.key_of which (option_copied row.entry))
+        (Some (digest (value_of other.now))) }
 {
     match row {
         Some(row) => match row.key(which) {

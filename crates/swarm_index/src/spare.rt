@@ -1,12 +1,14 @@
 // Rows by rising id in a vector, for those that a table refused.
 ghost use Rattle.std.specs.Prelude.{
   ◌≡◌,
+  ◌↔◌,
   ◌<◌,
   ◌≤◌,
   ◌+◌,
   ◌==◌,
   ◌&&◌,
   IfNone,
+  IsTrue,
   None,
   OnErr,
   OnOk,
@@ -70,6 +72,13 @@ impl<R: Row + Drop> Spare<R> {
         ensures { result ≡ (self.now.room == 0) }
     {
         self.rows.capacity() == self.rows.len()
+    }
+
+    // Whether there are no rows.
+    pub fn is_empty(&self) -> bool
+        ensures { IsTrue result ↔ (self.now.rows ≡ []) }
+    {
+        self.rows.is_empty()
     }
 
     // Makes the room at least `n`, or leaves all as it is for want of memory.

@@ -2,7 +2,7 @@
 ghost use Rattle.std.specs.Prelude.{◌≡◌, ◌<◌, IfErr, IsTrue, None, OnErr, OnOk, Some, [], filter};
 ghost use Rattle.std.specs.Option.{option_copied};
 ghost use Rattle.swarm_index.specs.Keys.{has_key, value_of};
-ghost use Rattle.swarm_objects.specs.Rows.{IsRising, drop_row, has_row, is_some_and, put_row, row_above, row_at, with_row};
+ghost use Rattle.swarm_objects.specs.Rows.{IsRising, drop_row, has_row, is_some_and, itself, put_row, row_above, row_at, rows_named, with_row};
 
 use crate::boxes::Boxes;
 use crate::marks::{Marks, add_marks, remove_marks};
@@ -123,6 +123,18 @@ impl<R: Row + Drop> Table<R> {
             passed = id;
         }
         None
+    }
+
+    // The ids of all rows with the digest that this key has, which are those with the key and maybe others, by rising
+    // number.
+    pub fn ids_by_key(&self, which: u32, key: &IndexKey<'_>) -> &[Id]
+        requires { which < R.KEYS }
+        ensures value { let has = has_key R.key_of which (value_of key.now) in
+            filter has (rows_named R.id_of result.now self.now) ≡ filter has self.now }
+        ensures rising { IsRising itself result.now }
+        ensures order { IsRising R.id_of self.now }
+    {
+        self.marks.ids(which, key.digest())
     }
 }
 

@@ -1,13 +1,14 @@
 -- Rows by their keys.
-use Rattle.std.proofs.Common.{◌<◌, ◌≤◌, ◌+◌, arith, eqb, ltb, ◌≡◌, ℕ, Bool, true, false, cond, List, [], ◌∷◌, Option, Some, None, refl, subst, ap, ◌∙◌}
-use Rattle.std.specs.Prelude.{◌==◌, ◌&&◌, filter, find}
+use Rattle.std.proofs.Common.{◌<◌, ◌≤◌, ◌+◌, arith, eqb, ltb, ◌≡◌, ℕ, Bool, true, false, cond, List, [], ◌∷◌, Option, Some, None, refl, subst, sym, ap, ◌∙◌}
+use Rattle.std.specs.Borrow.{Bor}
+use Rattle.std.specs.Prelude.{◌==◌, ◌&&◌, IfSome, filter, find}
 use Rattle.std.proofs.lemmas.Bool.Decides.{nat_tests}
 use Rattle.std.specs.Option.{option_eq, option_map}
 use Rattle.swarm_index.specs.Keys.{Num, Pair, Text, has_key, same_key}
 use Rattle.swarm_model.specs.Calls.Refusals.{network_name, node_name, row_named, service_name}
 use Rattle.swarm_index.specs.Rows.{host_key, network_key, node_key, service_key, slot_key, task_key}
 use Rattle.swarm_objects.proofs.RowLemmas.{row_at-None_below}
-use Rattle.swarm_objects.specs.Rows.{RisesFrom, is_some_and, network_id, node_id, row_above, row_at, service_id}
+use Rattle.swarm_objects.specs.Rows.{RisesFrom, is_some_and, network_id, node_id, row_above, row_at, rows_named, service_id, task_id}
 use Rattle.swarm_objects.specs.declared.networks.Network.{Network}
 use Rattle.swarm_objects.specs.declared.nodes.Node.{Node}
 use Rattle.swarm_objects.specs.declared.services.Service.{Service}
@@ -29,7 +30,7 @@ nowhere : (b : Bool) → false ≡ (b && false)
 nowhere true = refl
 nowhere false = refl
 
-same-slot : (service slot : ℕ) (t : Task) → has_key task_key 2 (Pair service slot) t ≡ is_at service (Slot slot) t
+pub same-slot : (service slot : ℕ) (t : Task) → has_key task_key 2 (Pair service slot) t ≡ is_at service (Slot slot) t
 same-slot service slot t = go t.place
   where
     go : (place : Place) → is_some_and (λ k. same_key k (Pair service slot)) (slot_key t.service place) ≡
@@ -37,7 +38,7 @@ same-slot service slot t = go t.place
     go (Slot n) = refl
     go (On n) = nowhere (t.service == service)
 
-same-host : (service node : ℕ) (t : Task) → has_key task_key 3 (Pair service node) t ≡ is_at service (On node) t
+pub same-host : (service node : ℕ) (t : Task) → has_key task_key 3 (Pair service node) t ≡ is_at service (On node) t
 same-host service node t = go t.place
   where
     go : (place : Place) → is_some_and (λ k. same_key k (Pair service node)) (host_key t.service place) ≡
@@ -53,13 +54,27 @@ pub at_host : (service node : ℕ) (tasks : List Task) →
     filter (has_key task_key 3 (Pair service node)) tasks ≡ filter (is_at service (On node)) tasks
 at_host service node tasks = filter-same _ _ tasks (same-host service node)
 
-same-node : (node : ℕ) (given : Option ℕ) → is_some_and (λ k. same_key k (Num node)) (option_map Num given) ≡
+pub same-node : (node : ℕ) (given : Option ℕ) → is_some_and (λ k. same_key k (Num node)) (option_map Num given) ≡
     option_eq same_number given (Some node)
 same-node node None = refl
 same-node node (Some n) = refl
 
+pub ruleset same_keys = (same-slot, same-host, same-node)
+
 pub on_node : (node : ℕ) (tasks : List Task) → filter (has_key task_key 1 (Num node)) tasks ≡ filter (is_on node) tasks
 on_node node tasks = filter-same _ _ tasks (λ (t : Task). same-node node t.node)
+
+-- what ids name of rows with a property is so of those with one that is the same
+named_alike : (p q : Task → Bool) (ids : List ℕ) (tasks : List Task) → ((x : Task) → p x ≡ q x) →
+    filter p (rows_named task_id ids tasks) ≡ filter p tasks → filter q (rows_named task_id ids tasks) ≡ filter q tasks
+named_alike p q ids tasks same e =
+    sym (filter-same p q (rows_named task_id ids tasks) same) ∙ e ∙ filter-same p q tasks same
+
+pub ids_alike : (p q : Task → Bool) (tasks : List Task) (ids : Option (Bor (List ℕ))) → ((x : Task) → p x ≡ q x) →
+    IfSome ids (λ given. filter p (rows_named task_id given.now tasks) ≡ filter p tasks) →
+    IfSome ids (λ given. filter q (rows_named task_id given.now tasks) ≡ filter q tasks)
+ids_alike p q tasks None same e = tt
+ids_alike p q tasks (Some given) same e = named_alike p q given.now tasks same e
 
 -- The row with the next number.
 

@@ -6,7 +6,9 @@ ghost use Rattle.swarm_store.specs.Inside.State.{Stands, tables_now};
 ghost use Rattle.swarm_store.specs.Stored.{HasNearTasks};
 
 use crate::state::State;
-use swarm_objects::{Id, Ms, Network, Node, Place, Rows, Service, Settings, Task, Version};
+use swarm_objects::{
+    Id, Ms, Network, Node, Place, Rows, Service, Settings, Task, TaskKey, Version,
+};
 
 // The tasks of a store, and no other rows.
 #[derive(Drop)]
@@ -71,6 +73,10 @@ impl Rows for TasksAlone<'_> {
 
     fn next_task_on(&self, node: Id, after: Id) -> Option<&Task> {
         self.state.next_task_on(node, after)
+    }
+
+    fn ids_with(&self, key: TaskKey) -> Option<&[Id]> {
+        self.state.ids_with(key)
     }
 
     fn session_live(&self, _node: Id) -> bool {

@@ -2,9 +2,11 @@
 ghost use Rattle.std.specs.Prelude.{◌≡◌, ◌<◌, ◌≤◌, ◌+◌, Bool, IfOk, IfSome, OnOk, Some, [], filter, length, true};
 ghost use Rattle.std.specs.Option.{option_copied};
 ghost use Rattle.std.specs.Vec.{vec_capacity};
+ghost use Rattle.swarm_index.specs.Keys.{has_key as has_index_key, value_of};
+ghost use Rattle.swarm_index.specs.Rows.{task_key};
 ghost use Rattle.swarm_model.specs.Changed.{changes_between};
 ghost use Rattle.swarm_objects.specs.Rows.{row_above, task_id};
-ghost use Rattle.swarm_objects.specs.Tasks.Words.{is_at, is_of};
+ghost use Rattle.swarm_objects.specs.Tasks.Words.{has_key, is_at, is_of};
 ghost use Rattle.swarm_objects.specs.World.{empty_tables};
 ghost use Rattle.swarm_objects.specs.declared.tasks.Place.TheVariants.{Slot, On};
 ghost use Rattle.swarm_objects.specs.declared.tasks.Task.{Task as Row};
@@ -18,7 +20,8 @@ use std::alloc::Global;
 use swarm_index::IndexKey;
 use swarm_index::keys::{HOST, NODE, SERVICE, SLOT};
 use swarm_objects::{
-    Event, Id, Kind, Ms, Network, NoMemory, Node, Place, Rows, Service, Settings, Task, Version,
+    Event, Id, Kind, Ms, Network, NoMemory, Node, Place, Rows, Service, Settings, Task, TaskKey,
+    Version,
 };
 
 #[derive(Drop)]
@@ -236,6 +239,11 @@ impl Rows for State {
         self.tasks.next_by_key(NODE, &IndexKey::Num(node), after)
     }
 
+    fn ids_with(&self, key: TaskKey) -> Option<&[Id]> {
+        let (which, index_key) = index_key_of(key);
+        self.tasks.ids_by_key(which, &index_key)
+    }
+
     fn session_live(&self, _node: Id) -> bool {
         false
     }
@@ -243,6 +251,20 @@ impl Rows for State {
     fn attempts(&self, service: Id, place: Place, version: Version, window: Ms) -> u64 {
         self.attempts
             .count(self.clock, service, place, version, window)
+    }
+}
+
+// The index's number of the key, and the key there.
+#[tactic(auto, using(crate::proofs::Lookups::same_keys))]
+fn index_key_of(key: TaskKey) -> (u32, IndexKey<'static>)
+    ensures which { result.0 < 4 }
+    ensures alike { (x : Row) → has_index_key task_key result.0 (value_of result.1) x ≡ has_key key x }
+{
+    match key {
+        TaskKey::Service(service) => (SERVICE, IndexKey::Num(service)),
+        TaskKey::Place(service, Place::Slot(slot)) => (SLOT, IndexKey::Pair(service, slot)),
+        TaskKey::Place(service, Place::On(node)) => (HOST, IndexKey::Pair(service, node)),
+        TaskKey::Node(node) => (NODE, IndexKey::Num(node)),
     }
 }
 

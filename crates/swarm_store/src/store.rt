@@ -1,5 +1,5 @@
 // The store.
-ghost use Rattle.std.specs.Prelude.{◌≡◌, ◌+◌, ◌<◌, ◌≤◌, IfOk, OnOk, [], count_by, filter, length, true};
+ghost use Rattle.std.specs.Prelude.{◌≡◌, ◌+◌, ◌<◌, ◌≤◌, IfOk, IfSome, OnOk, [], count_by, filter, length, true};
 ghost use Rattle.std.specs.Option.{option_copied};
 ghost use Rattle.swarm_model.specs.Calls.Refusals.{node_by, service_by};
 ghost use Rattle.swarm_objects.specs.Bounds.{far_end};
@@ -7,7 +7,8 @@ ghost use Rattle.swarm_objects.specs.Changes.{id_taken};
 ghost use Rattle.swarm_objects.specs.Limits.{is_tick};
 ghost use Rattle.swarm_objects.specs.Rows.{network_id, node_id, row_above, row_at, service_id, task_id};
 ghost use Rattle.swarm_objects.specs.Tasks.Attempts.{is_kept_attempt};
-ghost use Rattle.swarm_objects.specs.Tasks.Words.{is_at, is_of, is_on};
+ghost use Rattle.swarm_objects.specs.Tasks.Words.{has_key, is_at, is_of, is_on};
+ghost use Rattle.swarm_objects.specs.Walks.{named_with};
 ghost use Rattle.swarm_objects.specs.World.{World, empty_tables};
 ghost use Rattle.swarm_objects.specs.ChangeLists.{CanApplyAll};
 ghost use Rattle.swarm_store.specs.Stored.{AppliesChanges, HasNearTasks, Shows, StandsFor, Transacts, row_count};
@@ -18,7 +19,7 @@ use std::marker::Model;
 use swarm_objects::limits::MOST_OPS;
 use swarm_objects::{
     Change, Event, Id, List, Ms, Name, Network, NoMemory, Node, Op, Place, Query, Refusal, Rows,
-    Service, Settings, Task, Version, ViewReply,
+    Service, Settings, Task, TaskKey, Version, ViewReply,
 };
 
 /// The rows of a cluster with the clock, the next id, the kept attempts and the settings; and the events of the last
@@ -233,6 +234,15 @@ impl Store {
         ensures { option_copied result ≡ row_above task_id after (filter (is_on node) self.now.tables.tasks) }
     {
         self.state.next_task_on(node, after)
+    }
+
+    /// Ids by rising number, those of all tasks with the key among them, so that a walk over these looks the key up
+    /// once. None where they don't stand in one list, since memory was wanting for a row.
+    pub fn ids_with(&self, key: TaskKey) -> Option<&[Id]>
+        ensures { let tasks = self.now.tables.tasks in
+            IfSome result (λ ids. named_with key ids.now tasks ≡ filter (has_key key) tasks) }
+    {
+        self.state.ids_with(key)
     }
 
     /// The attempts that were made for this place and version of the service within the window; a window of 0 has no

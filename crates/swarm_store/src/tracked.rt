@@ -8,7 +8,7 @@ ghost use Rattle.std.specs.Vec.{vec_capacity, vec_len};
 ghost use Rattle.swarm_index.specs.Keys.{has_key, value_of};
 ghost use Rattle.swarm_model.specs.Changed.{event, events_of, verb_of};
 ghost use Rattle.swarm_objects.specs.Rows.{RisesFrom, drop_row, has_row, is_some_and, put_row, row_above, row_at};
-ghost use Rattle.swarm_objects.specs.Rows.{rows_before, with_row};
+ghost use Rattle.swarm_objects.specs.Rows.{rows_before, rows_named, with_row};
 ghost use Rattle.swarm_store.specs.Inside.Tracking.{DecidesRows, IsImage, IsTracked, before_id, count_back, image_events, put_back, remembered, restored};
 ghost use Rattle.swarm_store.specs.Inside.Tracking.{GoBackAsBefore};
 
@@ -109,6 +109,14 @@ impl<R: Row + Drop> Tracked<R> {
             ≡ row_above R.id_of after (filter (has_key R.key_of which (value_of key.now)) self.now.rows) }
     {
         self.rows.next_by_key(which, key, after)
+    }
+
+    pub(crate) fn ids_by_key(&self, which: u32, key: &IndexKey<'_>) -> Option<&[Id]>
+        requires { which < R.KEYS }
+        ensures { let has = has_key R.key_of which (value_of key.now) in
+            IfSome result (λ ids. filter has (rows_named R.id_of ids.now self.now.rows) ≡ filter has self.now.rows) }
+    {
+        self.rows.ids_by_key(which, key)
     }
 
     // Puts the row, in the place of the one with its id if that is there.

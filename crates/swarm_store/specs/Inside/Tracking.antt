@@ -58,7 +58,8 @@ abbrev pub DecidesRows : {X : Type 0} → (X → ℕ) → (X → X → Bool) →
 DecidesRows {X} key same = (x y : X) → key x ≡ key y → Decides (same x y) (x ≡ y)
 
 -- the rows are under change still, and can be put back as before
-abbrev pub GoBackAsBefore : {X : Type 0} → (X → ℕ) → List (Before X) → RowsWithRoom X → List (Before X) → RowsWithRoom X → Type 0
+abbrev pub GoBackAsBefore :
+    {X : Type 0} → (X → ℕ) → List (Before X) → RowsWithRoom X → List (Before X) → RowsWithRoom X → Type 0
 GoBackAsBefore key old rows new now = IsTracked key new now × (restored key new now.rows ≡ restored key old rows.rows)
 
 -- and they are counted, and can be while they are put back one by one
