@@ -1,5 +1,5 @@
 // Calls, word by word.
-ghost use Rattle.std.specs.Prelude.{◌≡◌, IfOk};
+ghost use Rattle.std.specs.Prelude.{◌≡◌, ◌++◌, ◌∷◌, IfOk, []};
 ghost use Rattle.script_grammar.specs.Calls.{behind_call, step, takes_id, whole, with_id};
 ghost use Rattle.script_grammar.specs.declared.states.Form.TheVariants as form;
 ghost use Rattle.script_grammar.specs.declared.states.State.TheVariants as state;
@@ -14,7 +14,7 @@ use script_grammar::{CallVerb, Field, Form, NumberVerb, SessionVerb, State, Tabl
 use std::alloc::Global;
 use swarm_filters::read_name;
 use swarm_objects::limits::LARGEST_BUDGET;
-use swarm_objects::{Call, Filter, Id, List, Name, NoMemory, Op, Query, add};
+use swarm_objects::{Call, Filter, Id, List, Name, NoMemory, Op, Query, add, list_of};
 
 fn named_op(
     alloc: Global,
@@ -171,19 +171,27 @@ pub fn step(alloc: Global, form: Form, state: State, word: &[u8]) -> Result<Opti
     }
 }
 
+// The operations with the last one. Most transactions are of one, and have room for it alone.
+fn with_last(alloc: Global, mut ops: List<Op>, op: Op) -> Result<List<Op>, NoMemory>
+    ensures { IfOk result (λ all. all ≡ ops ++ op ∷ []) }
+{
+    if ops.is_empty() {
+        return list_of(alloc, op);
+    }
+    add(&mut ops, op)?;
+    Ok(ops)
+}
+
 /// The call, where it is whole.
 pub fn whole(alloc: Global, state: State) -> Result<Option<Call>, NoMemory>
     ensures { IfOk result (λ call. call ≡ whole state) }
 {
     match state {
-        State::Fields(mut ops, head, fields) => {
-            add(&mut ops, op_of(alloc, head, fields.as_slice())?)?;
-            Ok(Some(Call::Txn(ops)))
+        State::Fields(ops, head, fields) => {
+            let op = op_of(alloc, head, fields.as_slice())?;
+            Ok(Some(Call::Txn(with_last(alloc, ops, op)?)))
         }
-        State::Operation(mut ops, op) => {
-            add(&mut ops, op)?;
-            Ok(Some(Call::Txn(ops)))
-        }
+        State::Operation(ops, op) => Ok(Some(Call::Txn(with_last(alloc, ops, op)?))),
         State::SessionFields(name, fields) => Ok(Some(session_call(name, fields.as_slice()))),
         State::Settle => Ok(Some(Call::Settle(LARGEST_BUDGET))),
         State::Done(call) => Ok(Some(call)),
