@@ -1,5 +1,5 @@
 -- How the nodes of a class compare with the best one so far, and the loop over the sorted nodes.
-use Rattle.std.proofs.Common.{◌≡◌, ◌∙◌, ◌+◌, ◌<◌, ◌∷◌, ◌⊎◌, ℕ, Bool, List, None, Option, Some, [], ap, arith, cond, drop, eqb, false, get_or, inl, inr, length, map, refl, replicate, set, subst, suc, sym, true, zero}
+use Rattle.std.proofs.Common.{◌≡◌, ◌∙◌, ◌+◌, ◌-◌, ◌<◌, ◌≤◌, ◌∷◌, ◌⊎◌, ℕ, Bool, List, None, Option, Some, [], ap, arith, cond, drop, eqb, false, get_or, inl, inr, length, map, refl, replicate, set, subst, suc, sym, true, zero}
 use Rattle.std.proofs.lemmas.Bool.Decides.{nat_tests}
 use Rattle.std.proofs.lemmas.List.Folds.{list_all-append}
 use Rattle.std.proofs.lemmas.List.{length-set}
@@ -28,7 +28,7 @@ use Rattle.swarm_objects.specs.declared.templates.Key.{Key}
 use Rattle.swarm_sched.proofs.Branching.{branch-alike, at_place}
 use Rattle.swarm_sched.specs.Inside.Branches.{Preferences, preferences}
 use Rattle.swarm_sched.specs.Inside.Classes.{AreOrders, AreSorted, IsEntry, IsOrder, entry_id}
-use Rattle.swarm_sched.specs.Inside.Placing.{IsNodeLoad, IsSearched, comes_first}
+use Rattle.swarm_sched.specs.Inside.Placing.{AreBehind, IsNodeLoad, IsSearched, comes_first}
 use Rattle.swarm_sched.specs.declared.classes.ClassedNode.{ClassedNode}
 use Rattle.swarm_sched.specs.declared.placing.NodeLoad.{NodeLoad}
 
@@ -400,6 +400,49 @@ searched_worse t x sorted orders more best i c o m at so row worse = go (is_open
         (ap (λ k. comes_first t x.service o k best) (row_id t.nodes c.id m row)
         ∙ sym (ap (λ b. b && comes_first t x.service o m.id best) opens) ∙ worse)
     go false shut = searched_shut t x sorted orders more best i c o m at so row shut
+
+-- behind an entry that doesn't come first, by what is known of its class
+past-known : (t : Tables) (x : Task) (sorted : List ClassedNode) (orders : List (Option Ordering)) (best : Option Node)
+    (i : ℕ) (d : ClassedNode) (o : Ordering) → AreSorted t.nodes x.template.spread sorted →
+    IsSearched t x sorted orders best i → i < length sorted → get_or orders (get_or sorted i d).class None ≡ Some o →
+    comes_first t x.service o (get_or sorted i d).id best ≡ false → IsSearched t x sorted orders best (i + 1)
+past-known t x sorted orders best i d o are so lt known later =
+    let at = entry_at i t.nodes sorted d are.ids lt in
+    let n : Node = at.0 in
+    let c : ClassedNode = get_or sorted i d in
+    let next : suc i ≡ i + 1 = omega arith in
+    let rest : drop i t.nodes ≡ n ∷ drop (i + 1) t.nodes = at.1 ∙ ap (λ k. n ∷ drop k t.nodes) next in
+    let order : IsOrder (preferences t x) o n best =
+    subst (λ r. IfSome r (λ q. IsOrder (preferences t x) q n best)) known
+    (so.known.each c n (record { there = at_place sorted i d lt; row = at.2; same = at.3 })) in
+    record {
+      left =
+          passes t x (is_open t x) o best n (drop (i + 1) t.nodes) order
+          (ap (λ k. comes_first t x.service o k best) at.3 ∙ later)
+          ∙ ap (λ l. least_by (node_cmp t x) best (filter (is_open t x) l)) (sym rest) ∙ so.left;
+      known = so.known;
+      all = so.all;
+    }
+
+some-behind : (t : Tables) (x : Task) (sorted : List ClassedNode) (orders : List (Option Ordering)) (best : Option Node)
+    (n i end : ℕ) (d : ClassedNode) → AreSorted t.nodes x.template.spread sorted →
+    AreBehind t x.service sorted orders best i end → i + n ≡ end → end ≤ length sorted →
+    IsSearched t x sorted orders best i → IsSearched t x sorted orders best end
+some-behind t x sorted orders best zero i end d are behind all fits so =
+    let same : i ≡ end = omega (arith, all) in subst (IsSearched t x sorted orders best) same so
+some-behind t x sorted orders best (suc n) i end d are behind all fits so =
+    let own = behind.each i d (omega arith) (omega (arith, all)) in
+    some-behind t x sorted orders best n (i + 1) end d are
+    (record { each = λ j e ge lt. behind.each j e (omega (arith, ge)) lt }) (omega (arith, all)) fits
+    (past-known t x sorted orders best i d own.0 are so (omega (arith, all, fits)) own.1 own.2)
+
+-- behind entries of which none comes first
+pub searched_behind : (t : Tables) (x : Task) (sorted : List ClassedNode) (orders : List (Option Ordering)) (best : Option Node)
+    (i end : ℕ) (d : ClassedNode) → AreSorted t.nodes x.template.spread sorted →
+    AreBehind t x.service sorted orders best i end → i ≤ end → end ≤ length sorted →
+    IsSearched t x sorted orders best i → IsSearched t x sorted orders best end
+searched_behind t x sorted orders best i end d are behind le fits so =
+    some-behind t x sorted orders best (end - i) i end d are behind (omega (arith, le)) fits so
 
 -- each entry has a row
 pub none_there : (t : Tables) (x : Task) (sorted : List ClassedNode) (orders : List (Option Ordering))

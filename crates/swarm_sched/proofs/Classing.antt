@@ -9,7 +9,7 @@ use Rattle.std.proofs.Math.Seq.{get_or-append_seam}
 use Rattle.std.proofs.lemmas.Slice.Eq.{bytes_eq-Decides}
 use Rattle.std.specs.Borrow.{Bor}
 use Rattle.std.specs.List.{list_any, position}
-use Rattle.std.specs.Prelude.{IfSome, ◌&&◌, ◌++◌}
+use Rattle.std.specs.Prelude.{◌&&◌, ◌++◌}
 use Rattle.swarm_objects.proofs.RowLemmas.{row_at-Some}
 use Rattle.swarm_objects.proofs.Tests.{neither_left, neither_right}
 use Rattle.swarm_objects.specs.ChangeLists.{apply_change, apply_changes}
@@ -24,8 +24,12 @@ use Rattle.swarm_objects.specs.declared.rows.Change.TheVariants as change
 use Rattle.swarm_objects.specs.declared.rows.Change.{Change}
 use Rattle.swarm_objects.specs.declared.templates.Key.{Key}
 use Rattle.swarm_sched.proofs.Branching.{agree-alike}
-use Rattle.swarm_sched.specs.Inside.Classes.{AreClasses, AreSorted, AreSorting, Classes, IsEntry, IsMore, IsOf, entry_id, puts_node}
+use Rattle.swarm_sched.specs.Inside.Bounds.{AreLeast}
+use Rattle.swarm_sched.specs.Inside.Classes.{AreClasses, AreSorted, AreSorting, HaveClasses, IsEntry, IsMore, IsOf, entry_id, puts_node, sorted_by}
 use Rattle.swarm_sched.specs.declared.classes.ClassedNode.{ClassedNode}
+use Rattle.swarm_sched.specs.declared.classes.SortedNodes.{SortedNodes}
+use Rattle.swarm_sched.specs.declared.classes.Sorting.TheVariants as sorting
+use Rattle.swarm_sched.specs.declared.classes.Sorting.{Sorting}
 
 -- What changes leave.
 
@@ -46,13 +50,26 @@ nodes-left (c ∷ cs) t none =
     nodes-left cs (apply_change t c) (neither_right (puts_node c) (list_any puts_node cs) none)
     ∙ change-left t c (neither_left (puts_node c) (list_any puts_node cs) none)
 
-pub classes-alike : (t u : Tables) (o : Option Classes) → u.nodes ≡ t.nodes → AreClasses t o → AreClasses u o
-classes-alike t u o same are = subst (λ nodes. IfSome o (λ k. AreSorted nodes k.keys k.nodes)) (sym same) are
+-- what is sorted stays so, where it goes on being known what the nodes have at least
+pub classes_alike : (t u : Tables) (keys : List Key) (nodes : List ClassedNode) (count : ℕ)
+    (before after : List (List (Option ℕ))) → u.nodes ≡ t.nodes →
+    AreSorted t.nodes keys nodes × AreLeast t nodes before × HaveClasses count nodes → AreLeast u nodes after →
+    AreSorted u.nodes keys nodes × AreLeast u nodes after × HaveClasses count nodes
+classes_alike t u keys nodes count before after same are least =
+    (subst (λ list. AreSorted list keys nodes) (sym same) are.0, least, are.2)
 
-pub classes_left : (t : Tables) (cs : List Change) (o : Option Classes) → list_any puts_node cs ≡ false →
-    AreClasses t o →
-    AreClasses (apply_changes t cs) o
-classes_left t cs o none are = classes-alike t (apply_changes t cs) o (nodes-left cs t none) are
+pub classes_left : (t : Tables) (cs : List Change) (keys : List Key) (nodes : List ClassedNode) (count : ℕ)
+    (before after : List (List (Option ℕ))) → list_any puts_node cs ≡ false →
+    AreSorted t.nodes keys nodes × AreLeast t nodes before × HaveClasses count nodes →
+    AreLeast (apply_changes t cs) nodes after →
+    AreSorted (apply_changes t cs).nodes keys nodes × AreLeast (apply_changes t cs) nodes after × HaveClasses count nodes
+classes_left t cs keys nodes count before after none =
+    classes_alike t (apply_changes t cs) keys nodes count before after (nodes-left cs t none)
+
+-- what is kept is of the sorted nodes
+pub sorted_done : (t : Tables) (keys : List Key) (s : Sorting) (n : SortedNodes) → s ≡ sorting.Done n →
+    AreClasses t (sorted_by keys s) → AreSorted t.nodes keys n.nodes × AreLeast t n.nodes n.bounds × HaveClasses n.count n.nodes
+sorted_done t keys s n is = subst (λ r. AreClasses t (sorted_by keys r)) is
 
 -- A class among its heads.
 

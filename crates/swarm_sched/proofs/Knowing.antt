@@ -327,7 +327,7 @@ counted-alike t u node k same are = (
 
 -- What will be known of a node with one task in the place of another one.
 
-sum-put : (t : Tables) (x y : Task) (node : ℕ) (f : Task → ℕ) → IsUsable t → row_at task_id x.id t.tasks ≡ Some y →
+pub sum-put : (t : Tables) (x y : Task) (node : ℕ) (f : Task → ℕ) → IsUsable t → row_at task_id x.id t.tasks ≡ Some y →
     sum_by f (filter (is_placed_on node) (put_row task_id x t.tasks)) + adds f node y
     ≡ sum_by f (tasks_placed_on t node) + adds f node x
 sum-put t x y node f usable at =

@@ -1,13 +1,17 @@
 -- What is remembered of nodes goes on being so where the tasks and the nodes stay.
-use Rattle.std.proofs.Common.{◌≡◌, ℕ, List, None, Option, Some, ap}
-use Rattle.std.specs.Prelude.{IfSome, filter}
+use Rattle.std.proofs.Common.{◌≡◌, ℕ, List, None, Option, Some, ap, get_or, subst, sym}
+use Rattle.std.specs.Prelude.{IfSome, count_by, filter, ◌&&◌, ◌/◌}
 use Rattle.swarm_objects.specs.Nodes.Holdings.{is_placed_on}
+use Rattle.swarm_objects.specs.Tasks.Words.{is_live}
 use Rattle.swarm_objects.specs.World.{Tables}
-use Rattle.swarm_sched.proofs.Classing.{classes-alike}
+use Rattle.swarm_sched.proofs.Classing.{classes_alike}
 use Rattle.swarm_sched.proofs.Knowing.{counted-alike}
 use Rattle.swarm_sched.proofs.Remembering.{refusals_alike}
+use Rattle.swarm_sched.specs.Inside.Bounds.{AreLeast, IsAtMost, bound}
+use Rattle.swarm_sched.specs.Inside.Classes.{AreClasses, Classes}
 use Rattle.swarm_sched.specs.Inside.Known.{AreCounted, Knows, recalled}
 use Rattle.swarm_sched.specs.Inside.KnownNodes.{KnowsNodes}
+use Rattle.swarm_sched.specs.declared.classes.ClassedNode.{ClassedNode}
 use Rattle.swarm_sched.specs.declared.known.NodeTotals.{NodeTotals}
 use Rattle.swarm_sched.specs.declared.known_nodes.KnownNodes.{KnownNodes}
 
@@ -19,10 +23,23 @@ totals-so t u all same knows = record { each = λ node. so node (recalled all no
     so node None is = tt
     so node (Some k) is = counted-alike t u node k (ap (filter (is_placed_on node)) same) is
 
+least-so : (t u : Tables) (nodes : List ClassedNode) (rows : List (List (Option ℕ))) → u.tasks ≡ t.tasks →
+    AreLeast t nodes rows → AreLeast u nodes rows
+least-so t u nodes rows same least = record {
+  each = λ j d lt.
+      subst (λ n. IsAtMost (bound rows (j / 16) (get_or nodes j d).class) n)
+      (ap (count_by (λ x. is_live x && is_placed_on (get_or nodes j d).id x)) (sym same)) (least.each j d lt);
+}
+
+classes-so : (t u : Tables) (o : Option Classes) → u.tasks ≡ t.tasks → u.nodes ≡ t.nodes → AreClasses t o → AreClasses u o
+classes-so t u None tasks nodes are = tt
+classes-so t u (Some k) tasks nodes are =
+    classes_alike t u k.keys k.nodes k.count k.bounds k.bounds nodes are (least-so t u k.nodes k.bounds tasks are.1)
+
 pub knows_alike : (t u : Tables) (k : KnownNodes) → u.tasks ≡ t.tasks → u.nodes ≡ t.nodes → KnowsNodes t k →
     KnowsNodes u k
 knows_alike t u k tasks nodes knows = record {
   totals = totals-so t u k.totals tasks knows.totals;
-  classes = classes-alike t u k.classes nodes knows.classes;
+  classes = classes-so t u k.classes tasks nodes knows.classes;
   refusals = refusals_alike t u k.refusals tasks nodes knows.refusals;
 }

@@ -1,3 +1,4 @@
+mod Bounding
 mod Branching
 mod ClassOrders
 mod ClassLoading

@@ -24,7 +24,7 @@ use Rattle.swarm_objects.specs.declared.tasks.Task.{Task}
 use Rattle.swarm_objects.specs.declared.templates.Template.{Template}
 use Rattle.swarm_sched.proofs.Classing.{change-left}
 use Rattle.swarm_sched.proofs.Knowing.{Misses, changes-leave, decide, on-is}
-use Rattle.swarm_sched.specs.Inside.KnownRefusals.{IsIn, IsRefusal, KnowsGroup, KnowsRefusals, Refusals, filter_of, forget, forget_each, former_node, put, recalled, refused_later, shown, touched, without}
+use Rattle.swarm_sched.specs.Inside.KnownRefusals.{IsIn, IsRefusal, IsSpared, KnowsGroup, KnowsRefusals, Refusals, filter_of, forget, forget_each, former_node, put, recalled, refused_later, shown, touched, without}
 use Rattle.swarm_sched.specs.declared.known_refusals.Refusal.{Refusal}
 
 -- What the later filters read.
@@ -159,13 +159,15 @@ Has-get (x ∷ xs) (suc i) d lt = inr (Has-get xs i d (omega (arith, lt)))
 pub no_groups : (t : Tables) (all : List (Option Refusals)) → all ≡ [] → KnowsRefusals t all
 no_groups t all none = subst (KnowsRefusals t) (sym none) (record { each = λ g h. absurd h })
 
-pub one_more : (t : Tables) (all : List (Option Refusals)) → KnowsRefusals t all → KnowsRefusals t (all ++ None ∷ [])
-one_more t all knows = record { each = λ g h. go g (Has-append_cases all (None ∷ []) (Some g) h) }
+pub group_pushed : (t : Tables) (all after : List (Option Refusals)) (g : Refusals) → KnowsRefusals t all →
+    KnowsGroup t g → after ≡ all ++ Some g ∷ [] → KnowsRefusals t after
+group_pushed t all after g knows own is =
+    subst (KnowsRefusals t) (sym is) (record { each = λ h has. go h (Has-append_cases all (Some g ∷ []) (Some h) has) })
   where
-    go : (g : Refusals) → Has all (Some g) ⊎ Has (None ∷ []) (Some g) → KnowsGroup t g
-    go g (inl h) = knows.each g h
-    go g (inr (inl e)) = absurd (never g e)
-    go g (inr (inr h)) = absurd h
+    go : (h : Refusals) → Has all (Some h) ⊎ Has (Some g ∷ []) (Some h) → KnowsGroup t h
+    go h (inl there) = knows.each h there
+    go h (inr (inl e)) = subst (KnowsGroup t) (some-is g h e) own
+    go h (inr (inr none)) = absurd none
 
 pub group_known : (t : Tables) (all : List (Option Refusals)) (i : ℕ) (d o : Option Refusals) → i < length all →
     o ≡ get_or all i d → KnowsRefusals t all → IfSome o (KnowsGroup t)
@@ -175,23 +177,9 @@ group_known t all i d o lt is knows = go o (subst (Has all) (sym is) (Has-get al
     go None h = tt
     go (Some g) h = knows.each g h
 
--- the slot of a number is there
-pub slot_there : {X : Type 0} (k len count : ℕ) (xs : List X) (none : Bool) → len ≡ count → count ≡ length xs →
-    none ≡ (count == 0) → none ≡ false → k % len < length xs
-slot_there k len count xs none same long is not-none =
-    let some : eqb count 0 ≡ false = sym is ∙ not-none in
-    let pos : 0 < len = grind (arith, nat_tests, same, some) in
-    omega (arith, mod_below k len pos, same, long)
-
 pub inside_known : {Z : Type 0} (t : Tables) (all : List (Option Refusals)) (o : Option (Vec (Option Refusals) Z))
     (v : Vec (Option Refusals) Z) → shown o ≡ all → o ≡ Some v → KnowsRefusals t all → KnowsRefusals t v.items
 inside_known t all o v is some = subst (KnowsRefusals t) (sym is ∙ ap shown some)
-
--- slots that were made, or weren't for want of memory
-pub slots_made : {Z : Type 0} (t : Tables) (o : Option (Vec (Option Refusals) Z)) →
-    IfSome o (λ v. KnowsRefusals t v.items) → KnowsRefusals t (shown o)
-slots_made t None so = record { each = λ g h. absurd h }
-slots_made t (Some v) so = so
 
 pub group_put : (t : Tables) (all : List (Option Refusals)) (i : ℕ) (o : Option Refusals) → KnowsRefusals t all →
     IfSome o (KnowsGroup t) → KnowsRefusals t (set all i o)
@@ -201,7 +189,40 @@ group_put t all i o knows so = record { each = λ g h. go g (Has-set all i o (So
     go g (inl e) = subst (λ p. IfSome p (KnowsGroup t)) e so
     go g (inr h) = knows.each g h
 
-pub ruleset group_steps = (no_groups, one_more, group_put, slots_made)
+pub ruleset group_steps = (no_groups, group_pushed, group_put)
+
+-- Nodes that are forgotten twice.
+
+set-again : {X : Type 0} (xs : List X) (i : ℕ) (x : X) → set (set xs i x) i x ≡ set xs i x
+set-again [] i x = refl
+set-again (y ∷ xs) zero x = refl
+set-again (y ∷ xs) (suc i) x = ap (λ l. y ∷ l) (set-again xs i x)
+
+without-again : (node : ℕ) (o : Option Refusals) → without node (without node o) ≡ without node o
+without-again node None = refl
+without-again node (Some g) =
+    let slots : List (Option Refusal) = set g.slots (node % length g.slots) None in
+    ap (λ (l : List (Option Refusal)). Some (record g { slots = l }))
+    (ap (λ n. set slots (node % n) None) (length-set g.slots (node % length g.slots) None)
+    ∙ set-again g.slots (node % length g.slots) None)
+
+without-each : (node : ℕ) (all : List (Option Refusals)) →
+    map (without node) (map (without node) all) ≡ map (without node) all
+without-each node [] = refl
+without-each node (o ∷ all) =
+    ap (λ p. p ∷ map (without node) (map (without node) all)) (without-again node o)
+    ∙ ap (λ l. without node o ∷ l) (without-each node all)
+
+forget-again : (k : Option ℕ) (all : List (Option Refusals)) → forget k (forget k all) ≡ forget k all
+forget-again None all = refl
+forget-again (Some node) all = without-each node all
+
+pub forget_same : (k l : Option ℕ) (all after : List (Option Refusals)) → l ≡ k → after ≡ forget k all →
+    after ≡ forget l (forget k all)
+forget_same k l all after same is =
+    is ∙ sym (forget-again k all) ∙ ap (λ o. forget o (forget k all)) (sym same)
+
+pub ruleset same_steps = (forget_same)
 
 -- What is left where nodes are forgotten.
 
@@ -238,10 +259,6 @@ forget-fewer : (k : Option ℕ) (all : List (Option Refusals)) (h : Refusals) �
 forget-fewer None all h has =
     (h, has, record { service = refl; template = refl; each = λ m. inr (refl, (λ e. never m e)) })
 forget-fewer (Some node) all h has = without-fewer node all h has
-
--- the change touches other nodes
-abbrev IsSpared : Tables → ℕ → Change → Type 0
-IsSpared t m c = ((touched t c).0 ≡ Some m → ⊥) × ((touched t c).1 ≡ Some m → ⊥)
 
 -- no more is remembered for the group, and nothing of the nodes that the changes touch
 record AreLess (t : Tables) (cs : List Change) (g h : Refusals) : Type 0 where
@@ -308,8 +325,8 @@ each_written t cs all lent after len same long is =
 
 -- What changes leave of a node that they don't touch.
 
-touches-task : (t : Tables) (m : ℕ) (x : Task) → (x.node ≡ Some m → ⊥) → is_placed_on m x ≡ false
-touches-task t m x other = go (is_placed_on m x) refl
+pub touches-task : (m : ℕ) (x : Task) → (x.node ≡ Some m → ⊥) → is_placed_on m x ≡ false
+touches-task m x other = go (is_placed_on m x) refl
   where
     go : (b : Bool) → is_placed_on m x ≡ b → b ≡ false
     go true is = absurd (other (on-is x.node m (both_are (is_placed x) (is_on m x) is).1))
@@ -320,13 +337,13 @@ touches-former : (t : Tables) (m id : ℕ) → IsUsable t → (former_node t id 
 touches-former t m id usable other y h same =
     let at : row_at task_id id t.tasks ≡ Some y =
     subst (λ n. row_at task_id n t.tasks ≡ Some y) same (row_at-Some task_id 0 t.tasks y usable.sound.ordered.tasks h) in
-    touches-task t m y (λ e. other (ap (λ (o : Option Task). on_row None (λ x. x.node) o) at ∙ e))
+    touches-task m y (λ e. other (ap (λ (o : Option Task). on_row None (λ x. x.node) o) at ∙ e))
 
-spares-tasks : (t : Tables) (m : ℕ) (c : Change) → IsUsable t → IsSpared t m c → Misses (is_placed_on m) t.tasks c
+pub spares-tasks : (t : Tables) (m : ℕ) (c : Change) → IsUsable t → IsSpared t m c → Misses (is_placed_on m) t.tasks c
 spares-tasks t m c usable spared = record {
   put = λ x e.
       let own : IsSpared t m (change.PutTask x) = subst (IsSpared t m) e spared in
-      (touches-task t m x own.0, touches-former t m x.id usable own.1);
+      (touches-task m x own.0, touches-former t m x.id usable own.1);
   drop = λ id e.
       let own : IsSpared t m (change.DropTask id) = subst (IsSpared t m) e spared in
       touches-former t m id usable own.1;

@@ -1,4 +1,5 @@
 -- Words of private contracts.
+pub mod Bounds
 pub mod Branches
 pub mod ClassLoads
 pub mod Classes

@@ -1,9 +1,7 @@
 // Which of two nodes comes first by the placement preferences.
 ghost use Rattle.std.specs.Prelude.{◌≡◌, ◌≤◌, IfSome, IsTrue, [], length, true};
-ghost use Rattle.std.specs.Cmp.Lexicographic.{slice_cmp};
-ghost use Rattle.std.specs.Ordering.{nat_cmp, ordering_then};
+ghost use Rattle.std.specs.Ordering.{nat_cmp};
 ghost use Rattle.swarm_objects.specs.Nodes.BestNode.{agrees, branch_load, spread_cmp};
-ghost use Rattle.swarm_objects.specs.Nodes.Constraints.{key_value};
 ghost use Rattle.swarm_objects.specs.Usable.{IsUsable};
 ghost use Rattle.swarm_sched.specs.Inside.Branches.{HasText, IsToldByText, is_of_branch, load_at};
 

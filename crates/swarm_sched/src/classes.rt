@@ -1,17 +1,21 @@
 // The nodes by their values for placement preferences, as far as they are remembered from one placement to the next.
 ghost use Rattle.std.specs.List.{list_any, position};
-ghost use Rattle.std.specs.Prelude.{◌≡◌, ◌≤◌, IfSome, IsTrue, None, [], length};
+ghost use Rattle.std.specs.Option.{option_copied};
+ghost use Rattle.std.specs.Prelude.{◌≡◌, ◌≤◌, IfSome, IsTrue, None, [], false, length};
 ghost use Rattle.swarm_objects.specs.ChangeLists.{apply_changes};
-ghost use Rattle.swarm_objects.specs.Nodes.BestNode.{agrees};
+ghost use Rattle.swarm_objects.specs.Nodes.BestNode.{agrees, best_node};
 ghost use Rattle.swarm_objects.specs.Usable.{IsUsable};
-ghost use Rattle.swarm_objects.specs.World.{Tables};
-ghost use Rattle.swarm_sched.specs.Inside.Classes.{AreClasses, AreSorted, IsMore, IsOf, IsServed, classes, puts_node};
+ghost use Rattle.swarm_sched.specs.Inside.Classes.{AreClasses, AreFew, AreSorted, HaveClasses, IsMore, IsOf, IsServed, classes, puts_node};
+ghost use Rattle.swarm_sched.specs.Inside.Known.{Knows};
 
+use crate::bounds::Bounds;
 use crate::keys::agrees;
+use crate::known::KnownTotals;
+use crate::placing::best_of_classes;
 use std::alloc::Global;
 use std::marker::Model;
 use swarm_objects::walks::nodes;
-use swarm_objects::{Change, Duplicate, Id, Key, List, Node, Rows, Same};
+use swarm_objects::{Change, Duplicate, Id, Key, List, Node, Rows, Same, Task};
 
 /// The most classes into which nodes are sorted.
 pub const CLASSES: usize = 16;
@@ -23,12 +27,20 @@ pub struct ClassedNode {
     pub class: usize,
 }
 
+// All nodes by rising id, where those of one class have the same values.
+#[derive(Drop)]
+struct SortedNodes {
+    nodes: List<ClassedNode>,
+    bounds: Bounds,
+    // how many classes there are
+    count: usize,
+}
+
 // Whether the nodes are sorted.
 #[derive(Drop)]
 enum Sorting {
     NotYet,
-    // all of them by rising id; those of one class have the same values
-    Done(List<ClassedNode>),
+    Done(SortedNodes),
     // there are too many classes, or memory was wanting
     InVain,
 }
@@ -38,8 +50,6 @@ enum Sorting {
 struct Asked {
     keys: List<Key>,
     sorting: Sorting,
-    // how many classes there are, where the nodes are sorted
-    count: usize,
 }
 
 /// The nodes, sorted into classes by the placement preferences that were asked for last. Contracts see these
@@ -105,10 +115,14 @@ fn sorted_nodes<R: Rows>(alloc: Global, rows: &R, keys: &[Key]) -> Option<List<C
 }
 
 // How many classes they are of.
-fn class_count(sorted: &[ClassedNode]) -> usize {
+#[tactic(auto, using(crate::proofs::Bounding::count_steps))]
+fn class_count(sorted: &[ClassedNode]) -> usize
+    requires { AreFew sorted.now }
+    ensures { HaveClasses result sorted.now }
+{
     let mut count = 0;
     for entry in sorted {
-        count = count.max(entry.class.saturating_add(1));
+        count = count.max(entry.class + 1);
     }
     count
 }
@@ -121,17 +135,48 @@ impl Asked {
         keys.is_empty() || keys.same(&self.keys)
     }
 
-    // The nodes by these keys, where they are sorted.
-    fn nodes_for(&self, keys: &List<Key>) -> Option<&[ClassedNode]>
-        ensures { (t : Tables) → AreClasses t (classes self.now)
-            → IfSome result (λ sorted. AreSorted t.nodes keys.now sorted.now) }
+    // The best of the nodes for the task, where they are sorted by its preferences.
+    fn best<'a, R: Rows>(
+        &mut self,
+        rows: &'a R,
+        known: &mut KnownTotals,
+        task: &Task,
+    ) -> Option<Option<&'a Node>>
+        requires usable { IsUsable (R.tables rows.now) }
+        requires knows { Knows (R.tables rows.now) known.old }
+        requires classes { AreClasses (R.tables rows.now) (classes self.old) }
+        ensures best { IfSome result (λ best. option_copied best ≡ best_node (R.tables rows.now) task.now) }
+        ensures knows { Knows (R.tables rows.now) known.new }
+        ensures classes { AreClasses (R.tables rows.now) (classes self.new) }
     {
-        if !self.is_for(keys) {
+        if !self.is_for(&task.template.spread) {
             return None;
         }
-        match &self.sorting {
-            Sorting::Done(sorted) => Some(sorted.as_slice()),
+        match &mut self.sorting {
+            Sorting::Done(sorted) => Some(best_of_classes(
+                rows,
+                known,
+                sorted.nodes.as_slice(),
+                &mut sorted.bounds,
+                sorted.count,
+                task,
+            )),
             Sorting::NotYet | Sorting::InVain => None,
+        }
+    }
+
+    // Of the nodes that may have fewer live tasks after the changes nothing is known.
+    fn lower<R: Rows>(&mut self, rows: &R, changes: &[Change])
+        requires usable { IsUsable (R.tables rows.now) }
+        requires knows { AreClasses (R.tables rows.now) (classes self.old) }
+        requires spares { list_any puts_node changes.now ≡ false }
+        ensures stays { AreClasses (R.tables rows.now) (classes self.new) }
+        ensures goes_on { AreClasses (apply_changes (R.tables rows.now) changes.now) (classes self.new) }
+    {
+        if let Sorting::Done(sorted) = &mut self.sorting {
+            sorted
+                .bounds
+                .lower_changed(sorted.nodes.as_slice(), rows, changes);
         }
     }
 
@@ -143,10 +188,11 @@ impl Asked {
     {
         if let Sorting::NotYet = self.sorting {
             self.sorting = match sorted_nodes(alloc, rows, self.keys.as_slice()) {
-                Some(sorted) => {
-                    self.count = class_count(sorted.as_slice());
-                    Sorting::Done(sorted)
-                }
+                Some(nodes) => Sorting::Done(SortedNodes {
+                    count: class_count(nodes.as_slice()),
+                    bounds: Bounds::new(alloc, nodes.len()),
+                    nodes,
+                }),
                 None => Sorting::InVain,
             };
         }
@@ -161,7 +207,6 @@ fn first_asked(alloc: Global, keys: &List<Key>) -> Option<Asked>
     Some(Asked {
         keys,
         sorting: Sorting::NotYet,
-        count: 0,
     })
 }
 
@@ -207,13 +252,19 @@ impl NodeClasses {
         self.asked = None;
     }
 
-    /// Forgets all where these changes put a node.
-    pub fn forget_changed(&mut self, changes: &[Change])
-        ensures stays { (t : Tables) → AreClasses t self.old → AreClasses t self.new }
-        ensures goes_on { (t : Tables) → AreClasses t self.old → AreClasses (apply_changes t changes.now) self.new }
+    /// Forgets what these changes of the rows make untrue: all, where they put a node. It is asked before they are made.
+    pub fn forget_changed<R: Rows>(&mut self, rows: &R, changes: &[Change])
+        requires usable { IsUsable (R.tables rows.now) }
+        requires knows { AreClasses (R.tables rows.now) self.old }
+        ensures stays { AreClasses (R.tables rows.now) self.new }
+        ensures goes_on { AreClasses (apply_changes (R.tables rows.now) changes.now) self.new }
     {
         if any_puts_node(changes) {
             self.forget();
+            return;
+        }
+        if let Some(asked) = &mut self.asked {
+            asked.lower(rows, changes);
         }
     }
 
@@ -233,21 +284,22 @@ impl NodeClasses {
         }
     }
 
-    /// How many classes there are, where the nodes are sorted: it says when all were met, and nothing rests on it.
-    pub fn count(&self) -> usize {
-        match &self.asked {
-            Some(asked) => asked.count,
-            None => 0,
-        }
-    }
-
-    /// The nodes by these preferences, where they are sorted.
-    pub fn nodes_for(&self, keys: &List<Key>) -> Option<&[ClassedNode]>
-        ensures { (t : Tables) → AreClasses t self.now
-            → IfSome result (λ sorted. AreSorted t.nodes keys.now sorted.now) }
+    /// The best of the nodes for the task; None where they aren't sorted by its preferences.
+    pub fn best<'a, R: Rows>(
+        &mut self,
+        rows: &'a R,
+        known: &mut KnownTotals,
+        task: &Task,
+    ) -> Option<Option<&'a Node>>
+        requires usable { IsUsable (R.tables rows.now) }
+        requires knows { Knows (R.tables rows.now) known.old }
+        requires classes { AreClasses (R.tables rows.now) self.old }
+        ensures best { IfSome result (λ best. option_copied best ≡ best_node (R.tables rows.now) task.now) }
+        ensures knows { Knows (R.tables rows.now) known.new }
+        ensures classes { AreClasses (R.tables rows.now) self.new }
     {
-        match &self.asked {
-            Some(asked) => asked.nodes_for(keys),
+        match &mut self.asked {
+            Some(asked) => asked.best(rows, known, task),
             None => None,
         }
     }

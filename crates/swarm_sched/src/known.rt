@@ -111,7 +111,8 @@ fn added_mem(node: Id, task: &Task) -> u64
     }
 }
 
-fn added_load(node: Id, task: &Task) -> u64
+/// How many live tasks the task adds to the node's.
+pub fn added_load(node: Id, task: &Task) -> u64
     ensures { result ≡ adds (one_if is_live) node task.now }
 {
     if is_placed_on(task, node) && task.is_live() {

@@ -53,7 +53,7 @@ impl KnownNodes {
         ensures moved { AreMoved (apply_changes (R.tables rows.now) changes.now) result }
     {
         let moved = self.totals.forget_changed(rows, changes);
-        self.classes.forget_changed(changes);
+        self.classes.forget_changed(rows, changes);
         self.refusals.forget_changed(rows, changes);
         moved
     }

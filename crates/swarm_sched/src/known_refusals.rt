@@ -1,5 +1,5 @@
 // Which filters refused waiting tasks the nodes, as far as it is remembered from one placement to the next.
-ghost use Rattle.std.specs.Prelude.{◌≡◌, IfSome, IsTrue, [], map};
+ghost use Rattle.std.specs.Prelude.{◌≡◌, ◌<◌, IfSome, IsTrue, [], length, map};
 ghost use Rattle.swarm_objects.specs.ChangeLists.{apply_changes};
 ghost use Rattle.swarm_objects.specs.Usable.{IsUsable};
 ghost use Rattle.swarm_objects.specs.World.{Tables};
@@ -14,7 +14,7 @@ use swarm_objects::walks::nodes;
 use swarm_objects::{Change, Duplicate, Id, Rows, Same, Task, Template};
 
 // For so many groups of tasks something is remembered at once.
-const GROUPS: u64 = 64;
+const GROUPS: usize = 64;
 
 // Of so many nodes at most, for each group.
 const MOST_SLOTS: usize = 16384;
@@ -44,8 +44,8 @@ impl Model for Group {
     ghost view = { λ g. record { service = g.service; template = g.template; slots = g.slots.items } };
 }
 
-/// The groups that were asked for last. Each service has one slot, by the rest of its id. Contracts see the slots, or
-/// none before the first group.
+/// The groups that were asked for last, as many as there were at once: what is forgotten is looked for in these alone.
+/// Contracts see their slots, or none before the first group.
 #[derive(Drop)]
 pub struct KnownRefusals {
     // None where nothing will be remembered
@@ -140,18 +140,30 @@ fn new_group<R: Rows>(alloc: Global, rows: &R, task: &Task) -> Option<Group>
     })
 }
 
-// Slots without groups.
-#[tactic(auto, using(crate::proofs::Remembering::group_steps))]
-fn empty_slots(alloc: Global) -> Option<Vec<Option<Group>>>
-    ensures { (t : Tables) → IfSome result (λ groups. KnowsRefusals t groups.items) }
-{
-    let mut groups = Vec::with_capacity(alloc, GROUPS as usize).ok()?;
-    for _slot in 0..GROUPS {
-        if groups.push(None).is_err() {
-            return None;
-        }
+// It is a group of the service.
+fn is_of(slot: &Option<Group>, service: Id) -> bool {
+    match slot {
+        Some(group) => group.service == service,
+        None => false,
     }
-    Some(groups)
+}
+
+// The slot of the service's group.
+fn slot_of(groups: &[Option<Group>], service: Id) -> Option<usize>
+    ensures { IfSome result (λ slot. slot < length groups.now) }
+{
+    groups.iter().position(|slot| is_of(slot, service))
+}
+
+// The slot for one more group: an empty one, or another one's where there can't be more.
+fn free_slot(groups: &[Option<Group>], service: Id) -> Option<usize>
+    ensures { IfSome result (λ slot. slot < length groups.now) }
+{
+    let free = groups.iter().position(|slot| slot.is_none());
+    if free.is_none() && groups.len() >= GROUPS {
+        return Some(service as usize % groups.len());
+    }
+    free
 }
 
 // Forgets the node in all groups.
@@ -174,8 +186,8 @@ fn forget_node(groups: &mut [Option<Group>], node: Id)
     }
 }
 
-// The node of the task with this id.
-fn former_node<R: Rows>(rows: &R, id: Id) -> Option<Id>
+/// The node of the task with this id.
+pub fn former_node<R: Rows>(rows: &R, id: Id) -> Option<Id>
     ensures { result ≡ former_node (R.tables rows.now) id }
 {
     match rows.task(id) {
@@ -184,8 +196,8 @@ fn former_node<R: Rows>(rows: &R, id: Id) -> Option<Id>
     }
 }
 
-// The node that the change puts, or those of the task that it puts or drops, as it will be and as it was.
-fn touched<R: Rows>(rows: &R, change: &Change) -> (Option<Id>, Option<Id>)
+/// The node that the change puts, or those of the task that it puts or drops, as it will be and as it was.
+pub fn touched<R: Rows>(rows: &R, change: &Change) -> (Option<Id>, Option<Id>)
     ensures { result ≡ touched (R.tables rows.now) change.now }
 {
     match change {
@@ -196,6 +208,17 @@ fn touched<R: Rows>(rows: &R, change: &Change) -> (Option<Id>, Option<Id>)
     }
 }
 
+// Forgets both nodes, one after the other unless they are the same.
+#[tactic(auto, using(crate::proofs::Remembering::same_steps))]
+fn forget_both(groups: &mut [Option<Group>], node: Option<Id>, former: Option<Id>)
+    ensures { groups.new ≡ forget former (forget node groups.old) }
+{
+    forget(groups, node);
+    if former != node {
+        forget(groups, former);
+    }
+}
+
 // Forgets the nodes that the changes touch.
 fn forget_each<R: Rows>(groups: &mut [Option<Group>], rows: &R, changes: &[Change])
     ensures { groups.new ≡ forget_each (R.tables rows.now) changes.now groups.old }
@@ -203,8 +226,7 @@ fn forget_each<R: Rows>(groups: &mut [Option<Group>], rows: &R, changes: &[Chang
     let mut left = changes;
     while let Some((change, others)) = left.split_first() {
         let (node, former) = touched(rows, change);
-        forget(groups, node);
-        forget(groups, former);
+        forget_both(groups, node, former);
         left = others;
     }
 }
@@ -251,17 +273,17 @@ impl KnownRefusals {
         forget_each(groups.as_mut_slice(), rows, changes);
     }
 
-    // Makes the slots, unless they are there.
+    // Begins to remember, without a slot so far.
     #[tactic(auto, using(crate::proofs::Remembering::group_steps))]
-    fn make_slots(&mut self, alloc: Global)
+    fn begin(&mut self, alloc: Global)
         ensures { (t : Tables) → KnowsRefusals t self.old → KnowsRefusals t self.new }
     {
         if self.groups.is_none() {
-            self.groups = empty_slots(alloc);
+            self.groups = Some(Vec::new(alloc));
         }
     }
 
-    // Takes what stands in the service's slot.
+    // Takes the service's group out of its slot.
     #[tactic(auto, using(crate::proofs::Remembering::group_steps))]
     fn take_slot(&mut self, service: Id) -> Option<Group>
         ensures group { (t : Tables) → KnowsRefusals t self.old → IfSome result (KnowsGroup t) }
@@ -270,10 +292,9 @@ impl KnownRefusals {
         let Some(groups) = &mut self.groups else {
             return None;
         };
-        if groups.is_empty() {
+        let Some(slot) = slot_of(groups.as_slice(), service) else {
             return None;
-        }
-        let slot = service as usize % groups.len();
+        };
         mem::replace(&mut groups[slot], None)
     }
 
@@ -288,7 +309,7 @@ impl KnownRefusals {
         let Some(alloc) = self.alloc else {
             return None;
         };
-        self.make_slots(alloc);
+        self.begin(alloc);
         if let Some(group) = self.take_slot(task.service) {
             if group.is_for(task) {
                 return Some(group);
@@ -297,7 +318,7 @@ impl KnownRefusals {
         new_group(alloc, rows, task)
     }
 
-    /// Puts the group in its slot.
+    /// Puts the group in a slot, where there is memory.
     #[tactic(auto, using(crate::proofs::Remembering::group_steps))]
     pub fn put(&mut self, group: Option<Group>)
         ensures { (t : Tables) → KnowsRefusals t self.old → IfSome group (KnowsGroup t) → KnowsRefusals t self.new }
@@ -308,10 +329,11 @@ impl KnownRefusals {
         let Some(groups) = &mut self.groups else {
             return;
         };
-        if groups.is_empty() {
-            return;
+        match free_slot(groups.as_slice(), group.service) {
+            Some(slot) => groups[slot] = Some(group),
+            None => {
+                let _ = groups.push(Some(group));
+            }
         }
-        let slot = group.service as usize % groups.len();
-        groups[slot] = Some(group);
     }
 }

@@ -3,6 +3,7 @@
 #![tactic(auto)]
 
 mod alike;
+mod bounds;
 mod branches;
 mod changing;
 mod class_loads;

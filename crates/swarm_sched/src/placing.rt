@@ -1,21 +1,22 @@
 // The best node for a task.
 ghost use Rattle.std.specs.Option.{option_copied, option_map};
 ghost use Rattle.std.specs.Ordering.{nat_cmp, ordering_then};
-ghost use Rattle.std.specs.Prelude.{◌≡◌, ◌↔◌, ◌⊎◌, ◌<◌, ◌&&◌, IfSome, IsTrue, None, Some, false, get_or, is_some, length, set};
+ghost use Rattle.std.specs.Prelude.{◌≡◌, ◌↔◌, ◌⊎◌, ◌<◌, ◌&&◌, ◌≤◌, ◌%◌, IfSome, IsTrue, None, Some, false, get_or, is_some, length, set};
 ghost use Rattle.std.specs.declared.cmp.Ordering.TheVariants.{Less};
 ghost use Rattle.swarm_filters.specs.Tested.{is_open};
 ghost use Rattle.swarm_objects.specs.Nodes.BestNode.{best_node};
 ghost use Rattle.swarm_objects.specs.Nodes.Filters.{here};
-ghost use Rattle.swarm_objects.specs.Rows.{node_id, row_at};
+ghost use Rattle.swarm_objects.specs.Rows.{RisesFrom, node_id, row_at};
 ghost use Rattle.swarm_objects.specs.Usable.{IsUsable};
-ghost use Rattle.swarm_sched.specs.Inside.Branches.{preferences};
-ghost use Rattle.swarm_sched.specs.Inside.Classes.{AreSorted, IsOrder};
+ghost use Rattle.swarm_sched.specs.Inside.Bounds.{AreLeast};
+ghost use Rattle.swarm_sched.specs.Inside.Classes.{AreBelow, AreFew, AreSorted, HaveClasses, IsOrder, entry_id};
 ghost use Rattle.swarm_sched.specs.Inside.Known.{Knows};
 ghost use Rattle.swarm_sched.specs.Inside.KnownNodes.{KnowsNodes};
-ghost use Rattle.swarm_sched.specs.Inside.Placing.{IsNodeLoad, comes_first};
+ghost use Rattle.swarm_sched.specs.Inside.Placing.{AreBehind, IsNodeLoad, Leads, LeadsAll, block_end, comes_first};
 ghost use Rattle.swarm_sched.specs.Inside.Totals.{AreTotals};
 ghost use Rattle.swarm_spread.specs.Counts.{IsFor, Stands};
 
+use crate::bounds::{BLOCK, Bounds, bound_in, measured};
 use crate::branches::Branches;
 use crate::class_loads::branches_of;
 use crate::classes::{CLASSES, ClassedNode};
@@ -218,27 +219,175 @@ fn best_of_all<'a, R: Rows>(rows: &'a R, known: &mut KnownTotals, task: &Task) -
     best
 }
 
-// The same, where the nodes are sorted, into so many classes. The row of a node that its class decides isn't looked at.
-// How the classes compare stays so with a new best node that is the former one's equal by the preferences.
-fn best_of_classes<'a, R: Rows>(
+// The best node so far, its tasks, and how the classes compare with it by the placement preferences, where it is known.
+#[derive(Clone, Copy)]
+struct Leader<'a> {
+    best: Option<&'a Node>,
+    held: NodeLoad,
+    orders: &'a [Option<Ordering>],
+    // how many classes there are
+    count: usize,
+}
+
+impl<'a> Leader<'a> {
+    fn new(
+        best: Option<&'a Node>,
+        held: NodeLoad,
+        orders: &'a [Option<Ordering>],
+        count: usize,
+    ) -> Leader<'a>
+        ensures { result ≡ record { best = best.entry; held = held; orders = orders.entry; count = count } }
+    {
+        Leader {
+            best,
+            held,
+            orders,
+            count,
+        }
+    }
+
+    // No node of the class comes first that has so many live tasks at least, and no lesser id than this.
+    #[tactic(auto, using(crate::proofs::Bounding::lead_steps))]
+    fn leads_class(self, class: usize, least: u64, first: Id) -> bool
+        requires { class < length self.orders.now }
+        ensures { IsTrue result →
+            Leads (option_copied self.entry.best) self.entry.held (get_or self.entry.orders.now class None) least first }
+    {
+        let Some(best) = self.best else {
+            return false;
+        };
+        match self.orders[class] {
+            Some(Ordering::Greater) => true,
+            Some(Ordering::Equal) => {
+                self.held.here == 0 && !may_come_first(least, first, best.id, self.held)
+            }
+            Some(Ordering::Less) | None => false,
+        }
+    }
+
+    // None of the nodes does that have so many by their classes.
+    #[tactic(auto, using(crate::proofs::Bounding::lead_steps))]
+    fn leads(self, row: &[Option<u64>], first: Id) -> bool
+        requires { self.count ≤ length self.orders.now }
+        ensures { IsTrue result → LeadsAll (option_copied self.entry.best) self.entry.held
+            self.entry.orders.now self.entry.count row.now first }
+    {
+        for class in 0..self.count {
+            if let Some(least) = bound_in(row, class)
+                && !self.leads_class(class, least, first)
+            {
+                return false;
+            }
+        }
+        true
+    }
+
+    // How each class there compares is known, and none comes before the best one's: so counts may tell.
+    fn is_told_by_counts(self, row: &[Option<u64>]) -> bool
+        requires { self.count ≤ length self.orders.now }
+    {
+        for class in 0..self.count {
+            if bound_in(row, class).is_none() {
+                continue;
+            }
+            match self.orders[class] {
+                Some(Ordering::Equal) | Some(Ordering::Greater) => {}
+                Some(Ordering::Less) | None => return false,
+            }
+        }
+        true
+    }
+
+    // Where a block begins at this place, none of its nodes comes first. What is kept of it may tell so, or else what is
+    // found now. It isn't asked where the best one has tasks of the service's own: others may have fewer of these.
+    #[tactic(auto, using(crate::proofs::Bounding::block_steps))]
+    fn leads_block<R: Rows>(
+        self,
+        rows: &R,
+        known: &mut KnownTotals,
+        service: Id,
+        nodes: &[ClassedNode],
+        bounds: &mut Bounds,
+        place: usize,
+    ) -> bool
+        requires usable { IsUsable (R.tables rows.now) }
+        requires knows { Knows (R.tables rows.now) known.old }
+        requires held { IfSome self.best (λ b. IsNodeLoad (R.tables rows.now) b.now.id service self.held) }
+        requires orders { self.count ≤ length self.orders.now }
+        requires few { AreFew nodes.now }
+        requires below { AreBelow self.count nodes.now }
+        requires rises { RisesFrom entry_id 0 nodes.now }
+        requires least { AreLeast (R.tables rows.now) nodes.now bounds.old }
+        requires there { place < length nodes.now }
+        ensures behind { IsTrue result →
+            AreBehind (R.tables rows.now) service nodes.now self.entry.orders.now (option_copied self.entry.best)
+            place (block_end nodes.now place) }
+        ensures least { AreLeast (R.tables rows.now) nodes.now bounds.new }
+        ensures knows { Knows (R.tables rows.now) known.new }
+    {
+        if place % BLOCK != 0 || self.best.is_none() || self.held.here > 0 {
+            return false;
+        }
+        let block = place / BLOCK;
+        let first = nodes[place].id;
+        if let Some(row) = bounds.row(block) {
+            if self.leads(&row[..], first) {
+                return true;
+            }
+            if !self.is_told_by_counts(&row[..]) {
+                return false;
+            }
+        }
+        let row = measured(rows, known, service, nodes, place, block_end(nodes, place));
+        bounds.note(block, row);
+        self.leads(&row[..], first)
+    }
+}
+
+// Where the block ends that begins at this place.
+fn block_end(nodes: &[ClassedNode], place: usize) -> usize
+    requires { place < length nodes.now }
+    ensures is { result ≡ block_end nodes.now place }
+    ensures more { place < result }
+    ensures fits { result ≤ length nodes.now }
+{
+    place + (nodes.len() - place).min(BLOCK)
+}
+
+/// The same, where the nodes are sorted, into so many classes. A block of nodes of which none can come before the best
+/// one so far is left out, and so is the row of a node that its class decides. How the classes compare stays so with a
+/// new best node that is the former one's equal by the preferences.
+pub fn best_of_classes<'a, R: Rows>(
     rows: &'a R,
     known: &mut KnownTotals,
-    sorted: &[ClassedNode],
+    nodes: &[ClassedNode],
+    bounds: &mut Bounds,
     count: usize,
     task: &Task,
 ) -> Option<&'a Node>
     requires usable { IsUsable (R.tables rows.now) }
     requires knows { Knows (R.tables rows.now) known.old }
-    requires sorted { AreSorted (R.tables rows.now).nodes task.now.template.spread sorted.now }
+    requires sorted { AreSorted (R.tables rows.now).nodes task.now.template.spread nodes.now }
+    requires least { AreLeast (R.tables rows.now) nodes.now bounds.old }
+    requires classes { HaveClasses count nodes.now }
     ensures best { option_copied result ≡ best_node (R.tables rows.now) task.now }
     ensures knows { Knows (R.tables rows.now) known.new }
+    ensures least { AreLeast (R.tables rows.now) nodes.now bounds.new }
 {
-    let (mut branches, most) = branches_of(rows, task, sorted, count);
+    let (mut branches, most) = branches_of(rows, task, nodes, count);
     let mut orders = [None; CLASSES];
     let mut best = None;
     let mut held = NodeLoad::NONE;
-    for entry in sorted {
-        let spread = class_order(&mut branches, &mut orders, rows, best, *entry);
+    let mut place = 0;
+    while place < nodes.len() {
+        let leader = Leader::new(best, held, &orders, count);
+        if leader.leads_block(rows, known, task.service, nodes, bounds, place) {
+            place = block_end(nodes, place);
+            continue;
+        }
+        let entry = nodes[place];
+        place += 1;
+        let spread = class_order(&mut branches, &mut orders, rows, best, entry);
         if !is_rival(known, rows, task.service, spread, best, held, entry.id) {
             continue;
         }
@@ -270,11 +419,8 @@ pub fn best_node<'a, R: Rows>(rows: &'a R, known: &mut KnownNodes, task: &Task) 
 {
     let keys = &task.template.spread;
     known.classes.ask(rows, keys);
-    match known.classes.nodes_for(keys) {
-        Some(sorted) => {
-            let count = known.classes.count();
-            best_of_classes(rows, &mut known.totals, sorted, count, task)
-        }
+    match known.classes.best(rows, &mut known.totals, task) {
+        Some(best) => best,
         None => best_of_all(rows, &mut known.totals, task),
     }
 }

@@ -10,20 +10,23 @@ use Rattle.swarm_objects.specs.declared.nodes.Node.{Node}
 use Rattle.swarm_objects.specs.declared.rows.Change.TheVariants as change
 use Rattle.swarm_objects.specs.declared.rows.Change.{Change}
 use Rattle.swarm_objects.specs.declared.templates.Key.{Key}
+use Rattle.swarm_sched.specs.Inside.Bounds.{AreLeast}
 use Rattle.swarm_sched.specs.Inside.Branches.{Preferences}
 use Rattle.swarm_sched.specs.declared.classes.Asked.{Asked}
 use Rattle.swarm_sched.specs.declared.classes.ClassedNode.{ClassedNode}
 use Rattle.swarm_sched.specs.declared.classes.Sorting.TheVariants as sorting
 use Rattle.swarm_sched.specs.declared.classes.Sorting.{Sorting}
 
--- preferences, and the nodes sorted by them
+-- preferences, the nodes sorted by them, into so many classes, and how many live tasks they have at least
 pub record Classes : Type 0 where
   pub keys : List Key
   pub nodes : List ClassedNode
+  pub count : ℕ
+  pub bounds : List (List (Option ℕ))
 
 abbrev pub sorted_by : List Key → Sorting → Option Classes
 sorted_by keys sorting.NotYet = None
-sorted_by keys (sorting.Done nodes) = Some (record { keys = keys; nodes = nodes })
+sorted_by keys (sorting.Done s) = Some (record { keys = keys; nodes = s.nodes; count = s.count; bounds = s.bounds })
 sorted_by keys sorting.InVain = None
 
 abbrev pub classes : Asked → Option Classes
@@ -43,8 +46,20 @@ pub record IsEntry (nodes : List Node) (sorted : List ClassedNode) (c : ClassedN
   pub same : n.id ≡ c.id
 
 -- each class is one of so many
+abbrev pub AreBelow : ℕ → List ClassedNode → Type 0
+AreBelow count sorted = (c : ClassedNode) → Has sorted c → c.class < count
+
 abbrev pub AreFew : List ClassedNode → Type 0
-AreFew sorted = (c : ClassedNode) → Has sorted c → c.class < 16
+AreFew = AreBelow 16
+
+-- they are of so many, which aren't too many
+abbrev pub HaveClasses : ℕ → List ClassedNode → Type 0
+HaveClasses count sorted = AreBelow count sorted × (count ≤ 16)
+
+-- so far, up to this place
+pub record AreCounted (sorted : List ClassedNode) (i count : ℕ) : Type 0 where
+  pub few : count ≤ 16
+  pub each : (j : ℕ) (d : ClassedNode) → j < i → (get_or sorted j d).class < count
 
 -- these are the nodes, in order, and those of one class have the same values for the keys; where there are keys, no
 -- others have them
@@ -58,7 +73,8 @@ pub record AreSorted (nodes : List Node) (keys : List Key) (sorted : List Classe
 
 -- so are those that are kept
 abbrev pub AreClasses : Tables → Option Classes → Type 0
-AreClasses t o = IfSome o (λ k. AreSorted t.nodes k.keys k.nodes)
+AreClasses t o =
+    IfSome o (λ k. AreSorted t.nodes k.keys k.nodes × AreLeast t k.nodes k.bounds × HaveClasses k.count k.nodes)
 
 -- what is sorted by these keys is sorted by those
 abbrev pub IsServed : List Key → List Key → Type 0
@@ -97,7 +113,8 @@ IsOrder p o n None = o ≡ Less
 IsOrder p o n (Some b) = o ≡ spread_cmp p.tables p.service [] p.keys n b
 
 -- so do all nodes of each class for which it is known
-pub record AreOrders (p : Preferences) (sorted : List ClassedNode) (orders : List (Option Ordering)) (best : Option Node) :
+pub record AreOrders
+    (p : Preferences) (sorted : List ClassedNode) (orders : List (Option Ordering)) (best : Option Node) :
     Type 0 where
   pub each : (c : ClassedNode) (n : Node) → IsEntry p.tables.nodes sorted c n →
       IfSome (get_or orders c.class None) (λ o. IsOrder p o n best)

@@ -80,6 +80,10 @@ touched t (change.PutTask x) = (x.node, former_node t x.id)
 touched t (change.DropTask id) = (None, former_node t id)
 touched t (change.Keep a) = (None, None)
 
+-- the change touches other nodes
+abbrev pub IsSpared : Tables → ℕ → Change → Type 0
+IsSpared t m c = ((touched t c).0 ≡ Some m → ⊥) × ((touched t c).1 ≡ Some m → ⊥)
+
 -- the nodes that these changes touch are forgotten
 abbrev pub forget_each : Tables → List Change → List (Option Refusals) → List (Option Refusals)
 forget_each t [] all = all

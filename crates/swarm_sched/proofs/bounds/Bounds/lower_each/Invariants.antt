@@ -1,0 +1,10 @@
+use Rattle.std.proofs.Common.{length}
+use Rattle.swarm_sched.proofs.bounds.Bounds.lower_each.Given as goal
+use Rattle.swarm_sched.specs.Inside.Bounds.{AreLowering}
+
+abbrev pub invariant-loop-change : goal.invariant-loop-change
+invariant-loop-change g l =
+    AreLowering (g.R.Rows.tables l.rows) l.nodes l.changes l.left l.initial.self l.self
+
+abbrev pub decreases-loop-change : goal.decreases-loop-change
+decreases-loop-change g l = length l.left

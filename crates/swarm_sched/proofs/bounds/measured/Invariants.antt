@@ -1,0 +1,13 @@
+use Rattle.std.proofs.Common.{length, ◌≡◌}
+use Rattle.swarm_sched.proofs.bounds.measured.Given as goal
+use Rattle.swarm_sched.specs.Inside.Bounds.{AreAtMost}
+use Rattle.swarm_sched.specs.Inside.Known.{Knows}
+
+abbrev pub invariant-loop-place : goal.invariant-loop-place
+invariant-loop-place g l =
+    let t = g.R.Rows.tables l.rows in
+    record {
+      least : AreAtMost t l.nodes l.from l.place l.row;
+      long : length l.row ≡ 16;
+      knows : Knows t l.known;
+    }

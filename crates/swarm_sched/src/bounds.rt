@@ -1,0 +1,210 @@
+// How many live tasks nodes have at least, block by block: so a placement leaves out whole blocks of nodes.
+ghost use Rattle.std.specs.Prelude.{◌≡◌, ◌≤◌, IfSome, List as Seq, Some, [], get_or, length, ℕ};
+ghost use Rattle.swarm_objects.specs.ChangeLists.{apply_changes};
+ghost use Rattle.swarm_objects.specs.Rows.{RisesFrom};
+ghost use Rattle.swarm_objects.specs.Tasks.Words.{is_live};
+ghost use Rattle.swarm_objects.specs.Usable.{IsUsable};
+ghost use Rattle.swarm_objects.specs.World.{Tables};
+ghost use Rattle.swarm_sched.specs.Inside.Bounds.{AreAtMost, AreLeast, AreLowering, IsLowered, IsNoted, IsOnly, IsPlaceOf};
+ghost use Rattle.swarm_sched.specs.Inside.Classes.{AreFew, entry_id};
+ghost use Rattle.swarm_sched.specs.Inside.Known.{Knows, adds, one_if};
+
+use crate::classes::{CLASSES, ClassedNode};
+use crate::known::{KnownTotals, added_load};
+use crate::known_refusals::{former_node, touched};
+use std::alloc::Global;
+use std::marker::Model;
+use swarm_objects::{Change, Id, Rows, Task};
+
+/// How many nodes a block has: some of them are looked at one by one, and so many blocks are passed.
+pub const BLOCK: usize = 16;
+
+/// For each block of sorted nodes, and each class, how many live tasks a node of it has at least, and None where no node
+/// of the class is in the block. A lower bound is enough: where it rules all nodes out, so do their tasks. It stays one
+/// where tasks come to a node, so it's made anew only where a block is looked at, and is 0 where tasks may have left.
+/// Of a block that isn't there, for want of memory, it is 0.
+#[derive(Drop)]
+pub struct Bounds {
+    rows: Vec<[Option<u64>; CLASSES]>,
+}
+
+impl Model for Bounds {
+    ghost use Rattle.std.specs.Prelude.{List as Seq, Option, ℕ};
+
+    ghost Value = { Seq (Seq (Option ℕ)) };
+
+    ghost view = { λ b. b.rows.items };
+}
+
+// The lesser of the two, where the first one is there.
+fn lesser(least: Option<u64>, load: u64) -> u64
+    ensures own { result ≤ load }
+    ensures other { IfSome least (λ n. result ≤ n) }
+{
+    match least {
+        Some(least) if least < load => least,
+        _ => load,
+    }
+}
+
+/// What the row says of the class.
+pub fn bound_in(row: &[Option<u64>], class: usize) -> Option<u64>
+    ensures { result ≡ get_or row.now class (Some 0) }
+{
+    if class < row.len() {
+        return row[class];
+    }
+    Some(0)
+}
+
+/// What the nodes from this place to that one have at least.
+#[tactic(auto, using(crate::proofs::Bounding::measure_steps))]
+pub fn measured<R: Rows>(
+    rows: &R,
+    known: &mut KnownTotals,
+    service: Id,
+    nodes: &[ClassedNode],
+    from: usize,
+    end: usize,
+) -> [Option<u64>; CLASSES]
+    requires usable { IsUsable (R.tables rows.now) }
+    requires knows { Knows (R.tables rows.now) known.old }
+    requires few { AreFew nodes.now }
+    requires fits { end ≤ length nodes.now }
+    ensures least { AreAtMost (R.tables rows.now) nodes.now from end result }
+    ensures long { length result ≡ 16 }
+    ensures knows { Knows (R.tables rows.now) known.new }
+{
+    let mut row = [None; CLASSES];
+    for place in from..end {
+        let entry = nodes[place];
+        let load = known.totals(rows, entry.id, service).load;
+        row[entry.class] = Some(lesser(row[entry.class], load));
+    }
+    row
+}
+
+// Where the node stands.
+fn place_of(nodes: &[ClassedNode], node: Id) -> Option<usize>
+    requires { RisesFrom entry_id 0 nodes.now }
+    ensures { IsPlaceOf nodes.now node result }
+{
+    match nodes.binary_search_by_key(&node, |entry| entry.id) {
+        Ok(place) => Some(place),
+        Err(_) => None,
+    }
+}
+
+// The node of the former task, where it has fewer live ones with this task in its place.
+#[tactic(auto, using(crate::proofs::Bounding::left_steps))]
+fn left_node(former: &Task, task: &Task) -> Option<Id>
+    ensures { (m : ℕ) → (result ≡ Some m → ⊥) →
+        adds (one_if is_live) m former.now ≤ adds (one_if is_live) m task.now }
+{
+    let Some(node) = former.node else {
+        return None;
+    };
+    if added_load(node, task) < added_load(node, former) {
+        return Some(node);
+    }
+    None
+}
+
+// The only node that may have fewer live tasks after the change.
+#[tactic(auto, using(crate::proofs::Bounding::only_steps))]
+fn lowered_node<R: Rows>(rows: &R, change: &Change) -> Option<Id>
+    requires { IsUsable (R.tables rows.now) }
+    ensures { IsOnly (R.tables rows.now) change.now result }
+{
+    match change {
+        Change::PutTask(task) => match rows.task(task.id) {
+            Some(former) => left_node(former, task),
+            None => None,
+        },
+        Change::DropTask(id) => former_node(rows, *id),
+        Change::PutNode(_) | Change::PutService(_) | Change::Keep(_) => None,
+    }
+}
+
+impl Bounds {
+    /// Nothing is known of so many nodes.
+    #[tactic(auto, using(crate::proofs::Bounding::zero_steps))]
+    pub fn new(alloc: Global, count: usize) -> Bounds
+        ensures { (t : Tables) (nodes : Seq ClassedNode) → AreLeast t nodes result }
+    {
+        let mut rows = Vec::new(alloc);
+        for _block in 0..count / BLOCK + 1 {
+            let Ok(()) = rows.push([Some(0); CLASSES]) else {
+                break;
+            };
+        }
+        Bounds { rows }
+    }
+
+    /// What is kept of the block.
+    pub fn row(&self, block: usize) -> Option<&[Option<u64>; CLASSES]>
+        ensures { IfSome result (λ row. row.now ≡ get_or self.now block []) }
+    {
+        if block < self.rows.len() {
+            return Some(&self.rows[block]);
+        }
+        None
+    }
+
+    /// This is so of the block's nodes.
+    pub fn note(&mut self, block: usize, row: [Option<u64>; CLASSES])
+        ensures { IsNoted block row self.old self.new }
+    {
+        if block < self.rows.len() {
+            self.rows[block] = row;
+        }
+    }
+
+    // Nothing is known of the node any more.
+    #[tactic(auto, using(crate::proofs::Bounding::lower_steps))]
+    fn lower(&mut self, nodes: &[ClassedNode], node: Option<Id>)
+        requires { RisesFrom entry_id 0 nodes.now }
+        ensures { IsLowered nodes.now node self.old self.new }
+    {
+        let Some(node) = node else {
+            return;
+        };
+        if let Some(place) = place_of(nodes, node) {
+            self.note(place / BLOCK, [Some(0); CLASSES]);
+        }
+    }
+
+    // Nothing is known of the nodes that the changes touch.
+    #[tactic(auto, using(crate::proofs::Bounding::each_steps))]
+    fn lower_each<R: Rows>(&mut self, nodes: &[ClassedNode], rows: &R, changes: &[Change])
+        requires { RisesFrom entry_id 0 nodes.now }
+        ensures { AreLowering (R.tables rows.now) nodes.now changes.now [] self.old self.new }
+    {
+        let mut left = changes;
+        while let Some((change, others)) = left.split_first() {
+            let (node, former) = touched(rows, change);
+            self.lower(nodes, node);
+            self.lower(nodes, former);
+            left = others;
+        }
+    }
+
+    /// Nothing is known of the nodes that may have fewer live tasks after the changes. It is asked before they are made.
+    #[tactic(auto, using(crate::proofs::Bounding::changed_steps))]
+    pub fn lower_changed<R: Rows>(&mut self, nodes: &[ClassedNode], rows: &R, changes: &[Change])
+        requires usable { IsUsable (R.tables rows.now) }
+        requires rises { RisesFrom entry_id 0 nodes.now }
+        requires least { AreLeast (R.tables rows.now) nodes.now self.old }
+        ensures stays { AreLeast (R.tables rows.now) nodes.now self.new }
+        ensures goes_on { AreLeast (apply_changes (R.tables rows.now) changes.now) nodes.now self.new }
+    {
+        let Some((change, others)) = changes.split_first() else {
+            return;
+        };
+        if others.is_empty() {
+            self.lower(nodes, lowered_node(rows, change));
+        } else {
+            self.lower_each(nodes, rows, changes);
+        }
+    }
+}
