@@ -1,8 +1,12 @@
 mod Bounding
 mod Choosing
 mod Counting
+pub mod Keeping
 mod Leaving
-mod Putting
+mod Recounting
 mod Remembering
+mod Services
+mod Sights
 mod Steps
+mod Turning
 mod Weighing

@@ -1,31 +1,23 @@
 -- What one held place more makes of how many are held, and of the least number that isn't.
-use Rattle.std.proofs.Common.{Bool, List, Option, Some, is_some, [], ap, arith, cond, eqb, false, inl, inr, length, ltb, refl, subst, suc, sym, true, zero, ℕ, ◌+◌, ◌-◌, ◌<◌, ◌∙◌, ◌∷◌, ◌≡◌, ◌≤◌, ◌⊎◌, ◌++◌}
+use Rattle.std.proofs.Common.{Bool, List, [], ap, arith, cond, eqb, false, inl, inr, length, ltb, refl, subst, suc, sym, true, zero, ℕ, ◌+◌, ◌-◌, ◌<◌, ◌∙◌, ◌∷◌, ◌≡◌, ◌≤◌, ◌⊎◌}
 use Rattle.std.proofs.lemmas.Bool.Decides.{nat_tests}
-use Rattle.std.proofs.lemmas.List.Elements.{filter-append}
-use Rattle.std.proofs.lemmas.List.Sums.{fold-append}
 use Rattle.std.specs.List.{list_any}
-use Rattle.std.specs.Prelude.{filter, fold, ◌&&◌, ◌||◌}
-use Rattle.role_words.proofs.Numbers.{mark_away, mark_here, number_at, numbers-rising, one_place}
+use Rattle.std.specs.Prelude.{filter, fold}
+use Rattle.role_words.proofs.Numbers.{number_at, numbers-rising, one_place}
 use Rattle.role_words.proofs.Stepping.{rises_from}
-use Rattle.role_words.specs.Marks.{stands}
-use Rattle.role_words.specs.declared.window.Mark.{Mark}
 use Rattle.swarm_objects.proofs.Gaps.{first_gap-free, first_gap-ge, Has-with_number_keeps, Has-with_row, IsRising-filter, IsRising-with_row}
 use Rattle.swarm_objects.proofs.Rising.{gap-free, gap-held, with_number-cases}
 use Rattle.swarm_objects.proofs.Newest.{newest_has}
 use Rattle.swarm_objects.proofs.RowLemmas.{Has-filter, Has-filter_cases, RisesFrom-filter, number_above}
 use Rattle.swarm_objects.proofs.Tests.{any-has, first_so, or_cases, second_so, some-and-cases}
-use Rattle.swarm_objects.specs.ChangeLists.{apply_changes}
-use Rattle.swarm_objects.specs.Rows.{Has, IsBelow, IsRising, RisesFrom, first_gap, has_row, is_some_and, itself, put_row, row_at, service_id, task_id, with_number}
-use Rattle.swarm_objects.specs.Tasks.Places.{closes, counts_for, held_places, is_held_place, is_in_place, newest, numbers_of, place_at, place_number, place_numbers, place_tasks}
+use Rattle.swarm_objects.specs.Rows.{Has, IsRising, RisesFrom, first_gap, is_some_and, itself, with_number}
+use Rattle.swarm_objects.specs.Tasks.Places.{closes, counts_for, held_places, is_held_place, is_in_place, newest, place_at, place_number, place_numbers, place_tasks}
 use Rattle.swarm_objects.specs.Same.{same_place}
-use Rattle.swarm_objects.specs.Tasks.New.{with_task}
 use Rattle.swarm_objects.specs.Tasks.Words.{is_live}
-use Rattle.swarm_objects.specs.Usable.{IsUsable}
 use Rattle.swarm_objects.specs.World.{Tables}
-use Rattle.swarm_objects.specs.declared.rows.Change.TheVariants as change
 use Rattle.swarm_objects.specs.declared.services.Service.{Service}
 use Rattle.swarm_objects.specs.declared.tasks.Task.{Task}
-use Rattle.swarm_replicated.specs.KnownPlaces.{AreCounted, IsCounted, holds}
+use Rattle.swarm_replicated.specs.KnownPlaces.{AreCounted}
 use Rattle.swarm_replicated.specs.declared.known_places.Counted.{Counted}
 
 -- The least number that isn't there.
@@ -198,57 +190,7 @@ held-not t s k e h = let is = (Has-filter_cases (is_held_place t s) (place_numbe
     differs : false ≡ true → ⊥
     differs d = absurd cc
 
-abbrev is_held_by : Mark → Bool
-is_held_by m = m.is_live || m.is_closed
-
-numbers-more : (s : Service) (tasks : List Task) (x : Task) → counts_for s x ≡ true →
-    numbers_of s (tasks ++ x ∷ []) ≡ with_number (place_number x.place) (numbers_of s tasks)
-numbers-more s tasks x counts =
-    ap put (filter-append (counts_for s) tasks (x ∷ []) ∙ ap (λ b. filter (counts_for s) tasks ++ cond b (x ∷ []) []) counts)
-    ∙ fold-append (λ ks (t : Task). with_number (place_number t.place) ks) [] (filter (counts_for s) tasks) (x ∷ [])
-  where
-    put : List Task → List ℕ
-    put = fold (λ ks (t : Task). with_number (place_number t.place) ks) []
-
-or-live : (a b c d : Bool) → b ≡ true → c ≡ true → ((a || (b && c)) || d) ≡ true
-or-live true b c d e f = refl
-or-live false b c d e f = ap (λ x. (x && c) || d) e ∙ ap (λ x. x || d) f
-
--- a live task more in its place holds it
-pub held-more : (t : Tables) (s : Service) (x : Task) → stands s x ≡ true → is_live x ≡ true →
-    held_places (with_task t x) s ≡ with_number (place_number x.place) (held_places t s)
-held-more t s x in_place live =
-    ap (filter (is_held_place (with_task t x) s)) (numbers-more s t.tasks x counts)
-    ∙ filter-with (place_number x.place) (numbers_of s t.tasks) (is_held_place t s) (is_held_place (with_task t x) s)
-    (numbers-rising s t.tasks) here away
-  where
-    counts : counts_for s x ≡ true
-    counts = first_so (counts_for s x) _ in_place
-
-    here : is_held_place (with_task t x) s (place_number x.place) ≡ true
-    here = ap is_held_by (mark_here s t.tasks x (place_number x.place) counts refl) ∙ or-live _ (stands s x) (is_live x) _ in_place live
-
-    away : (j : ℕ) → (place_number x.place ≡ j → ⊥) → is_held_place (with_task t x) s j ≡ is_held_place t s j
-    away j apart = ap is_held_by (mark_away s t.tasks x j (λ both. apart both.1))
-
 -- The search for the next number.
-
-pub search-begins : (t : Tables) (s : Service) (gap : ℕ) → gap ≡ first_gap 1 (held_places t s) →
-    first_gap 1 (with_number gap (held_places t s)) ≡ first_gap gap (with_number gap (held_places t s))
-search-begins t s gap is =
-    gap-with gap (held_places t s) (held-rise t s)
-    ∙ ap (λ n. first_gap n (with_number gap (held_places t s))) (sym is)
-
-pub search-ends : (t : Tables) (s : Service) (gap next : ℕ) → (next ≡ gap → ⊥) → is_held_place t s next ≡ false →
-    first_gap 1 (with_number gap (held_places t s)) ≡ first_gap next (with_number gap (held_places t s)) →
-    next ≡ first_gap 1 (with_number gap (held_places t s))
-search-ends t s gap next apart free so = sym (so ∙ gap-free next (with_number gap (held_places t s)) none)
-  where
-    none : Has (with_number gap (held_places t s)) next → ⊥
-    none h = elim (with_number-cases gap next (held_places t s) h) [
-      | inl same ↦ apart (sym same)
-      | inr old ↦ held-not t s next free old
-    ]
 
 goes-on : (t : Tables) (s : Service) (gap next : ℕ) → Has (with_number gap (held_places t s)) next →
     first_gap 1 (with_number gap (held_places t s)) ≡ first_gap next (with_number gap (held_places t s)) →
@@ -256,17 +198,43 @@ goes-on : (t : Tables) (s : Service) (gap next : ℕ) → Has (with_number gap (
 goes-on t s gap next h so =
     so ∙ gap-held next (with_number gap (held_places t s)) (with-rising gap (held_places t s) (held-rise t s)) h
 
-pub past-held : (t : Tables) (s : Service) (gap next : ℕ) → is_held_place t s next ≡ true →
-    first_gap 1 (with_number gap (held_places t s)) ≡ first_gap next (with_number gap (held_places t s)) →
-    first_gap 1 (with_number gap (held_places t s)) ≡ first_gap (next + 1) (with_number gap (held_places t s))
-past-held t s gap next held so =
-    goes-on t s gap next (Has-with_number_keeps gap next (held_places t s) (held-has t s next held)) so
+-- all from 1 on to this number, which is beyond the gap, are held or the gap
+pub record Searches (t : Tables) (s : Service) (gap next : ℕ) : Type 0 where
+  pub beyond : gap < next
+  pub so : first_gap 1 (with_number gap (held_places t s)) ≡ first_gap next (with_number gap (held_places t s))
 
-pub past-gap : (t : Tables) (s : Service) (gap next : ℕ) → next ≡ gap →
-    first_gap 1 (with_number gap (held_places t s)) ≡ first_gap next (with_number gap (held_places t s)) →
-    first_gap 1 (with_number gap (held_places t s)) ≡ first_gap (next + 1) (with_number gap (held_places t s))
-past-gap t s gap next same so =
-    goes-on t s gap next (subst (Has (with_number gap (held_places t s))) (sym same) (Has-with_row itself gap (held_places t s))) so
+pub search-begins : (t : Tables) (s : Service) (gap next : ℕ) → gap ≡ first_gap 1 (held_places t s) → next ≡ gap + 1 →
+    Searches t s gap next
+search-begins t s gap next is first = record {
+  beyond = omega (arith, first);
+  so =
+      goes-on t s gap gap (Has-with_row itself gap (held_places t s))
+      (gap-with gap (held_places t s) (held-rise t s)
+      ∙ ap (λ n. first_gap n (with_number gap (held_places t s))) (sym is))
+      ∙ ap (λ n. first_gap n (with_number gap (held_places t s))) (sym first);
+}
+
+pub search-ends : (t : Tables) (s : Service) (gap next : ℕ) → is_held_place t s next ≡ false → Searches t s gap next →
+    next ≡ first_gap 1 (with_number gap (held_places t s))
+search-ends t s gap next free searches =
+    sym (searches.so ∙ gap-free next (with_number gap (held_places t s)) none)
+  where
+    apart : gap < next → gap ≡ next → ⊥
+    apart lt e = omega (arith, lt, e)
+
+    none : Has (with_number gap (held_places t s)) next → ⊥
+    none h = elim (with_number-cases gap next (held_places t s) h) [
+      | inl same ↦ apart searches.beyond same
+      | inr old ↦ held-not t s next free old
+    ]
+
+pub past-held : (t : Tables) (s : Service) (gap next : ℕ) → is_held_place t s next ≡ true → Searches t s gap next →
+    Searches t s gap (next + 1)
+past-held t s gap next held searches = let beyond = searches.beyond in record {
+  beyond = omega (arith, beyond);
+  so =
+      goes-on t s gap next (Has-with_number_keeps gap next (held_places t s) (held-has t s next held)) searches.so;
+}
 
 -- One place more.
 
@@ -283,61 +251,118 @@ with-place t s k number held gap counted free is next = record {
   gap = next;
 }
 
--- One task more.
+-- One place less.
 
-below-none : (id bound : ℕ) (rows : List Task) → IsBelow task_id bound rows → bound ≤ id → has_row task_id id rows ≡ false
-below-none id bound [] below le = refl
-below-none id bound (x ∷ rows) below le =
-    let off : eqb x.id id ≡ false = grind (arith, nat_tests, below.0, le) in
-    ap (λ b. is_some (cond b (Some x) (row_at task_id id rows))) off ∙ below-none id bound rows below.1 le
+pub gap-less-none : (gap number : ℕ) (left : List ℕ) → number ≡ 0 → IsRising itself left →
+    gap ≡ first_gap 1 (with_number number left) → gap ≡ first_gap 1 left
+gap-less-none gap number left zeroth r is = is ∙ other-gap number left r (λ e. apart e (first_gap-ge 1 left))
+  where
+    apart : number ≡ first_gap 1 left → 1 ≤ first_gap 1 left → ⊥
+    apart e ge = omega (arith, zeroth, e, ge)
 
-new-task : (t : Tables) (x : Task) → IsUsable t → t.next_id ≤ x.id → apply_changes t (change.PutTask x ∷ []) ≡ with_task t x
-new-task t x usable le =
-    ap (λ b. cond b (record t { tasks = put_row task_id x t.tasks }) (with_task t x))
-    (below-none x.id t.next_id t.tasks usable.sound.below.tasks le)
+pub gap-less-kept : (gap number : ℕ) (left : List ℕ) → gap ≤ number → IsRising itself left →
+    gap ≡ first_gap 1 (with_number number left) → gap ≡ first_gap 1 left
+gap-less-kept gap number left le r is = is ∙ other-gap number left r (λ e. beyond e (first_gap-ge (first_gap 1 left) (with_number number left)))
+  where
+    beyond : number ≡ first_gap 1 left → first_gap 1 left ≤ first_gap (first_gap 1 left) (with_number number left) → ⊥
+    beyond e ge =
+        let at : gap ≡ first_gap (first_gap 1 left) (with_number number left) = is ∙ gap-with number left r in
+        let here : gap ≡ number = omega (arith, le, e, ge, at) in
+        first_gap-free 1 (with_number number left) (with-rising number left r)
+        (subst (Has (with_number number left)) (sym here ∙ is) (Has-with_row itself number left))
 
-pub one-service : (s u : Service) (o : Option Service) → o ≡ Some s → o ≡ Some u → s ≡ u
-one-service s u o e f = let both : Some s ≡ Some u = sym e ∙ f in cc
+pub gap-less-new : (gap number : ℕ) (left : List ℕ) → (number ≡ 0 → ⊥) → number < gap → IsRising itself left →
+    (Has left number → ⊥) → gap ≡ first_gap 1 (with_number number left) → number ≡ first_gap 1 left
+gap-less-new gap number left some lt r none is = go (eqb number (first_gap 1 left)) refl
+  where
+    before : (number ≡ first_gap 1 left → ⊥) → number ≡ first_gap 1 left
+    before apart =
+        let same : gap ≡ first_gap 1 left = is ∙ other-gap number left r apart in
+        absurd (none (gap-below 1 number left (omega (arith, some)) (omega (arith, lt, same))))
 
--- after a new live task of the service
-pub task-counted : (t : Tables) (s : Service) (x : Task) (k r : Counted) → IsUsable t → t.next_id ≤ x.id →
-    row_at service_id k.service t.services ≡ Some s → stands s x ≡ true → is_live x ≡ true → r.service ≡ k.service →
-    AreCounted r (with_number (place_number x.place) (held_places t s)) →
-    IsCounted (apply_changes t (change.PutTask x ∷ [])) r
-task-counted t s x k r usable le at in_place live same counted =
-    subst (λ u. IsCounted u r) (sym (new-task t x usable le)) (record {
-      each = λ u e.
-          let one = one-service s u (row_at service_id k.service t.services) at
-          (ap (λ n. row_at service_id n t.services) (sym same) ∙ e) in
-          subst (λ v. AreCounted r (held_places (with_task t x) v)) one
-          (subst (AreCounted r) (sym (held-more t s x in_place live)) counted);
-    })
+    go : (b : Bool) → eqb number (first_gap 1 left) ≡ b → number ≡ first_gap 1 left
+    go true e = grind (arith, nat_tests, e)
+    go false e = before (λ same. differs same)
+      where
+        differs : number ≡ first_gap 1 left → ⊥
+        differs same = grind (arith, nat_tests, e, same)
 
--- the same where its place is held
-pub task-held : (t : Tables) (s : Service) (x : Task) (k : Counted) → IsUsable t → t.next_id ≤ x.id →
-    row_at service_id k.service t.services ≡ Some s → stands s x ≡ true → is_live x ≡ true →
-    is_held_place t s (place_number x.place) ≡ true → IsCounted t k →
-    IsCounted (apply_changes t (change.PutTask x ∷ [])) k
-task-held t s x k usable le at in_place live held counted =
-    task-counted t s x k k usable le at in_place live refl
-    (subst (AreCounted k)
-    (sym (number-in (place_number x.place) (held_places t s) (held-rise t s) (held-has t s (place_number x.place) held)))
-    (counted.each s at))
+pub without-place : (k : Counted) (number held gap : ℕ) (left : List ℕ) → held ≡ k.held - 1 →
+    (k.gap ≡ first_gap 1 (with_number number left) → gap ≡ first_gap 1 left) → (Has left number → ⊥) →
+    AreCounted k (with_number number left) → AreCounted (record { service = k.service; held = held; gap = gap }) left
+without-place k number held gap left is next none counted = record {
+  held =
+      let was : k.held ≡ length left + 1 = counted.held ∙ length-with number left none in
+      omega (arith, is, was);
+  gap = next counted.gap;
+}
 
--- by the number of its place
+-- Places of which others than one, or all, are held as before.
 
-pub at-held : (t : Tables) (s : Service) (x : Task) (k : Counted) (number : ℕ) → IsUsable t → t.next_id ≤ x.id →
-    row_at service_id k.service t.services ≡ Some s → holds s x ≡ true → number ≡ place_number x.place →
-    is_held_place t s number ≡ true → IsCounted t k → IsCounted (apply_changes t (change.PutTask x ∷ [])) k
-at-held t s x k number usable new at it_holds there held =
-    task-held t s x k usable new at (second_so (is_live x) (stands s x) it_holds)
-    (first_so (is_live x) (stands s x) it_holds) (subst (λ n. is_held_place t s n ≡ true) there held)
+rising-same : (xs ys : List ℕ) → IsRising itself xs → IsRising itself ys → ((j : ℕ) → Has xs j → Has ys j) →
+    ((j : ℕ) → Has ys j → Has xs j) → xs ≡ ys
+rising-same [] [] r s there back = refl
+rising-same [] (y ∷ ys) r s there back = absurd (back y (inl refl))
+rising-same (x ∷ xs) [] r s there back = absurd (there x (inl refl))
+rising-same (x ∷ xs) (y ∷ ys) r s there back =
+    ap (λ z. z ∷ xs) first ∙ ap (λ zs. y ∷ zs)
+    (rising-same xs ys (rises_from x xs r) (rises_from y ys s) (λ j h. tail x y xs ys r first there j h) (λ j h. tail y x ys xs s (sym first) back j h))
+  where
+    heads : Has (y ∷ ys) x → Has (x ∷ xs) y → x ≡ y
+    heads (inl e) h = sym e
+    heads (inr g) (inl e) = e
+    heads (inr g) (inr h) =
+        let above : y < x = number_above itself y ys x s g in
+        let below : x < y = number_above itself x xs y r h in
+        absurd (omega (arith, above, below))
 
-pub at-free : (t : Tables) (s : Service) (x : Task) (k r : Counted) (number : ℕ) → IsUsable t → t.next_id ≤ x.id →
-    row_at service_id k.service t.services ≡ Some s → holds s x ≡ true → number ≡ place_number x.place →
-    r.service ≡ k.service → AreCounted r (with_number number (held_places t s)) →
-    IsCounted (apply_changes t (change.PutTask x ∷ [])) r
-at-free t s x k r number usable new at it_holds there same counted =
-    task-counted t s x k r usable new at (second_so (is_live x) (stands s x) it_holds)
-    (first_so (is_live x) (stands s x) it_holds) same
-    (subst (λ n. AreCounted r (with_number n (held_places t s))) there counted)
+    first : x ≡ y
+    first = heads (there x (inl refl)) (back y (inl refl))
+
+    tail : (x y : ℕ) (xs ys : List ℕ) → RisesFrom itself x xs → x ≡ y → ((j : ℕ) → Has (x ∷ xs) j → Has (y ∷ ys) j) →
+        (j : ℕ) → Has xs j → Has ys j
+    tail x y xs ys r e there j h = go (there j (inr h))
+      where
+        go : Has (y ∷ ys) j → Has ys j
+        go (inl same) = let above : x < j = number_above itself x xs j r h in absurd (omega (arith, above, e, same))
+        go (inr h) = h
+
+held-is : (t : Tables) (s : Service) (k : ℕ) → Has (held_places t s) k → is_held_place t s k ≡ true
+held-is t s k h = (Has-filter_cases (is_held_place t s) (place_numbers t s) k h).1
+
+pub same-places : (t u : Tables) (s : Service) → ((j : ℕ) → is_held_place u s j ≡ is_held_place t s j) →
+    held_places u s ≡ held_places t s
+same-places t u s same =
+    rising-same (held_places u s) (held_places t s) (held-rise u s) (held-rise t s)
+    (λ j h. held-has t s j (sym (same j) ∙ held-is u s j h)) (λ j h. held-has u s j (same j ∙ held-is t s j h))
+
+pub more-places : (t u : Tables) (s : Service) (k : ℕ) → is_held_place u s k ≡ true →
+    ((j : ℕ) → (k ≡ j → ⊥) → is_held_place u s j ≡ is_held_place t s j) →
+    held_places u s ≡ with_number k (held_places t s)
+more-places t u s k here away =
+    rising-same (held_places u s) (with_number k (held_places t s)) (held-rise u s)
+    (with-rising k (held_places t s) (held-rise t s)) (λ j h. there j h (eqb k j) refl) back
+  where
+    there : (j : ℕ) → Has (held_places u s) j → (b : Bool) → eqb k j ≡ b → Has (with_number k (held_places t s)) j
+    there j h true e =
+        let same : k ≡ j = grind (arith, nat_tests, e) in
+        subst (Has (with_number k (held_places t s))) same (Has-with_row itself k (held_places t s))
+    there j h false e =
+        Has-with_number_keeps k j (held_places t s) (held-has t s j (sym (away j differs) ∙ held-is u s j h))
+      where
+        differs : k ≡ j → ⊥
+        differs same = grind (arith, nat_tests, e, same)
+
+    other : (j : ℕ) → is_held_place t s j ≡ true → (b : Bool) → eqb k j ≡ b → is_held_place u s j ≡ true
+    other j is true e =
+        let same : k ≡ j = grind (arith, nat_tests, e) in subst (λ n. is_held_place u s n ≡ true) same here
+    other j is false e = away j differs ∙ is
+      where
+        differs : k ≡ j → ⊥
+        differs same = grind (arith, nat_tests, e, same)
+
+    back : (j : ℕ) → Has (with_number k (held_places t s)) j → Has (held_places u s) j
+    back j h = elim (with_number-cases k j (held_places t s) h) [
+      | inl same ↦ held-has u s j (subst (λ n. is_held_place u s n ≡ true) same here)
+      | inr old ↦ held-has u s j (other j (held-is t s j old) (eqb k j) refl)
+    ]

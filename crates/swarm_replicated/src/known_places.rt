@@ -1,19 +1,21 @@
-// What is remembered of the places of one service, so that they aren't counted again for each of its tasks.
-ghost use Rattle.std.specs.Prelude.{◌≡◌, ◌∷◌, ◌≤◌, [], IfSome, Some, false, length, nat_lt, true};
+// What is remembered of the places of some services, so that they aren't counted again for each of their tasks.
+ghost use Rattle.std.specs.Prelude.{◌%◌, ◌≡◌, IfSome, List, Some, false, length, nat_lt, true, ℕ};
 ghost use Rattle.std.specs.List.{list_all};
-ghost use Rattle.role_words.specs.Marks.{stands};
 ghost use Rattle.swarm_objects.specs.ChangeLists.{apply_changes};
 ghost use Rattle.swarm_objects.specs.Loops.Replicated.{create_duty, down_duty};
-ghost use Rattle.swarm_objects.specs.Rows.{first_gap, first_of, row_at, service_id, task_id, with_number};
+ghost use Rattle.swarm_objects.specs.Rows.{Has, IsRising, first_gap, first_of, itself, row_at, service_id, with_number};
 ghost use Rattle.swarm_objects.specs.Tasks.Places.{held_places, is_held_place};
 ghost use Rattle.swarm_objects.specs.Usable.{IsUsable};
 ghost use Rattle.swarm_objects.specs.World.{Tables};
-ghost use Rattle.swarm_objects.specs.declared.rows.Change.TheVariants as change;
-ghost use Rattle.swarm_replicated.specs.KnownPlaces.{AreCounted, IsCounted, Knows, holds, is_task_of, leaves, replaces};
+ghost use Rattle.swarm_replicated.specs.KnownPlaces.{AreCounted, IsCounted, IsKept, Knows};
+ghost use Rattle.swarm_replicated.specs.Inside.Touches.{touches_only};
+ghost use Rattle.swarm_replicated.specs.Inside.Turns.{spares};
 
+use crate::place_changes::{all_spare, first_number, will_hold};
 use crate::slots::{gives_up, held_bound};
+use crate::touches::{all_touch_only, first_touched};
 use role_words::{is_held_place, tally};
-use swarm_objects::{Change, Duty, Id, Mode, Rows, Service, Task};
+use swarm_objects::{Change, Duty, Id, Mode, Rows, Service};
 
 // How many places of the service are held, and the least number from 1 on that isn't.
 #[derive(Clone, Copy, Drop)]
@@ -23,39 +25,21 @@ struct Counted {
     gap: u64,
 }
 
-/// What is remembered of the service whose places were counted last.
+// How many services are remembered.
+const SLOTS: usize = 8;
+
+/// What is remembered of services. Each has one slot, by the rest of its id; of services with the same slot the last
+/// one is remembered.
 #[derive(Drop)]
 pub struct KnownPlaces {
-    counted: Option<Counted>,
+    counted: [Option<Counted>; SLOTS],
 }
 
-// The task with this id is one of the service's.
-fn is_task_of<R: Rows>(rows: &R, service: Id, task: Id) -> bool
-    ensures { result ≡ is_task_of (R.tables rows.now) service task }
+// The service's slot.
+fn slot_of(service: Id) -> usize
+    ensures { result ≡ service % 8 }
 {
-    match rows.task(task) {
-        Some(task) => task.is_of(service),
-        None => false,
-    }
-}
-
-// The change leaves the service and its tasks as they are.
-fn leaves<R: Rows>(rows: &R, service: Id, change: &Change) -> bool
-    ensures { result ≡ leaves (R.tables rows.now) service change.now }
-{
-    match change {
-        Change::PutNode(_) | Change::Keep(_) => true,
-        Change::PutService(put) => put.id != service,
-        Change::PutTask(task) => !task.is_of(service) && !is_task_of(rows, service, task.id),
-        Change::DropTask(task) => !is_task_of(rows, service, *task),
-    }
-}
-
-// All of them do.
-fn all_leave<R: Rows>(rows: &R, service: Id, changes: &[Change]) -> bool
-    ensures { result ≡ list_all (leaves (R.tables rows.now) service) changes.now }
-{
-    changes.iter().all(|change| leaves(rows, service, change))
+    service as usize % SLOTS
 }
 
 // The least number from 1 on that isn't held once this one is, which was the least.
@@ -65,41 +49,12 @@ fn next_gap<R: Rows>(rows: &R, service: &Service, gap: u64) -> Option<u64>
     ensures { IfSome result (λ next.
         next ≡ first_gap 1 (with_number gap (held_places (R.tables rows.now) service.now))) }
 {
-    for next in gap..u64::MAX {
-        if next != gap && !is_held_place(rows, service, next) {
+    for next in gap.checked_add(1)?..u64::MAX {
+        if !is_held_place(rows, service, next) {
             return Some(next);
         }
     }
     None
-}
-
-// The task stands in the service's place with its number.
-fn stands(service: &Service, task: &Task) -> bool
-    ensures { result ≡ stands service.now task.now }
-{
-    task.is_in_place(
-        service,
-        service.spec.mode.place_at(task.place.place_number()),
-    )
-}
-
-// The task is live and stands in its place, so this is held.
-fn holds(service: &Service, task: &Task) -> bool
-    ensures { result ≡ holds service.now task.now }
-{
-    task.is_live() && stands(service, task)
-}
-
-// A task with its id is there, and holds the place with the same number.
-fn replaces<R: Rows>(rows: &R, service: &Service, task: &Task) -> bool
-    ensures { result ≡ replaces (R.tables rows.now) service.now task.now }
-{
-    match rows.task(task.id) {
-        Some(former) => {
-            holds(service, former) && former.place.place_number() == task.place.place_number()
-        }
-        None => false,
-    }
 }
 
 impl Counted {
@@ -135,59 +90,94 @@ impl Counted {
         })
     }
 
-    // With a new task that holds its place.
-    fn with_new<R: Rows>(self, rows: &R, service: &Service, task: &Task) -> Option<Counted>
+    // The least number from 1 on that isn't held once this one isn't any more.
+    fn gap_without(self, number: u64) -> u64
+        ensures { (left : List ℕ) → IsRising itself left → (Has left number → ⊥)
+            → self.gap ≡ first_gap 1 (with_number number left) → result ≡ first_gap 1 left }
+    {
+        if number == 0 {
+            return self.gap;
+        }
+        if self.gap <= number {
+            return self.gap;
+        }
+        number
+    }
+
+    // With one place less, that was held.
+    fn without_place(self, number: u64) -> Option<Counted>
+        ensures service { IfSome result (λ k. k.service ≡ self.service) }
+        ensures counted { (left : List ℕ) → IsRising itself left → (Has left number → ⊥)
+            → AreCounted self (with_number number left) → IfSome result (λ k. AreCounted k left) }
+    {
+        let held = self.held.checked_sub(1)?;
+        let gap = self.gap_without(number);
+        Some(Counted {
+            service: self.service,
+            held,
+            gap,
+        })
+    }
+
+    // After these changes, which spare each place but that with this number.
+    fn after_place<R: Rows>(
+        self,
+        rows: &R,
+        service: &Service,
+        number: u64,
+        changes: &[Change],
+    ) -> Option<Counted>
         requires usable { IsUsable (R.tables rows.now) }
         requires counted { IsCounted (R.tables rows.now) self }
         requires row { row_at service_id self.service (R.tables rows.now).services ≡ Some service.now }
-        requires new { (R.tables rows.now).next_id ≤ task.now.id }
-        requires holds { holds service.now task.now ≡ true }
-        ensures { IfSome result (IsCounted (apply_changes (R.tables rows.now) (change.PutTask task.now ∷ []))) }
+        requires spared { list_all (spares (R.tables rows.now) service.now (Some number)) changes.now ≡ true }
+        ensures counted { IfSome result (IsCounted (apply_changes (R.tables rows.now) changes.now)) }
+        ensures service { IfSome result (λ k. k.service ≡ self.service) }
     {
-        let number = task.place.place_number();
+        let later = will_hold(rows, service, number, changes)?;
         if is_held_place(rows, service, number) {
-            return Some(self);
+            if later {
+                return Some(self);
+            }
+            return self.without_place(number);
         }
-        match self.with_place(rows, service, number) {
-            Some(counted) => Some(counted),
-            None => None,
+        if later {
+            return self.with_place(rows, service, number);
         }
+        Some(self)
     }
 
-    // With the service's task, where it holds its place and is new, or takes the place of one that held the same.
-    fn with_task<R: Rows>(self, rows: &R, task: &Task) -> Option<Counted>
+    // After these changes, where they matter in one place of the service at most, and what becomes of it is sure.
+    fn after<R: Rows>(self, rows: &R, changes: &[Change]) -> Option<Counted>
         requires usable { IsUsable (R.tables rows.now) }
         requires counted { IsCounted (R.tables rows.now) self }
-        ensures { IfSome result (IsCounted (apply_changes (R.tables rows.now) (change.PutTask task.now ∷ []))) }
+        ensures counted { IfSome result (IsCounted (apply_changes (R.tables rows.now) changes.now)) }
+        ensures service { IfSome result (λ k. k.service ≡ self.service) }
     {
         let Some(service) = rows.service(self.service) else {
             return None;
         };
-        if !holds(service, task) {
+        let place = first_number(rows, service, changes);
+        if !all_spare(rows, service, place, changes) {
             return None;
         }
-        if task.id >= rows.next_id() {
-            return self.with_new(rows, service, task);
+        match place {
+            Some(number) => self.after_place(rows, service, number, changes),
+            None => Some(self),
         }
-        if replaces(rows, service, task) {
-            return Some(self);
-        }
-        None
     }
+}
 
-    // After these changes, where they are one task of the service.
-    fn after_one<R: Rows>(self, rows: &R, changes: &[Change]) -> Option<Counted>
-        requires usable { IsUsable (R.tables rows.now) }
-        requires counted { IsCounted (R.tables rows.now) self }
-        ensures { IfSome result (IsCounted (apply_changes (R.tables rows.now) changes.now)) }
-    {
-        let Some((Change::PutTask(task), others)) = changes.split_first() else {
-            return None;
-        };
-        if !others.is_empty() {
-            return None;
-        }
-        self.with_task(rows, task)
+// The same of what may be remembered.
+fn after<R: Rows>(counted: Option<Counted>, rows: &R, changes: &[Change]) -> Option<Counted>
+    requires usable { IsUsable (R.tables rows.now) }
+    requires counted { IfSome counted (IsCounted (R.tables rows.now)) }
+    ensures { let t = R.tables rows.now in (slot : ℕ) → IfSome counted (IsKept t slot)
+        → IfSome result (IsKept (apply_changes t changes.now) slot) }
+{
+    match counted {
+        Some(counted) => counted.after(rows, changes),
+        None => None,
     }
 }
 
@@ -196,14 +186,16 @@ impl KnownPlaces {
     pub fn none() -> KnownPlaces
         ensures { (t : Tables) → Knows t result }
     {
-        KnownPlaces { counted: None }
+        KnownPlaces {
+            counted: [None; SLOTS],
+        }
     }
 
     /// Nothing is remembered any more.
     pub fn forget_all(&mut self)
         ensures { (t : Tables) → Knows t self.new }
     {
-        self.counted = None;
+        *self = KnownPlaces::none();
     }
 
     // What is remembered of the service's places.
@@ -213,7 +205,8 @@ impl KnownPlaces {
         ensures service { IfSome result (λ k. k.service ≡ service.now.id) }
         ensures counted { IfSome result (λ k. AreCounted k (held_places (R.tables rows.now) service.now)) }
     {
-        match self.counted {
+        let counted = self.counted[slot_of(service.id)];
+        match counted {
             Some(counted) if counted.service == service.id => Some(counted),
             _ => None,
         }
@@ -221,12 +214,13 @@ impl KnownPlaces {
 
     // Remembers what was counted of the service.
     fn remember<R: Rows>(&mut self, rows: &R, service: &Service, counted: Counted)
+        requires knows { Knows (R.tables rows.now) self.old }
         requires row { row_at service_id service.now.id (R.tables rows.now).services ≡ Some service.now }
         requires service { counted.service ≡ service.now.id }
         requires counted { AreCounted counted (held_places (R.tables rows.now) service.now) }
         ensures { Knows (R.tables rows.now) self.new }
     {
-        self.counted = Some(counted);
+        self.counted[slot_of(service.id)] = Some(counted);
     }
 
     // How many places of the service are held, and the least number from 1 on that isn't: as remembered, or else
@@ -263,8 +257,27 @@ impl KnownPlaces {
         replicas < held_bound(rows, service) && replicas < self.count(rows, service).held
     }
 
-    /// Forgets what these changes may change, before they are made. Gives what is known once they are: the same, with
-    /// one task of the service where that is all they are, which is new or goes on to hold its place.
+    // Goes over the slot of the one service that these changes touch, before they are made.
+    fn turn<R: Rows>(&mut self, rows: &R, changes: &[Change], service: Id) -> KnownPlaces
+        requires usable { IsUsable (R.tables rows.now) }
+        requires knows { Knows (R.tables rows.now) self.old }
+        requires touched { list_all (touches_only (R.tables rows.now) (Some service)) changes.now ≡ true }
+        ensures stays { Knows (R.tables rows.now) self.new }
+        ensures goes_on { Knows (apply_changes (R.tables rows.now) changes.now) self.new }
+        ensures after { Knows (apply_changes (R.tables rows.now) changes.now) result }
+    {
+        let slot = slot_of(service);
+        let counted = after(self.counted[slot], rows, changes);
+        let mut then = KnownPlaces {
+            counted: self.counted,
+        };
+        then.counted[slot] = counted;
+        self.counted[slot] = None;
+        then
+    }
+
+    /// Forgets what these changes may change, before they are made. Gives what is known once they are: where they
+    /// matter in one place of one service at most, and it is sure whether that is held then, it is counted in or out.
     pub fn forget_changed<R: Rows>(&mut self, rows: &R, changes: &[Change]) -> KnownPlaces
         requires usable { IsUsable (R.tables rows.now) }
         requires knows { Knows (R.tables rows.now) self.old }
@@ -272,32 +285,22 @@ impl KnownPlaces {
         ensures goes_on { Knows (apply_changes (R.tables rows.now) changes.now) self.new }
         ensures after { Knows (apply_changes (R.tables rows.now) changes.now) result }
     {
-        let Some(counted) = self.counted else {
+        let service = first_touched(rows, changes);
+        if !all_touch_only(rows, service, changes) {
+            self.forget_all();
             return KnownPlaces::none();
-        };
-        if all_leave(rows, counted.service, changes) {
-            return KnownPlaces {
-                counted: Some(counted),
-            };
         }
-        self.counted = None;
-        KnownPlaces {
-            counted: counted.after_one(rows, changes),
+        match service {
+            Some(service) => self.turn(rows, changes, service),
+            None => KnownPlaces {
+                counted: self.counted,
+            },
         }
-    }
-
-    /// Goes on to what is known once these changes are made, before they are.
-    pub fn note_changes<R: Rows>(&mut self, rows: &R, changes: &[Change])
-        requires usable { IsUsable (R.tables rows.now) }
-        requires knows { Knows (R.tables rows.now) self.old }
-        ensures { Knows (apply_changes (R.tables rows.now) changes.now) self.new }
-    {
-        *self = self.forget_changed(rows, changes);
     }
 }
 
 /// As `create_duty`, by what is remembered of the service's places, or else by a count, which is remembered.
-pub fn create_duty_by<R: Rows>(known: &mut KnownPlaces, rows: &R, service: &Service) -> Option<Duty>
+pub fn create_duty_by<R: Rows>(rows: &R, known: &mut KnownPlaces, service: &Service) -> Option<Duty>
     requires usable { IsUsable (R.tables rows.now) }
     requires knows { Knows (R.tables rows.now) known.old }
     requires row { row_at service_id service.now.id (R.tables rows.now).services ≡ Some service.now }
@@ -315,7 +318,7 @@ pub fn create_duty_by<R: Rows>(known: &mut KnownPlaces, rows: &R, service: &Serv
 }
 
 /// As `down_duty`, by what is remembered of the service's places, or else by a count, which is remembered.
-pub fn down_duty_by<R: Rows>(known: &mut KnownPlaces, rows: &R, service: &Service) -> Option<Duty>
+pub fn down_duty_by<R: Rows>(rows: &R, known: &mut KnownPlaces, service: &Service) -> Option<Duty>
     requires usable { IsUsable (R.tables rows.now) }
     requires knows { Knows (R.tables rows.now) known.old }
     requires row { row_at service_id service.now.id (R.tables rows.now).services ≡ Some service.now }
@@ -329,4 +332,22 @@ pub fn down_duty_by<R: Rows>(known: &mut KnownPlaces, rows: &R, service: &Servic
         return None;
     }
     gives_up(rows, service)
+}
+
+/// The slot in which the service gets a new task, where fewer are held than there are to be replicas.
+pub fn create_duty<R: Rows>(rows: &R, service: &Service) -> Option<Duty>
+    requires usable { IsUsable (R.tables rows.now) }
+    requires row { row_at service_id service.now.id (R.tables rows.now).services ≡ Some service.now }
+    ensures { result ≡ first_of (create_duty (R.tables rows.now) service.now service.now.spec.mode) }
+{
+    create_duty_by(rows, &mut KnownPlaces::none(), service)
+}
+
+/// The slot that the service gives up, where more are held than there are to be replicas.
+pub fn down_duty<R: Rows>(rows: &R, service: &Service) -> Option<Duty>
+    requires usable { IsUsable (R.tables rows.now) }
+    requires row { row_at service_id service.now.id (R.tables rows.now).services ≡ Some service.now }
+    ensures { result ≡ first_of (down_duty (R.tables rows.now) service.now service.now.spec.mode) }
+{
+    down_duty_by(rows, &mut KnownPlaces::none(), service)
 }

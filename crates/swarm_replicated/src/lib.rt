@@ -6,7 +6,10 @@ mod changing;
 mod crowds;
 mod known_places;
 mod order;
+mod place_changes;
 mod slots;
+mod touches;
+mod weights;
 
 ghost use Rattle.std.specs.Prelude.{◌≡◌, flat_map};
 ghost use Rattle.swarm_objects.specs.Loops.Replicated.{
@@ -20,8 +23,8 @@ ghost use Rattle.swarm_objects.specs.Rows.{first_of};
 ghost use Rattle.swarm_objects.specs.Usable.{IsUsable};
 
 pub use changing::changes;
+use known_places::{create_duty, down_duty};
 pub use known_places::{KnownPlaces, create_duty_by, down_duty_by};
-pub use slots::{create_duty, down_duty};
 use swarm_objects::walks::{services, tasks};
 use swarm_objects::{Duty, Rows, Task};
 
@@ -47,6 +50,7 @@ fn first_gone<R: Rows>(rows: &R) -> Option<Duty>
 }
 
 // The first slot that is given up.
+#[tactic(auto, using(crate::proofs::Services::row_steps))]
 fn first_down<R: Rows>(rows: &R) -> Option<Duty>
     requires { IsUsable (R.tables rows.now) }
     ensures { let t = R.tables rows.now in
@@ -61,6 +65,7 @@ fn first_down<R: Rows>(rows: &R) -> Option<Duty>
 }
 
 // The first slot that gets a task.
+#[tactic(auto, using(crate::proofs::Services::row_steps))]
 fn first_create<R: Rows>(rows: &R) -> Option<Duty>
     requires { IsUsable (R.tables rows.now) }
     ensures { let t = R.tables rows.now in

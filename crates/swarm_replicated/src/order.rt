@@ -4,10 +4,11 @@ ghost use Rattle.swarm_objects.specs.Kinds.{bit};
 ghost use Rattle.swarm_objects.specs.Loops.Replicated.{first_to_go};
 ghost use Rattle.swarm_objects.specs.Rows.{keep_least};
 ghost use Rattle.swarm_objects.specs.Usable.{IsUsable};
-ghost use Rattle.swarm_replicated.specs.Inside.Candidates.{candidate, candidate_cmp};
+ghost use Rattle.swarm_replicated.specs.Inside.Candidates.{candidate_cmp, weighed};
 
 use crate::crowds::Crowds;
-use role_words::{held_places, place_tasks};
+use crate::weights::{Weight, Weights};
+use role_words::held_places;
 use std::cmp::Ordering;
 use swarm_objects::{Rows, Service};
 
@@ -48,38 +49,28 @@ fn sooner(first: Option<Candidate>, place: Candidate) -> Option<Candidate>
     }
 }
 
-// The place with this number, by one walk over its tasks.
-fn weigh<R: Rows>(crowds: &mut Crowds<R>, rows: &R, service: &Service, number: u64) -> Candidate
-    requires usable { IsUsable (R.tables rows.now) }
-    requires counts { crowds.old ≡ record { tables = R.tables rows.now; service = service.now } }
-    ensures place { result ≡ candidate (R.tables rows.now) service.now number }
-    ensures same { crowds.new ≡ crowds.old }
+// The place with this number, as it was weighed.
+fn weighed(number: u64, weight: Weight) -> Candidate
+    ensures { result ≡ weighed number weight }
 {
-    let mut is_up = false;
-    let mut most = 0;
-    for task in place_tasks(rows, service, number) {
-        if task.is_live() {
-            is_up |= task.is_running();
-            most = most.max(crowds.crowd(task.node));
-        }
-    }
     Candidate {
         number,
-        is_up,
-        crowd: most,
+        is_up: weight.is_up,
+        crowd: weight.crowd,
     }
 }
 
-/// The first of the held places to go.
+/// The first of the held places to go, by one walk over the service's tasks for each window of place numbers.
 pub fn first_to_go<R: Rows>(rows: &R, service: &Service) -> Option<u64>
     requires { IsUsable (R.tables rows.now) }
     ensures { result ≡ first_to_go (R.tables rows.now) service.now }
 {
     let mut crowds = Crowds::new(rows, service);
+    let mut weights = Weights::from(&mut crowds, rows, service, 1);
     let mut first = None;
     for number in held_places(rows, service) {
-        let place = weigh(&mut crowds, rows, service, number);
-        first = sooner(first, place);
+        let weight = weights.weigh(&mut crowds, rows, service, number);
+        first = sooner(first, weighed(number, weight));
     }
     Some(first?.number)
 }

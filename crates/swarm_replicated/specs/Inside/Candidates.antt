@@ -7,6 +7,11 @@ use Rattle.swarm_objects.specs.Loops.Replicated.{is_up, place_crowd}
 use Rattle.swarm_objects.specs.World.{Tables}
 use Rattle.swarm_objects.specs.declared.services.Service.{Service}
 use Rattle.swarm_replicated.specs.declared.order.Candidate.{Candidate}
+use Rattle.swarm_replicated.specs.declared.weights.Weight.{Weight}
+
+-- the place with this number, as it was weighed
+abbrev pub weighed : ℕ → Weight → Candidate
+weighed k w = record { number = k; is_up = w.is_up; crowd = w.crowd }
 
 -- the place with this number
 abbrev pub candidate : Tables → Service → ℕ → Candidate

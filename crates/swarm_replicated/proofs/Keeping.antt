@@ -1,0 +1,251 @@
+-- What is remembered of services, and changes that touch one of them.
+use Rattle.std.proofs.Common.{Bool, List, None, Option, Some, ap, arith, eqb, false, get_or, length, not, refl, set, subst, sym, true, ℕ, ◌%◌, ◌<◌, ◌∙◌, ◌≡◌, ◌≢◌, ◌⊎◌, inl, inr}
+use Rattle.std.proofs.lemmas.Bool.Decides.{nat_tests}
+use Rattle.std.proofs.lemmas.List.{get_or-set_other, get_or-set_same}
+use Rattle.std.specs.List.{list_all}
+use Rattle.std.specs.Prelude.{IfSome, ◌&&◌, ◌||◌}
+use Rattle.role_words.proofs.Numbers.{number_equal, same_number}
+use Rattle.role_words.specs.Marks.{stands}
+use Rattle.swarm_objects.proofs.RowLemmas.{Has-from_row_at}
+use Rattle.swarm_objects.proofs.SameLemmas.{Decides-same_place}
+use Rattle.swarm_objects.proofs.Tests.{all-pass, both, first_so, of-all, or_cases, or_left, or_right, second_so, some-and, some-and-cases}
+use Rattle.swarm_objects.specs.ChangeLists.{apply_changes}
+use Rattle.swarm_objects.specs.Rows.{Has, is_some_and, row_at, service_id, task_id}
+use Rattle.swarm_objects.specs.Same.{same_bool, same_place}
+use Rattle.swarm_objects.specs.Services.Words.{is_job}
+use Rattle.swarm_objects.specs.Tasks.Places.{closes, counts_for, held_places, place_at, place_number}
+use Rattle.swarm_objects.specs.Tasks.Words.{is_live}
+use Rattle.swarm_objects.specs.Usable.{IsUsable}
+use Rattle.swarm_objects.specs.World.{Tables}
+use Rattle.swarm_objects.specs.declared.rows.Change.TheVariants as change
+use Rattle.swarm_objects.specs.declared.rows.Change.{Change}
+use Rattle.swarm_objects.specs.declared.services.Service.{Service}
+use Rattle.swarm_objects.specs.declared.tasks.Place.{Place}
+use Rattle.swarm_objects.specs.declared.tasks.Task.{Task}
+use Rattle.swarm_replicated.proofs.Leaving.{not-of, service-stays}
+use Rattle.swarm_replicated.proofs.Recounting.{all-spared}
+use Rattle.swarm_replicated.proofs.Turning.{is-it}
+use Rattle.swarm_replicated.specs.Inside.Touches.{is_same_standing, keeps_standing, touches_only, was_other}
+use Rattle.swarm_replicated.specs.Inside.Turns.{goes_on, is_alike, is_elsewhere, is_it, spares, was_elsewhere}
+use Rattle.swarm_replicated.specs.KnownPlaces.{AreCounted, IsCounted, IsKept, Knows}
+use Rattle.swarm_replicated.specs.declared.known_places.Counted.{Counted}
+use Rattle.swarm_replicated.specs.declared.known_places.KnownPlaces.{KnownPlaces}
+
+-- A change that touches no service but another one spares all places.
+
+yes-no : (b : Bool) → b ≡ false → not b ≡ true
+yes-no true e = absurd cc
+yes-no false e = refl
+
+-- a task of another service stands in none of these places
+not-here : (s : Service) (o : Option ℕ) (x : Task) → is_it o x.service ≡ true → (o ≡ Some s.id → ⊥) → stands s x ≡ false
+not-here s o x e apart = go (eqb x.service s.id) refl
+  where
+    go : (b : Bool) → eqb x.service s.id ≡ b → stands s x ≡ false
+    go true is = absurd (apart (is-it o x.service e ∙ ap Some (same_number x.service s.id is)))
+    go false is =
+        ap (λ b. (b && (not (is_job s.spec.mode) || eqb x.iteration s.iteration)) && same_place x.place (place_at s.spec.mode (place_number x.place))) is
+
+not-elsewhere : (s : Service) (x : Task) → stands s x ≡ false → not (is_elsewhere s None x) ≡ true
+not-elsewhere s x e = yes-no (is_elsewhere s None x) (ap (λ b. b && not (is_it None (place_number x.place))) e)
+
+-- where the task that was there is no such one
+not-was : (t : Tables) (s : Service) (id : ℕ) (o : Option Task) → row_at task_id id t.tasks ≡ o →
+    ((y : Task) → o ≡ Some y → stands s y ≡ false) → not (was_elsewhere t s None id) ≡ true
+not-was t s id None at each = ap (λ p. not (is_some_and (is_elsewhere s None) p)) at
+not-was t s id (Some y) at each =
+    ap (λ p. not (is_some_and (is_elsewhere s None) p)) at ∙ not-elsewhere s y (each y refl)
+
+was-here : (t : Tables) (o : Option ℕ) (id : ℕ) (y : Task) → row_at task_id id t.tasks ≡ Some y →
+    not (was_other t o id) ≡ true → is_it o y.service ≡ true
+was-here t o id y at e =
+    twice (is_it o y.service) (sym (ap (is_some_and (λ (z : Task). not (is_it o z.service))) at) ∙ not-of (was_other t o id) e)
+  where
+    twice : (b : Bool) → not b ≡ false → b ≡ true
+    twice true e = refl
+    twice false e = absurd cc
+
+unmoved : (t : Tables) (s : Service) (o : Option ℕ) (id : ℕ) → not (was_other t o id) ≡ true → (o ≡ Some s.id → ⊥) →
+    not (was_elsewhere t s None id) ≡ true
+unmoved t s o id e apart =
+    not-was t s id (row_at task_id id t.tasks) refl
+    (λ y at. not-here s o y (was-here t o id y at e) apart)
+
+same-counts : (s : Service) (x y : Task) → x.service ≡ y.service → x.iteration ≡ y.iteration → counts_for s x ≡ counts_for s y
+same-counts s x y service iteration =
+    ap (λ n. eqb n s.id && (not (is_job s.spec.mode) || eqb x.iteration s.iteration)) service
+    ∙ ap (λ n. eqb y.service s.id && (not (is_job s.spec.mode) || eqb n s.iteration)) iteration
+
+same-stands : (s : Service) (x y : Task) → x.service ≡ y.service → x.place ≡ y.place → x.iteration ≡ y.iteration →
+    stands s x ≡ stands s y
+same-stands s x y service place iteration =
+    ap (λ b. b && same_place x.place (place_at s.spec.mode (place_number x.place))) (same-counts s x y service iteration)
+    ∙ ap (λ (p : Place). counts_for s y && same_place p (place_at s.spec.mode (place_number p))) place
+
+kept-standing : (t : Tables) (s : Service) (x : Task) → keeps_standing t x ≡ true → spares t s None (change.PutTask x) ≡ true
+kept-standing t s x e = go (stands s x) refl
+  where
+    row : (y : Task) × (row_at task_id x.id t.tasks ≡ Some y) × (is_same_standing x y ≡ true)
+    row = some-and-cases (is_same_standing x) (row_at task_id x.id t.tasks) e
+
+    y : Task
+    y = row.0
+
+    four : ((eqb x.service y.service && same_place x.place y.place) && eqb x.iteration y.iteration) && same_bool (is_live x) (is_live y) ≡ true
+    four = first_so _ (same_bool (closes x) (closes y)) row.2
+
+    three : (eqb x.service y.service && same_place x.place y.place) && eqb x.iteration y.iteration ≡ true
+    three = first_so _ (same_bool (is_live x) (is_live y)) four
+
+    two : eqb x.service y.service && same_place x.place y.place ≡ true
+    two = first_so _ (eqb x.iteration y.iteration) three
+
+    place : x.place ≡ y.place
+    place = (Decides-same_place x.place y.place).0 (second_so (eqb x.service y.service) _ two)
+
+    same : stands s x ≡ stands s y
+    same =
+        same-stands s x y (same_number x.service y.service (first_so (eqb x.service y.service) _ two)) place
+        (same_number x.iteration y.iteration (second_so (eqb x.service y.service && same_place x.place y.place) _ three))
+
+    number : eqb (place_number x.place) (place_number y.place) ≡ true
+    number = number_equal (place_number x.place) (place_number y.place) (ap place_number place)
+
+    go : (b : Bool) → stands s x ≡ b → spares t s None (change.PutTask x) ≡ true
+    go true is =
+        or_left (goes_on t s x) (not (is_elsewhere s None x) && not (was_elsewhere t s None x.id))
+        (some-and (is_alike s x) (row_at task_id x.id t.tasks) y row.1
+        (both _ (same_bool (closes x) (closes y))
+        (both _ (same_bool (is_live x) (is_live y))
+        (both (stands s x && stands s y) _ (both (stands s x) (stands s y) is (sym same ∙ is)) number)
+        (second_so _ (same_bool (is_live x) (is_live y)) four))
+        (second_so _ (same_bool (closes x) (closes y)) row.2)))
+    go false is =
+        or_right (goes_on t s x) (not (is_elsewhere s None x) && not (was_elsewhere t s None x.id))
+        (both (not (is_elsewhere s None x)) (not (was_elsewhere t s None x.id)) (not-elsewhere s x is)
+        (not-was t s x.id (Some y) row.1 (λ z e. let is_y : y ≡ z = cc in subst (λ (v : Task). stands s v ≡ false) is_y (sym same ∙ is))))
+
+spared-other : (t : Tables) (s : Service) (o : Option ℕ) (c : Change) → touches_only t o c ≡ true → (o ≡ Some s.id → ⊥) →
+    spares t s None c ≡ true
+spared-other t s o (change.PutNode n) e apart = refl
+spared-other t s o (change.PutService v) e apart = yes-no (eqb v.id s.id) (go (eqb v.id s.id) refl)
+  where
+    go : (b : Bool) → eqb v.id s.id ≡ b → b ≡ false
+    go true is = absurd (apart (is-it o v.id e ∙ ap Some (same_number v.id s.id is)))
+    go false is = refl
+spared-other t s o (change.PutTask x) e apart =
+    go (or_cases (keeps_standing t x) (is_it o x.service && not (was_other t o x.id)) e)
+  where
+    go : (keeps_standing t x ≡ true) ⊎ (is_it o x.service && not (was_other t o x.id) ≡ true) →
+        spares t s None (change.PutTask x) ≡ true
+    go (inl kept) = kept-standing t s x kept
+    go (inr other) =
+        or_right (goes_on t s x) (not (is_elsewhere s None x) && not (was_elsewhere t s None x.id))
+        (both (not (is_elsewhere s None x)) (not (was_elsewhere t s None x.id))
+        (not-elsewhere s x (not-here s o x (first_so (is_it o x.service) _ other) apart))
+        (unmoved t s o x.id (second_so (is_it o x.service) _ other) apart))
+spared-other t s o (change.DropTask id) e apart = unmoved t s o id e apart
+spared-other t s o (change.Keep a) e apart = refl
+
+-- What is remembered of another service goes on.
+untouched : (t : Tables) (k : Counted) (o : Option ℕ) (cs : List Change) → IsUsable t → IsCounted t k →
+    list_all (touches_only t o) cs ≡ true → (o ≡ Some k.service → ⊥) → IsCounted (apply_changes t cs) k
+untouched t k o cs usable counted all apart = record {
+  each = λ s e.
+      let there = sym (service-stays cs t k.service other) ∙ e in
+      (all-spared t s k cs usable counted there
+      (all-pass (spares t s None) cs
+      (λ c h. spared-other t s o c (of-all (touches_only t o) cs c all h) (λ is. apart (is ∙ ap Some (its s there)))))).each s e;
+}
+  where
+    its : (s : Service) → row_at service_id k.service t.services ≡ Some s → s.id ≡ k.service
+    its s at = (Has-from_row_at service_id k.service t.services s at).1
+
+    other : (c : Change) → Has cs c → (v : Service) → c ≡ change.PutService v → not (eqb v.id k.service) ≡ true
+    other c h v is = yes-no (eqb v.id k.service) (go (eqb v.id k.service) refl)
+      where
+        go : (b : Bool) → eqb v.id k.service ≡ b → b ≡ false
+        go true same =
+            absurd (apart (is-it o v.id (subst (λ d. touches_only t o d ≡ true) is (of-all (touches_only t o) cs c all h))
+            ∙ ap Some (same_number v.id k.service same)))
+        go false same = refl
+
+-- tables with the same services and tasks
+counted-same : (t u : Tables) (k : Counted) → u.services ≡ t.services → u.tasks ≡ t.tasks → IsCounted t k → IsCounted u k
+counted-same t u k services tasks is = record {
+  each = λ s there.
+      subst (λ (all : List Task). AreCounted k (held_places (record t { tasks = all }) s)) (sym tasks)
+      (is.each s (subst (λ (all : List Service). row_at service_id k.service all ≡ Some s) services there));
+}
+
+pub knows_same : (t u : Tables) (known : KnownPlaces) → u.services ≡ t.services → u.tasks ≡ t.tasks → Knows t known →
+    Knows u known
+knows_same t u known services tasks knows = record {
+  each = λ slot lt. go slot (get_or known.counted slot None) (knows.each slot lt);
+}
+  where
+    go : (slot : ℕ) (o : Option Counted) → IfSome o (IsKept t slot) → IfSome o (IsKept u slot)
+    go slot None kept = tt
+    go slot (Some k) kept = record { counted = counted-same t u k services tasks kept.counted; stands = kept.stands }
+
+-- The slots.
+
+pub within : (service slot : ℕ) → slot ≡ service % 8 → slot < 8
+within service slot is = omega (arith, is)
+
+goes-on : (t : Tables) (o : Option ℕ) (cs : List Change) (slot : ℕ) (p : Option Counted) → IsUsable t →
+    list_all (touches_only t o) cs ≡ true → ((k : Counted) → k.service % 8 ≡ slot → o ≡ Some k.service → ⊥) →
+    IfSome p (IsKept t slot) → IfSome p (IsKept (apply_changes t cs) slot)
+goes-on t o cs slot None usable all apart kept = tt
+goes-on t o cs slot (Some k) usable all apart kept =
+    record { counted = untouched t k o cs usable kept.counted all (apart k kept.stands); stands = kept.stands }
+
+-- where no service is touched
+pub none-touched : (t : Tables) (known : KnownPlaces) (o : Option ℕ) (cs : List Change) → IsUsable t → o ≡ None →
+    list_all (touches_only t o) cs ≡ true → Knows t known → Knows (apply_changes t cs) known
+none-touched t known o cs usable is all knows = record {
+  each = λ slot lt.
+      goes-on t o cs slot (get_or known.counted slot None) usable all (λ k _ e. none k (sym is ∙ e)) (knows.each slot lt);
+}
+  where
+    none : (k : Counted) → None ≡ Some k.service → ⊥
+    none k e = absurd cc
+
+-- where one is, and its slot is filled or emptied
+pub one-touched : (t : Tables) (known : KnownPlaces) (service slot : ℕ) (cs : List Change) (p : Option Counted) → IsUsable t →
+    slot ≡ service % 8 → slot < 8 → length known.counted ≡ 8 → list_all (touches_only t (Some service)) cs ≡ true → Knows t known →
+    IfSome p (IsKept (apply_changes t cs) slot) →
+    Knows (apply_changes t cs) (record { counted = set known.counted slot p })
+one-touched t known service slot cs p usable is within wide all knows kept = record {
+  each = λ j lt. go j lt (eqb j slot) refl;
+}
+  where
+    go : (j : ℕ) → j < 8 → (b : Bool) → eqb j slot ≡ b →
+        IfSome (get_or (set known.counted slot p) j None) (IsKept (apply_changes t cs) j)
+    go j lt true e =
+        let same : slot ≡ j = grind (arith, nat_tests, e) in
+        subst (λ n. IfSome (get_or (set known.counted slot p) n None) (IsKept (apply_changes t cs) n)) same
+        (subst (λ q. IfSome q (IsKept (apply_changes t cs) slot)) (sym (get_or-set_same known.counted slot p None (omega (arith, within, wide)))) kept)
+    go j lt false e =
+        let differ : j ≢ slot = grind (arith, nat_tests, e) in
+        subst (λ q. IfSome q (IsKept (apply_changes t cs) j)) (sym (get_or-set_other known.counted slot j p None differ))
+        (goes-on t (Some service) cs j (get_or known.counted j None) usable all (apart differ) (knows.each j lt))
+      where
+        apart : j ≢ slot → (k : Counted) → k.service % 8 ≡ j → Some service ≡ Some k.service → ⊥
+        apart differ k at same =
+            let one : service ≡ k.service = cc in differ (sym at ∙ ap (λ n. n % 8) (sym one) ∙ sym is)
+
+pub counted-at : (t : Tables) (known : KnownPlaces) (slot : ℕ) → slot < 8 → Knows t known →
+    IfSome (get_or known.counted slot None) (IsCounted t)
+counted-at t known slot lt knows = go (get_or known.counted slot None) (knows.each slot lt)
+  where
+    go : (o : Option Counted) → IfSome o (IsKept t slot) → IfSome o (IsCounted t)
+    go None kept = tt
+    go (Some k) kept = kept.counted
+
+-- what is made of the slot's
+pub kept-after : (t u : Tables) (slot : ℕ) (w : Counted) (is : Option Counted) → IsKept t slot w →
+    IfSome is (IsCounted u) → IfSome is (λ k. k.service ≡ w.service) → IfSome is (IsKept u slot)
+kept-after t u slot w None kept counted same = tt
+kept-after t u slot w (Some k) kept counted same =
+    record { counted = counted; stands = ap (λ n. n % 8) same ∙ kept.stands }
