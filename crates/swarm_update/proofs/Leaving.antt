@@ -8,12 +8,11 @@ use Rattle.role_words.specs.Marks.{has_number, tasks_at}
 use Rattle.swarm_objects.proofs.Filters.{filter_again}
 use Rattle.swarm_objects.proofs.PlaceLemmas.{and_left, any_again, count_again}
 use Rattle.swarm_objects.proofs.RowLemmas.{Has-append_cases, Has-filter_cases, Has-from_row_at, Has-map_cases, row_at-Some}
-use Rattle.swarm_objects.proofs.Tests.{any_filter, both, first_so, or_false, second_so}
+use Rattle.swarm_objects.proofs.Tests.{any_filter, both, first_so, or_false, or_right, second_so}
 use Rattle.swarm_objects.specs.ChangeLists.{apply_change, apply_changes}
 use Rattle.swarm_objects.specs.Rows.{Has, drop_row, has_row, is_row_and, is_some_and, put_row, row_at, service_id, task_id, with_number}
 use Rattle.swarm_objects.specs.Same.{same_place}
 use Rattle.swarm_objects.specs.Services.Runs.{counts_as_failure, failures, is_failure}
-use Rattle.swarm_objects.specs.Services.Words.{is_dirty}
 use Rattle.swarm_objects.specs.Tasks.New.{with_task}
 use Rattle.swarm_objects.specs.Tasks.Places.{counts_for, is_in_place, place_at, place_number}
 use Rattle.swarm_objects.specs.Tasks.Words.{is_of}
@@ -26,7 +25,7 @@ use Rattle.swarm_objects.specs.declared.services.ServiceSpec.{ServiceSpec}
 use Rattle.swarm_objects.specs.declared.services.UpdateRun.{UpdateRun}
 use Rattle.swarm_objects.specs.declared.tasks.Task.{Task}
 use Rattle.swarm_update.proofs.Marking.{number_is, true_false}
-use Rattle.swarm_update.specs.KnownSurvey.{HasAlike, HasNoDirty, IsLess, IsOf, IsSo, Knows, KnowsKept, LeaveAll, Leaves, is_among, leaves_out, may_fail, touches}
+use Rattle.swarm_update.specs.KnownSurvey.{HasAlike, HasNoSuspect, IsLess, IsOf, IsSo, Knows, KnowsKept, LeaveAll, Leaves, is_among, is_suspect, leaves_out, may_fail, touches}
 use Rattle.swarm_update.specs.Marks.{mark_of}
 use Rattle.swarm_update.specs.declared.known_survey.Kept.{Kept}
 use Rattle.swarm_update.specs.declared.known_survey.KnownSurvey.{KnownSurvey}
@@ -567,9 +566,18 @@ less_set a b i m same le =
     apart : (n : ℕ) → n < WIDTH → eqb (slice_index b.stale i) n ≡ false
     apart n lt = grind (arith, nat_tests, le, lt)
 
+-- it is among them then
+set_among : (xs : List ℕ) (i m : ℕ) → 0 < get_or xs i 0 → is_among (set xs i m) m ≡ true
+set_among [] i m lt = absurd (omega (arith, lt))
+set_among (x ∷ xs) zero m lt = ap (λ b. b || is_among xs m) (number_equal m m refl)
+set_among (x ∷ xs) (suc i) m lt = or_right (eqb x m) (is_among (set xs i m) m) (set_among xs i m lt)
+
+pub stale_set : (a : Subject) (i m : ℕ) → WIDTH ≤ slice_index a.stale i → is_among (slice_set a.stale i m) m ≡ true
+stale_set a i m le = set_among a.stale i m (omega (arith, le))
+
 -- What is kept.
 
-if_some_then : {X : Type 0} {P Q : X → Type 0} (o : Option X) → IfSome o P → ((x : X) → P x → Q x) → IfSome o Q
+pub if_some_then : {X : Type 0} {P Q : X → Type 0} (o : Option X) → IfSome o P → ((x : X) → P x → Q x) → IfSome o Q
 if_some_then None h then_so = tt
 if_some_then (Some x) h then_so = then_so x h
 
@@ -622,10 +630,10 @@ kept_same t u kept services tasks clock known =
         stays_so kept.survey k t u s (Has-from_row_at service_id k.service t.services s at).1 clock
         (λ p less. ap (filter p) tasks) (h.each s at)
 
-clean_same : (t u : Tables) (id : ℕ) → u.services ≡ t.services → u.tasks ≡ t.tasks → HasNoDirty t id → HasNoDirty u id
+pub clean_same : (t u : Tables) (id : ℕ) → u.services ≡ t.services → u.tasks ≡ t.tasks → HasNoSuspect t id → HasNoSuspect u id
 clean_same t u id services tasks h = record {
   each = λ s at.
-      ap (λ l. list_any (is_dirty s) (filter (is_of s.id) l)) tasks
+      ap (λ l. list_any (is_suspect s) (filter (is_of s.id) l)) tasks
       ∙ h.each s (sym (ap (row_at service_id id) services) ∙ at);
 }
 

@@ -3,7 +3,10 @@ mod Clearing
 mod Failures
 pub mod Leaving
 mod Marking
+mod Passing
 mod Renoting
 mod Replacements
 mod Running
 mod Steps
+mod Suspects
+mod Walking

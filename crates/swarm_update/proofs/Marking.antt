@@ -232,9 +232,18 @@ shows_all t s = record {
     alone : ShowsPlaces (noted_all t s) t s (filter (is_of s.id) t.tasks)
     alone = shows_fold t s blank [] (filter (is_of s.id) t.tasks) (shows_blank t s)
 
-pub tells_all : (v : Survey) (t : Tables) (s : Service) (run : UpdateRun) → v.places ≡ noted_all t s
+tells_all : (v : Survey) (t : Tables) (s : Service) (run : UpdateRun) → v.places ≡ noted_all t s
     → v.failures ≡ count_by (is_failure s run) (filter (is_of s.id) t.tasks) → Tells v t s run
 tells_all v t s run places failed = record {
   places = subst (λ p. ShowsPlaces p t s t.tasks) (sym places) (shows_all t s);
   failures = failed ∙ failures_of_service t s run;
 }
+
+-- none is left
+pub tells_left : (v : Survey) (t : Tables) (s : Service) (run : UpdateRun) (left : List Task) → left ≡ []
+    → fold (noted t s) v.places left ≡ noted_all t s
+    → v.failures + count_by (is_failure s run) left ≡ count_by (is_failure s run) (filter (is_of s.id) t.tasks)
+    → Tells v t s run
+tells_left v t s run left is places failed =
+    let none : count_by (is_failure s run) left ≡ 0 = ap (count_by (is_failure s run)) is in
+    tells_all v t s run (sym (ap (fold (noted t s) v.places) is) ∙ places) (omega (arith, failed, none))

@@ -5,8 +5,8 @@ use Rattle.role_words.specs.Marks.{has_number, tasks_at}
 use Rattle.swarm_objects.specs.Rows.{is_row_and, row_at, service_id, task_id}
 use Rattle.swarm_objects.specs.Services.Runs.{counts_as_failure, failures}
 use Rattle.swarm_objects.specs.Services.Words.{is_dirty}
-use Rattle.swarm_objects.specs.Tasks.Places.{place_number}
-use Rattle.swarm_objects.specs.Tasks.Words.{is_of}
+use Rattle.swarm_objects.specs.Tasks.Places.{closes, place_number}
+use Rattle.swarm_objects.specs.Tasks.Words.{is_live, is_of}
 use Rattle.swarm_objects.specs.World.{Tables}
 use Rattle.swarm_objects.specs.declared.rows.Change.{Change}
 use Rattle.swarm_objects.specs.declared.rows.Change.TheVariants as change
@@ -50,15 +50,19 @@ pub record IsOf (t : Tables) (v : Survey) (k : Subject) : Type 0 where
 abbrev pub KnowsKept : Tables → Kept → Type 0
 KnowsKept t kept = IfSome kept.subject (IsOf t kept.survey)
 
--- the service with this id, where it is there, has no dirty task
-pub record HasNoDirty (t : Tables) (id : ℕ) : Type 0 where
+-- the task may make its place dirty
+abbrev pub is_suspect : Service → Task → Bool
+is_suspect s x = (is_live x || closes x) && is_dirty s x
+
+-- the service with this id, where it is there, has no such task
+pub record HasNoSuspect (t : Tables) (id : ℕ) : Type 0 where
   pub each : (s : Service) → row_at service_id id t.services ≡ Some s
-      → list_any (is_dirty s) (filter (is_of s.id) t.tasks) ≡ false
+      → list_any (is_suspect s) (filter (is_of s.id) t.tasks) ≡ false
 
 -- whatever is remembered is so
 pub record Knows (t : Tables) (known : KnownSurvey) : Type 0 where
   pub survey : IfSome known.kept (λ kept. KnowsKept t kept.value)
-  pub clean : IfSome known.clean (HasNoDirty t)
+  pub clean : IfSome known.clean (HasNoSuspect t)
 
 -- The changes.
 
@@ -76,7 +80,7 @@ touches k far x =
     is_of k.service x
     && (not (leaves_out k far (place_number x.place)) || (k.is_counted && may_fail k.version x))
 
--- the row with the service's id is the same, in what a survey and the test of dirty tasks read
+-- the row with the service's id is the same, in what a survey and the test of suspects read
 pub record HasAlike (t : Tables) (s : Service) : Type 0 where
   pub row : Service
   pub is : row_at service_id s.id t.services ≡ Some row
@@ -97,15 +101,15 @@ abbrev pub LeaveAll : Tables → Subject → Bool → List Change → Type 0
 LeaveAll t k far [] = ⊤
 LeaveAll t k far (c ∷ cs) = Leaves t k far c × LeaveAll t k far cs
 
--- the task is a dirty one of the service with this id
-abbrev pub is_dirty_of : Tables → ℕ → Task → Bool
-is_dirty_of t id x = is_of id x && is_row_and service_id (λ s. is_dirty s x) t.services id
+-- the task may make a place of the service with this id dirty
+abbrev pub is_suspect_of : Tables → ℕ → Task → Bool
+is_suspect_of t id x = is_of id x && is_row_and service_id (λ s. is_suspect s x) t.services id
 
--- the change gives the service with this id no dirty task
+-- the change gives the service with this id no such task
 abbrev pub StaysClean : Tables → ℕ → Change → Type 0
 StaysClean t id (change.PutNode n) = ⊤
 StaysClean t id (change.PutService s) = s.id ≡ id → HasAlike t s
-StaysClean t id (change.PutTask x) = is_dirty_of t id x ≡ false
+StaysClean t id (change.PutTask x) = is_suspect_of t id x ≡ false
 StaysClean t id (change.DropTask i) = ⊤
 StaysClean t id (change.Keep a) = ⊤
 
@@ -120,3 +124,7 @@ pub record IsLess (before after : Subject) : Type 0 where
   pub version : after.version ≡ before.version
   pub counted : after.is_counted ≡ true → before.is_counted ≡ true
   pub stale : (k : ℕ) → k < WIDTH → is_among after.stale k ≡ false → is_among before.stale k ≡ false
+
+-- the places before this one with a task in flight are stale
+pub record AreStale (end : ℕ) (v : Places) (k : Subject) : Type 0 where
+  pub each : (n : ℕ) → n < end → (mark_at v n).has_flying ≡ true → is_among k.stale n ≡ true

@@ -1,22 +1,22 @@
 // The survey of the service whose update was looked at last, kept from one look to the next, so that only places whose
-// tasks changed are noted anew; and a service that has no dirty task, so that its tasks aren't gone over at each look.
-ghost use Rattle.std.specs.Prelude.{◌≡◌, IfSome, IsTrue, None, Some, false, filter, true};
+// tasks changed are noted anew; and a service without a task that may make a place dirty, so that its tasks aren't gone
+// over at each look.
+ghost use Rattle.std.specs.Prelude.{◌≡◌, ◌≤◌, IfSome, IsTrue, None, Some, false, filter, min, true, ℕ};
 ghost use Rattle.std.specs.List.{list_any};
 ghost use Rattle.swarm_objects.specs.ChangeLists.{apply_changes};
 ghost use Rattle.swarm_objects.specs.Loops.Update.{is_to_start, run_duties, update_duties};
 ghost use Rattle.swarm_objects.specs.Rows.{first_of, is_row_and, row_at, service_id, task_id};
 ghost use Rattle.swarm_objects.specs.Services.Runs.{failures};
-ghost use Rattle.swarm_objects.specs.Services.Words.{is_dirty};
 ghost use Rattle.swarm_objects.specs.Tasks.Places.{has_dirty_place};
 ghost use Rattle.swarm_objects.specs.Tasks.Words.{is_of};
 ghost use Rattle.swarm_objects.specs.Usable.{IsUsable};
 ghost use Rattle.swarm_objects.specs.World.{Tables};
-ghost use Rattle.swarm_update.specs.KnownSurvey.{HasAlike, IsLess, IsSo, IsOf, Knows, KnowsKept, LeaveAll, Leaves, is_among, leaves_out, may_fail, touches};
+ghost use Rattle.swarm_update.specs.KnownSurvey.{AreStale, HasAlike, IsLess, IsSo, Knows, KnowsKept, LeaveAll, Leaves, is_among, is_suspect, leaves_out, may_fail, touches};
 ghost use Rattle.swarm_update.specs.Surveys.{Tells};
 
-use crate::clean::{has_dirty_task, left_clean};
+use crate::clean::{has_suspect, left_clean};
 use crate::first_open;
-use crate::marks::WIDTH;
+use crate::marks::{Places, WIDTH};
 use crate::runs::{counts_as_failure, has_present_run};
 use crate::survey::{Survey, go_over};
 use role_words::is_under_way;
@@ -52,7 +52,7 @@ pub struct KnownSurvey {
     alloc: Option<Global>,
     // made at the first look, in a box since it is large
     kept: Option<Box<Kept>>,
-    // a service that has no dirty task
+    // a service without a task that may make a place dirty
     clean: Option<Id>,
 }
 
@@ -63,7 +63,7 @@ fn may_fail(version: Version, task: &Task) -> bool
     task.born == version && counts_as_failure(task.state)
 }
 
-/// The row with the service's id is the same, in what a survey and the test of dirty tasks read.
+/// The row with the service's id is the same, in what a survey and the test of suspects read.
 pub fn has_alike<R: Rows>(rows: &R, service: &Service) -> bool
     ensures { IsTrue result → HasAlike (R.tables rows.now) service.now }
 {
@@ -150,16 +150,22 @@ impl Subject {
         true
     }
 
-    // The place with this number is stale, too, where there is room for it.
-    fn add_stale(&mut self, number: u64)
-        ensures { IsLess self.old self.new }
+    // The place with this number is stale, too, where there is room for it. Tells whether it is stale then.
+    #[tactic(auto, using(crate::proofs::Leaving::less_steps))]
+    fn make_stale(&mut self, number: u64) -> bool
+        ensures less { IsLess self.old self.new }
+        ensures stale { IsTrue result → is_among self.new.stale number ≡ true }
     {
+        if self.is_stale(number) {
+            return true;
+        }
         for index in 0..STALE {
             if self.stale[index] >= WIDTH as u64 {
                 self.stale[index] = number;
-                return;
+                return true;
             }
         }
+        false
     }
 
     // The place of the task is stale, and so are the failures where it may be one.
@@ -174,8 +180,8 @@ impl Subject {
             self.is_counted = false;
         }
         let number = task.place.place_number();
-        if number < WIDTH as u64 && !self.is_stale(number) {
-            self.add_stale(number);
+        if number < WIDTH as u64 {
+            self.make_stale(number);
         }
     }
 
@@ -226,6 +232,20 @@ impl Subject {
             None
         }
     }
+
+    // What is left of it whatever time passes: the places with a task in flight are stale, too.
+    #[tactic(auto, using(crate::proofs::Leaving::less_steps, crate::proofs::Passing::stale_steps))]
+    fn without_flying(mut self, places: &Places) -> Option<Subject>
+        ensures less { IfSome result (IsLess self) }
+        ensures stale { IfSome result (AreStale (min places.now.reach WIDTH) places.now) }
+    {
+        for index in 0..places.end() {
+            if places.mark_at(index).has_flying && !self.make_stale(index as u64) {
+                return None;
+            }
+        }
+        Some(self)
+    }
 }
 
 impl Kept {
@@ -253,6 +273,18 @@ impl Kept {
             return;
         }
         self.subject = subject.without(far, rows, changes);
+    }
+
+    // Forgets what hangs on the time.
+    #[tactic(auto, using(crate::proofs::Passing::later_steps))]
+    fn pass_time(&mut self)
+        ensures { (t : Tables) (clock : ℕ) → t.clock ≤ clock → KnowsKept t self.old →
+            KnowsKept (record t { clock = clock }) self.new }
+    {
+        let Some(subject) = self.subject else {
+            return;
+        };
+        self.subject = subject.without_flying(&self.survey.places);
     }
 
     // What the survey is of, where that is this run of the service.
@@ -335,6 +367,17 @@ impl KnownSurvey {
         self.clean = left_clean(rows, self.clean, changes);
     }
 
+    /// Forgets what time that passes may change: whether a task is in flight.
+    #[tactic(auto, using(crate::proofs::Passing::clean_later))]
+    pub fn pass_time(&mut self)
+        ensures { (t : Tables) (clock : ℕ) → t.clock ≤ clock → Knows t self.old →
+            Knows (record t { clock = clock }) self.new }
+    {
+        if let Some(kept) = &mut self.kept {
+            kept.pass_time();
+        }
+    }
+
     // Has a place for a survey, where there is memory.
     fn make_room(&mut self)
         ensures { (t : Tables) → Knows t self.old → Knows t self.new }
@@ -364,13 +407,13 @@ impl KnownSurvey {
         }
     }
 
-    // It is remembered that the service has no dirty task.
+    // It is remembered that no task of the service may make a place dirty.
     #[tactic(auto, using(crate::proofs::Clearing::known_clean))]
     fn is_clean<R: Rows>(&self, rows: &R, service: &Service) -> bool
         requires knows { Knows (R.tables rows.now) self.now }
         requires row { row_at service_id service.now.id (R.tables rows.now).services ≡ Some service.now }
         ensures { let t = R.tables rows.now in
-            IsTrue result → list_any (is_dirty service.now) (filter (is_of service.now.id) t.tasks) ≡ false }
+            IsTrue result → list_any (is_suspect service.now) (filter (is_of service.now.id) t.tasks) ≡ false }
     {
         match self.clean {
             Some(clean) => clean == service.id,
@@ -378,7 +421,7 @@ impl KnownSurvey {
         }
     }
 
-    // A place of the service is dirty. Where none of its tasks is, that is remembered.
+    // A place of the service is dirty. Where none of its tasks may make one so, that is remembered.
     #[tactic(auto, using(crate::proofs::Clearing::clean_steps))]
     fn has_dirty_place<R: Rows>(&mut self, rows: &R, service: &Service) -> bool
         requires usable { IsUsable (R.tables rows.now) }
@@ -390,7 +433,7 @@ impl KnownSurvey {
         if self.is_clean(rows, service) {
             return false;
         }
-        if has_dirty_task(rows, service) {
+        if has_suspect(rows, service) {
             return role_words::has_dirty_place(rows, service);
         }
         self.clean = Some(service.id);
@@ -398,8 +441,8 @@ impl KnownSurvey {
     }
 }
 
-// As `is_to_start`, by what is remembered of the service.
-fn is_to_start_by<R: Rows>(rows: &R, known: &mut KnownSurvey, service: &Service) -> bool
+// A dirty place is there, and no run to the present template.
+fn is_to_start<R: Rows>(rows: &R, known: &mut KnownSurvey, service: &Service) -> bool
     requires usable { IsUsable (R.tables rows.now) }
     requires knows { Knows (R.tables rows.now) known.old }
     requires row { row_at service_id service.now.id (R.tables rows.now).services ≡ Some service.now }
@@ -446,7 +489,7 @@ fn run_duty<R: Rows>(rows: &R, known: &mut KnownSurvey, service: &Service) -> Op
     }
 }
 
-/// As `update_duty`, by what is remembered of the service, whose run is remembered then.
+/// What there is to do about the service, by what is remembered of it. Its run is remembered then.
 #[tactic(auto, using(crate::proofs::Steps::first_steps))]
 pub fn update_duty_by<R: Rows>(rows: &R, known: &mut KnownSurvey, service: &Service) -> Option<Duty>
     requires usable { IsUsable (R.tables rows.now) }
@@ -458,7 +501,7 @@ pub fn update_duty_by<R: Rows>(rows: &R, known: &mut KnownSurvey, service: &Serv
     if service.spec.mode.is_job() {
         return None;
     }
-    if is_to_start_by(rows, known, service) {
+    if is_to_start(rows, known, service) {
         return Some(Duty::Start(service.id));
     }
     run_duty(rows, known, service)

@@ -11,8 +11,8 @@ mod runs;
 mod starting;
 mod survey;
 
-ghost use Rattle.std.specs.Prelude.{◌≡◌, Some};
-ghost use Rattle.swarm_objects.specs.Loops.Update.{is_to_replace, is_to_swap, lets_replace, open_duties, run_duties, update, update_duties};
+ghost use Rattle.std.specs.Prelude.{◌≡◌};
+ghost use Rattle.swarm_objects.specs.Loops.Update.{is_to_replace, is_to_swap, lets_replace, open_duties, update};
 ghost use Rattle.swarm_objects.specs.Loops.Words.{places_where};
 ghost use Rattle.swarm_objects.specs.Rows.{first_of};
 ghost use Rattle.swarm_objects.specs.Services.Runs.{is_of_version};
@@ -21,13 +21,13 @@ ghost use Rattle.std.specs.Prelude.{◌&&◌};
 ghost use Rattle.swarm_objects.specs.Usable.{IsUsable};
 ghost use Rattle.swarm_update.specs.Surveys.{Tells};
 
-use crate::runs::{fails, is_to_finish, is_to_start, lets_replace};
-use crate::survey::{Survey, first_to_replace, first_to_swap, go_over};
+use crate::runs::{fails, is_to_finish, lets_replace};
+use crate::survey::{Survey, first_to_replace, first_to_swap};
 pub use changing::changes;
 pub use failing::{kept_numbers, may_roll_back, paused_status};
 pub use known_survey::{KnownSurvey, update_duty_by};
 pub use replacing::desired_by_order;
-use role_words::{is_of_version, is_under_way};
+use role_words::is_of_version;
 pub use runs::{goes_on, has_present_run, is_failure, is_present};
 pub use starting::{finished_status, start_status};
 use swarm_objects::walks::services;
@@ -110,51 +110,15 @@ fn first_open<R: Rows>(
     None
 }
 
-// What there is to do about the run of a service, by one pass over the service's tasks.
-fn first_of_run<R: Rows>(rows: &R, service: &Service, run: &UpdateRun) -> Option<Duty>
-    requires { IsUsable (R.tables rows.now) }
-    ensures { result ≡ first_of (run_duties (R.tables rows.now) service.now (Some run.now)) }
-{
-    if !is_under_way(run) {
-        return None;
-    }
-    let survey = go_over(rows, service, run);
-    first_open(&survey, rows, service, run)
-}
-
-// The same, where the service has a run.
-fn run_duty<R: Rows>(rows: &R, service: &Service) -> Option<Duty>
-    requires { IsUsable (R.tables rows.now) }
-    ensures { result ≡ first_of (run_duties (R.tables rows.now) service.now service.now.run) }
-{
-    match &service.run {
-        Some(run) => first_of_run(rows, service, run),
-        None => None,
-    }
-}
-
-/// What there is to do about the service.
-#[tactic(auto, using(crate::proofs::Steps::first_steps))]
-pub fn update_duty<R: Rows>(rows: &R, service: &Service) -> Option<Duty>
-    requires { IsUsable (R.tables rows.now) }
-    ensures { result ≡ first_of (update_duties (R.tables rows.now) service.now service.now.spec.mode) }
-{
-    if service.spec.mode.is_job() {
-        return None;
-    }
-    if is_to_start(rows, service) {
-        return Some(Duty::Start(service.id));
-    }
-    run_duty(rows, service)
-}
-
 /// The first duty on rolling updates.
+#[tactic(auto, using(crate::proofs::Walking::row_steps))]
 pub fn least<R: Rows>(rows: &R) -> Option<Duty>
     requires { IsUsable (R.tables rows.now) }
     ensures { result ≡ first_of (update (R.tables rows.now)) }
 {
+    let mut known = KnownSurvey::none();
     for service in services(rows) {
-        if let Some(duty) = update_duty(rows, service) {
+        if let Some(duty) = update_duty_by(rows, &mut known, service) {
             return Some(duty);
         }
     }

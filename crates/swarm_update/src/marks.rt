@@ -1,5 +1,5 @@
 // What a service's tasks say to an update of each of its places: noted in one pass, for all places with small numbers.
-ghost use Rattle.std.specs.Prelude.{◌≡◌, ◌<◌, ◌∷◌, None, IfSome, List, ℕ};
+ghost use Rattle.std.specs.Prelude.{◌≡◌, ◌<◌, ◌∷◌, None, IfSome, List, min, ℕ};
 ghost use Rattle.role_words.specs.Marks.{tasks_at};
 ghost use Rattle.swarm_objects.specs.Usable.{IsUsable};
 ghost use Rattle.swarm_update.specs.KnownSurvey.{ShowsOthers, with_mark};
@@ -166,6 +166,13 @@ impl Places {
         }
     }
 
+    /// No place from here on and below the width has a task.
+    pub fn end(&self) -> usize
+        ensures { result ≡ min self.now.reach WIDTH }
+    {
+        self.reach.min(WIDTH)
+    }
+
     /// What is said of the place with this number.
     pub fn mark_at(&self, index: usize) -> Mark
         requires { index < 1024 }
@@ -179,7 +186,7 @@ impl Places {
         ensures some { IfSome result (λ number. IsFirst self.now question number) }
         ensures none { result ≡ None → NoneBefore self.now.reach self.now question }
     {
-        for index in 0..self.reach.min(WIDTH) {
+        for index in 0..self.end() {
             if self.marks[index].answers(question) {
                 return Some(index as u64);
             }

@@ -3,7 +3,6 @@ ghost use Rattle.std.specs.Prelude.{◌≡◌};
 ghost use Rattle.std.specs.List.{list_all};
 ghost use Rattle.swarm_objects.specs.Loops.Update.{
   is_to_finish,
-  is_to_start,
   is_watched,
   lets_replace,
 };
@@ -109,12 +108,4 @@ pub fn has_present_run(service: &Service) -> bool
         Some(run) => is_of_version(service, run),
         None => false,
     }
-}
-
-/// A dirty place is there, and no run to the present template.
-pub fn is_to_start<R: Rows>(rows: &R, service: &Service) -> bool
-    requires { IsUsable (R.tables rows.now) }
-    ensures { result ≡ is_to_start (R.tables rows.now) service.now }
-{
-    !has_present_run(service) && role_words::has_dirty_place(rows, service)
 }

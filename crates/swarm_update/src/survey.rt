@@ -8,7 +8,7 @@ ghost use Rattle.swarm_objects.specs.Tasks.Places.{has_dirty_place, place_number
 ghost use Rattle.swarm_objects.specs.Tasks.Words.{is_of};
 ghost use Rattle.swarm_objects.specs.Usable.{IsUsable};
 ghost use Rattle.swarm_update.specs.KnownSurvey.{ShowsOthers};
-ghost use Rattle.swarm_update.specs.Marks.{noted_all, ShowsPlaces};
+ghost use Rattle.swarm_update.specs.Marks.{ShowsPlaces};
 ghost use Rattle.swarm_update.specs.Surveys.{Tells};
 
 use crate::marks::{Places, Question, WIDTH};
@@ -22,25 +22,6 @@ use swarm_objects::{Place, Replaced, Rows, Service, UpdateRun};
 pub struct Survey {
     pub places: Places,
     failures: u64,
-}
-
-// The pass.
-#[tactic(auto, using(crate::proofs::Steps::failure_steps))]
-fn pass<R: Rows>(rows: &R, service: &Service, run: &UpdateRun) -> Survey
-    requires { IsUsable (R.tables rows.now) }
-    ensures places { result.places ≡ noted_all (R.tables rows.now) service.now }
-    ensures failures { let t = R.tables rows.now in
-        result.failures ≡ count_by (is_failure service.now run.now) (filter (is_of service.now.id) t.tasks) }
-{
-    let mut places = Places::blank();
-    let mut failures = 0;
-    for task in tasks_of(rows, service.id) {
-        places.note(rows, service, task);
-        if is_failure(service, run, task) {
-            failures += 1;
-        }
-    }
-    Survey { places, failures }
 }
 
 // How many tasks have failed the run.
@@ -91,11 +72,20 @@ impl Survey {
 }
 
 /// Goes over the tasks of the service, which has this run.
+#[tactic(auto, using(crate::proofs::Steps::failure_steps))]
 pub fn go_over<R: Rows>(rows: &R, service: &Service, run: &UpdateRun) -> Survey
     requires { IsUsable (R.tables rows.now) }
     ensures { Tells result (R.tables rows.now) service.now run.now }
 {
-    pass(rows, service, run)
+    let mut places = Places::blank();
+    let mut failures = 0;
+    for task in tasks_of(rows, service.id) {
+        places.note(rows, service, task);
+        if is_failure(service, run, task) {
+            failures += 1;
+        }
+    }
+    Survey { places, failures }
 }
 
 /// The least place of which a clean live task runs and a dirty one is live. Only where places aren't noted, all are

@@ -1,0 +1,132 @@
+-- What time that passes leaves of a survey: only whether a task is in flight hangs on it.
+use Rattle.std.proofs.Common.{◌≡◌, ◌∙◌, ◌∷◌, ◌+◌, ◌<◌, ◌≤◌, ℕ, Bool, List, None, Option, Some, [], ap, arith, eqb, false, min, refl, subst, sym, true}
+use Rattle.std.proofs.lemmas.Bool.Decides.{nat_tests}
+use Rattle.std.specs.List.{list_any}
+use Rattle.std.specs.Prelude.{IfSome, nat_lt, ◌&&◌, ◌||◌}
+use Rattle.role_words.specs.Marks.{has_number, tasks_at}
+use Rattle.swarm_objects.proofs.Tests.{neither, neither_left, neither_right}
+use Rattle.swarm_objects.specs.Services.Runs.{is_flying}
+use Rattle.swarm_objects.specs.Services.Words.{is_live_clean}
+use Rattle.swarm_objects.specs.Tasks.Words.{is_below_running, is_running}
+use Rattle.swarm_objects.specs.World.{Tables}
+use Rattle.swarm_objects.specs.declared.services.Service.{Service}
+use Rattle.swarm_objects.specs.declared.tasks.Task.{Task}
+use Rattle.swarm_update.proofs.Leaving.{clean_same, if_some_then, less_so}
+use Rattle.swarm_update.proofs.Marking.{are_numbered, true_false}
+use Rattle.swarm_update.specs.KnownSurvey.{AreStale, HasNoSuspect, IsLess, IsOf, IsSo, Knows, is_among}
+use Rattle.swarm_update.specs.Marks.{mark_at, mark_of}
+use Rattle.swarm_update.specs.declared.known_survey.KnownSurvey.{KnownSurvey}
+use Rattle.swarm_update.specs.declared.known_survey.Subject.{Subject}
+use Rattle.swarm_update.specs.declared.marks.Places.{Places}
+use Rattle.swarm_update.specs.declared.marks.TheConstants.{WIDTH}
+use Rattle.swarm_update.specs.declared.survey.Survey.{Survey}
+
+-- A loop over places, of which those in flight get stale.
+
+pub stale_none : (v : Places) (k : Subject) → AreStale 0 v k
+stale_none v k = record { each = λ n lt e. absurd (omega (arith, lt)) }
+
+still_stale : (a b : Subject) (n : ℕ) → IsLess a b → n < WIDTH → is_among a.stale n ≡ true → is_among b.stale n ≡ true
+still_stale a b n less lt e = go (is_among b.stale n) refl
+  where
+    go : (c : Bool) → is_among b.stale n ≡ c → c ≡ true
+    go true f = refl
+    go false f = absurd (true_false (is_among a.stale n) e (less.stale n lt f))
+
+pub stale_more : (i : ℕ) (v : Places) (a b : Subject) → i < WIDTH → AreStale i v a → IsLess a b
+    → ((mark_at v i).has_flying ≡ true → is_among b.stale i ≡ true) → AreStale (i + 1) v b
+stale_more i v a b lt h less here = record { each = λ n below e. go n below e (eqb n i) refl }
+  where
+    go : (n : ℕ) → n < i + 1 → (mark_at v n).has_flying ≡ true → (c : Bool) → eqb n i ≡ c → is_among b.stale n ≡ true
+    go n below e true f =
+        let same : i ≡ n = grind (arith, nat_tests) in
+        subst (λ j. (mark_at v j).has_flying ≡ true → is_among b.stale j ≡ true) same here e
+    go n below e false f =
+        let lower : n < i = grind (arith, nat_tests) in
+        still_stale a b n less (omega (arith, lower, lt)) (h.each n lower e)
+
+-- A task that isn't in flight won't be so later.
+
+rule : (a b c d e : Bool) → (e ≡ true → d ≡ true) → (a && (b || (c && d))) ≡ false → (a && (b || (c && e))) ≡ false
+rule false b c d e h f = refl
+rule true true c d e h f = absurd cc
+rule true false false d e h f = refl
+rule true false true d true h f = absurd (true_false d (h refl) f)
+rule true false true d false h f = refl
+
+later : (t : Tables) (clock : ℕ) (s : Service) (x : Task) → t.clock ≤ clock → is_flying t s x ≡ false
+    → is_flying (record t { clock = clock }) s x ≡ false
+later t clock s x le off =
+    rule (is_live_clean s x) (is_below_running x) (is_running x) (nat_lt t.clock (x.since + s.spec.update.delay))
+    (nat_lt clock (x.since + s.spec.update.delay)) (λ e. earlier (x.since + s.spec.update.delay) e) off
+  where
+    earlier : (end : ℕ) → nat_lt clock end ≡ true → nat_lt t.clock end ≡ true
+    earlier end e = grind (arith, nat_tests, le, e)
+
+none_later : (t : Tables) (clock : ℕ) (s : Service) (xs : List Task) → t.clock ≤ clock
+    → list_any (is_flying t s) xs ≡ false → list_any (is_flying (record t { clock = clock }) s) xs ≡ false
+none_later t clock s [] le off = refl
+none_later t clock s (x ∷ xs) le off =
+    neither (is_flying (record t { clock = clock }) s x) (list_any (is_flying (record t { clock = clock }) s) xs)
+    (later t clock s x le (neither_left (is_flying t s x) (list_any (is_flying t s) xs) off))
+    (none_later t clock s xs le (neither_right (is_flying t s x) (list_any (is_flying t s) xs) off))
+
+same_mark : (t : Tables) (clock : ℕ) (s : Service) (xs : List Task) → t.clock ≤ clock
+    → list_any (is_flying t s) xs ≡ false → mark_of t s xs ≡ mark_of (record t { clock = clock }) s xs
+same_mark t clock s xs le off =
+    ap (λ b. record (mark_of t s xs) { has_flying = b }) (off ∙ sym (none_later t clock s xs le off))
+
+-- The places of which the marks tell have none.
+
+none_flies : (v : Survey) (k : Subject) (t : Tables) (s : Service) (n : ℕ) → AreStale (min v.places.reach WIDTH) v.places k
+    → IsSo v k t s → n < WIDTH → is_among k.stale n ≡ false → list_any (is_flying t s) (tasks_at s t.tasks n) ≡ false
+none_flies v k t s n stale h lt out = go (list_any (is_flying t s) (tasks_at s t.tasks n)) refl (has_number s t.tasks n) refl
+  where
+    go : (b : Bool) → list_any (is_flying t s) (tasks_at s t.tasks n) ≡ b → (c : Bool) → has_number s t.tasks n ≡ c → b ≡ false
+    go false e c has = refl
+    go true e true has =
+        let below : n < v.places.reach = h.places.reach n has lt out in
+        let within : n < min v.places.reach WIDTH = grind (arith, below, lt) in
+        absurd (true_false (is_among k.stale n)
+        (stale.each n within (ap (λ m. m.has_flying) (h.places.marks n lt out) ∙ e)) out)
+    go true e false has =
+        sym e ∙ ap (list_any (is_flying t s)) (are_numbered s t.tasks n has)
+
+later_so : (v : Survey) (k : Subject) (t : Tables) (clock : ℕ) (s : Service) → t.clock ≤ clock
+    → AreStale (min v.places.reach WIDTH) v.places k → IsSo v k t s → IsSo v k (record t { clock = clock }) s
+later_so v k t clock s le stale h = record {
+  places = record {
+    wide = h.places.wide;
+    marks = λ n lt out. h.places.marks n lt out
+        ∙ same_mark t clock s (tasks_at s t.tasks n) le (none_flies v k t s n stale h lt out);
+    reach = h.places.reach;
+    far = h.places.far;
+  };
+  failures = h.failures;
+}
+
+-- What is kept.
+
+later_of : (t : Tables) (clock : ℕ) (v : Survey) (k : Subject) → t.clock ≤ clock
+    → AreStale (min v.places.reach WIDTH) v.places k → IsOf t v k → IsOf (record t { clock = clock }) v k
+later_of t clock v k le stale h = record { each = λ s at. later_so v k t clock s le stale (h.each s at) }
+
+pub later_known : (v : Survey) (o : Option Subject) (k : Subject) (p : Option Subject) → o ≡ Some k
+    → IfSome p (IsLess k) → IfSome p (AreStale (min v.places.reach WIDTH) v.places)
+    → (t : Tables) (clock : ℕ) → t.clock ≤ clock → IfSome o (IsOf t v) → IfSome p (IsOf (record t { clock = clock }) v)
+later_known v o k None is less stale t clock le known = tt
+later_known v o k (Some b) is less stale t clock le known =
+    later_of t clock v b le stale (less_so t v k b less (subst (λ q. IfSome q (IsOf t v)) is known))
+
+pub later_none : (v : Survey) (o : Option Subject) → o ≡ None → (t : Tables) (clock : ℕ) → t.clock ≤ clock
+    → IfSome o (IsOf t v) → IfSome o (IsOf (record t { clock = clock }) v)
+later_none v o is t clock le known = subst (λ q. IfSome q (IsOf (record t { clock = clock }) v)) (sym is) tt
+
+pub clean_later : (t : Tables) (clock : ℕ) (known : KnownSurvey) → Knows t known
+    → IfSome known.clean (HasNoSuspect (record t { clock = clock }))
+clean_later t clock known h =
+    if_some_then known.clean h.clean (λ id none. clean_same t (record t { clock = clock }) id refl refl none)
+
+pub ruleset stale_steps = (stale_none, stale_more)
+
+pub ruleset later_steps = (later_known, later_none)
