@@ -17,6 +17,7 @@ pub mod GlobalPlaces
 pub mod Goals
 pub mod HasClosings
 pub mod Held
+pub mod HeldTasks
 pub mod HomeNodes
 pub mod InStep
 pub mod JobBounds

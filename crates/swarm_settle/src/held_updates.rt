@@ -1,12 +1,13 @@
 // Updates that are held up or paused.
-ghost use Rattle.std.specs.Prelude.{◌≡◌, find, flat_map, option_to_list};
+ghost use Rattle.std.specs.Prelude.{◌≡◌, filter, find, flat_map, option_to_list};
 ghost use Rattle.std.specs.Option.{option_copied};
 ghost use Rattle.swarm_model.specs.Settle.{held_by, is_holding, is_paused, is_paused_status, paused_by};
 ghost use Rattle.swarm_objects.specs.Rows.{first_of};
+ghost use Rattle.swarm_objects.specs.Tasks.Words.{is_of};
 ghost use Rattle.swarm_objects.specs.Usable.{IsUsable};
 
 use role_words::{has_open_run, is_of_version};
-use swarm_objects::walks::{services, tasks};
+use swarm_objects::walks::{services, tasks_of};
 use swarm_objects::{Rows, RunStatus, Service, Settle, Task};
 
 /// A live clean task of the service is below RUNNING.
@@ -16,12 +17,21 @@ pub fn is_holding(service: &Service, task: &Task) -> bool
     task.is_of(service.id) && task.is_live_clean(service) && task.is_below_running()
 }
 
+// The first of the service's tasks that holds it up.
+fn holding_among<'a, R: Rows>(rows: &'a R, service: &Service) -> Option<&'a Task>
+    requires { IsUsable (R.tables rows.now) }
+    ensures { let t = R.tables rows.now in
+        option_copied result ≡ find (is_holding service.now) (filter (is_of service.now.id) t.tasks) }
+{
+    tasks_of(rows, service.id).find(|task| is_holding(service, task))
+}
+
 // The first live clean task of the service below RUNNING.
 fn holding_task<'a, R: Rows>(rows: &'a R, service: &Service) -> Option<&'a Task>
     requires { IsUsable (R.tables rows.now) }
     ensures { option_copied result ≡ find (is_holding service.now) (R.tables rows.now).tasks }
 {
-    tasks(rows).find(|task| is_holding(service, task))
+    holding_among(rows, service)
 }
 
 // Where the service has a run under way, the task that holds it up.
