@@ -1,4 +1,4 @@
--- What is known of the steps of one agent: up to which task no executor has one.
+-- What is known of the steps of one agent: before which task no executor has one.
 use Rattle.std.proofs.Common.{◌≡◌, ◌∙◌, ◌+◌, ◌-◌, ◌<◌, ◌≤◌, ◌∷◌, ℕ, Bool, true, false, cond, eqb, ltb, List, [], Option, Some, None, ap, arith, inl, inr, refl, subst, sym}
 use Rattle.std.proofs.lemmas.Bool.Decides.{nat_tests}
 use Rattle.std.specs.Option.{option_map}

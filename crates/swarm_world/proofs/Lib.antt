@@ -44,6 +44,7 @@ pub mod SettleLines
 pub mod Stepping
 pub mod Taking
 pub mod Ticking
+pub mod ToldAlike
 pub mod ToldNodes
 pub mod Unsaid
 pub mod Transacting

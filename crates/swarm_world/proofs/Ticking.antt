@@ -31,7 +31,7 @@ use Rattle.swarm_world.proofs.KnownSteps.{nothing-known}
 use Rattle.swarm_world.proofs.Marked.{agents_full}
 use Rattle.swarm_world.proofs.Recorded.{tables_are}
 use Rattle.swarm_world.proofs.Unsaid.{unsaid-more}
-use Rattle.swarm_world.specs.Inside.Known.{ForgetsServices}
+use Rattle.swarm_world.specs.Inside.Known.{PassesTime}
 use Rattle.swarm_world.specs.Inside.Looks.{AreSpanned, is_told, is_unsaid, no_steps, wants_message}
 use Rattle.swarm_world.specs.Inside.Marks.{AreMarked, IsAfterCall, IsMarked}
 use Rattle.swarm_world.specs.Inside.Parts.{HasHistory, HasParts, StandsFor}
@@ -43,12 +43,12 @@ use Rattle.swarm_world.specs.declared.parts.Parts.{Parts}
 
 -- the spans over the rows
 pub timed : (before after : Marks) (t : Tables) → IsUsable t → TimeLaw t before.tasks after.tasks
-    → ServiceTimeLaw t before.services after.services → ForgetsServices before.known after.known → (clock : ℕ) → AreMarked before t
-    → AreMarked after (at_time clock t)
-timed before after t usable tasks services forgets clock marked = record {
+    → ServiceTimeLaw t before.services after.services → PassesTime before.known after.known → (clock : ℕ)
+    → t.clock ≤ clock → AreMarked before t → AreMarked after (at_time clock t)
+timed before after t usable tasks services passes clock le marked = record {
   tasks = tasks clock marked.tasks;
   services = services clock marked.services;
-  known = forgets t (at_time clock t) refl refl marked.known;
+  known = passes t clock le marked.known;
 }
 
 -- the world after a tick, of whatever length
@@ -127,7 +127,8 @@ agents-timed times q w v tells news is has later covers said =
     })
 
 pub tick_marked : (times : TimesLaw) (m n : Marks) (ms : ℕ) (p : Parts)
-    → ((clock : ℕ) → AreMarked m (tables_of p.records) → AreMarked n (at_time clock (tables_of p.records)))
+    → ((clock : ℕ) → (tables_of p.records).clock ≤ clock → AreMarked m (tables_of p.records)
+    → AreMarked n (at_time clock (tables_of p.records)))
     → n.agents.duties ≡ full → n.agents.tells ≡ m.agents.tells → n.agents.news ≡ m.agents.news
     → n.agents.steps ≡ no_steps → (h : List Entry) (q : Parts) → IsLegal h
     → StandsFor p (replay h) → IsMarked m p → HasHistory q → IsAfterCall h (call.Tick ms) q → IsMarked n q
@@ -149,7 +150,9 @@ tick_marked times m n ms p law duties tells news steps h q legal stands marked i
           subst (AreMarked n)
           (sym (tables_are q.records v done.has.records ∙ is-later.tables
           ∙ ap (at_time is-later.clock) (sym (tables_are p.records w stands.has.records))))
-          (law is-later.clock marked.rows);
+          (law is-later.clock
+          (subst (λ (t : Tables). t.clock ≤ is-later.clock) (sym (tables_are p.records w stands.has.records)) is-later.rises)
+          marked.rows);
       agents =
           subst (CoversAgents q) (λ i. record { duties = sym duties i; tells = sym tells i; news = sym news i; steps = sym steps i })
           (agents-timed times q w v m.agents.tells m.agents.news is done.has is-later covers.tells covers.news);

@@ -21,7 +21,7 @@ use Rattle.swarm_spans.specs.Spans.{IsWider, is_in, with_id}
 use Rattle.swarm_spans.specs.Touched.{Touching}
 use Rattle.swarm_spans.specs.declared.span.Span.{Span}
 use Rattle.swarm_world.proofs.RowsTurned.{both-touched}
-use Rattle.swarm_world.specs.Inside.Touches.{AreTouched, HasNodeOf, TellsSame, TouchesAllTold, TouchesTold}
+use Rattle.swarm_world.specs.Inside.Touches.{AreTouched, HasNodeOf, IsToldAlike, TellsSame, TouchesAllTold, TouchesTold}
 use Rattle.swarm_world.specs.declared.agent_spans.AgentSpans.{AgentSpans}
 
 -- The node of a task.
@@ -93,6 +93,16 @@ put_told t span wide c y is now wider before = record {
   drop = λ id e. let other : change.PutTask y ≡ change.DropTask id = sym is ∙ e in absurd cc;
 }
 
+pub alike_told : (t : Tables) (wide : Span) (c : Change) (y : Task) → c ≡ change.PutTask y →
+    IsToldAlike y (row_at task_id y.id t.tasks) → TouchesTold t wide c
+alike_told t wide c y is alike = record {
+  put = λ z e.
+      let one : change.PutTask y ≡ change.PutTask z = sym is ∙ e in
+      let same : y ≡ z = cc in
+      subst (λ (x : Task). TellsSame t wide x.id (Some x)) same (λ node above. inr (alike node));
+  drop = λ id e. let other : change.PutTask y ≡ change.DropTask id = sym is ∙ e in absurd cc;
+}
+
 pub drop_told : (t : Tables) (wide : Span) (c : Change) (id : ℕ) → c ≡ change.DropTask id →
     HasNodeOf wide (row_at task_id id t.tasks) → TouchesTold t wide c
 drop_told t wide c id is before = record {
@@ -121,7 +131,7 @@ keep_told t wide c a is = record {
   drop = λ k e. let other : change.Keep a ≡ change.DropTask k = sym is ∙ e in absurd cc;
 }
 
-pub ruleset change_steps = (put_told, drop_told, node_told, service_told, keep_told, wider_itself, wider_yet)
+pub ruleset change_steps = (put_told, alike_told, drop_told, node_told, service_told, keep_told, wider_itself, wider_yet)
 
 -- All changes.
 

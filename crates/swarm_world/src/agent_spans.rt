@@ -7,8 +7,8 @@ ghost use Rattle.swarm_world.specs.Inside.Spanned.{AreWiderFrom, lowered, news_b
 use swarm_objects::{Duty, Id};
 use swarm_spans::Span;
 
-/// What is known of the steps of one node's agent: no executor has one for a task before this one. So each is asked once
-/// while they make their steps one by one, whatever their number.
+/// What is known of the steps of one node's agent: no executor has one for a task before this one. So each is asked
+/// once while they make their steps one by one, whatever their number.
 #[derive(Clone, Copy, Drop)]
 pub struct Steps {
     pub node: Id,
@@ -39,9 +39,9 @@ impl Steps {
         }
     }
 
-    /// What is known still after the duty: an executor that makes a step may have the next one, and after a message each
-    /// may have one.
-    pub fn make(&mut self, duty: Duty)
+    /// Goes on to what is known after the duty: an executor that makes a step may have the next one, and after a
+    /// message each may have one.
+    pub fn go_on(&mut self, duty: Duty)
         ensures { self.new ≡ steps_by duty self.old }
     {
         match duty {
@@ -124,7 +124,7 @@ impl AgentSpans {
         ensures news { self.new.news ≡ news_by duty self.old.news }
         ensures steps { self.new.steps ≡ steps_by duty self.old.steps }
     {
-        self.steps.make(duty);
+        self.steps.go_on(duty);
         match duty {
             Duty::Register(node) => self.news.add(node),
             Duty::Apply(node) => self.news.add(node),

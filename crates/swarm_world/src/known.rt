@@ -2,7 +2,7 @@
 ghost use Rattle.swarm_objects.specs.ChangeLists.{apply_changes};
 ghost use Rattle.swarm_objects.specs.Usable.{IsUsable};
 ghost use Rattle.swarm_objects.specs.World.{Tables};
-ghost use Rattle.swarm_world.specs.Inside.Known.{AreForeseen, ForgetsServices, KnowsAll};
+ghost use Rattle.swarm_world.specs.Inside.Known.{AreForeseen, ForgetsServices, KnowsAll, PassesTime};
 
 use std::alloc::Global;
 use swarm_objects::{Change, Rows};
@@ -10,8 +10,8 @@ use swarm_replicated::KnownPlaces;
 use swarm_sched::{KnownNodes, Moved};
 use swarm_update::KnownSurvey;
 
-/// What the tasks on nodes come to and how nodes are sorted; how many places the service holds that was counted last; and
-/// what its tasks tell of the update that was looked at last.
+/// What the tasks on nodes come to, how nodes are sorted and which filters refused them; how many places services hold;
+/// what the tasks tell of the update that was looked at last, and a service without a dirty place.
 #[derive(Drop)]
 pub struct Known {
     pub nodes: KnownNodes,
@@ -71,6 +71,14 @@ impl Known {
     {
         self.nodes.remember(foreseen.nodes);
         self.places = foreseen.places;
+    }
+
+    /// Goes on as time goes by.
+    #[tactic(auto, using(crate::proofs::RowsKnown::known_later))]
+    pub fn pass_time(&mut self)
+        ensures { PassesTime self.old self.new }
+    {
+        self.survey.pass_time();
     }
 
     /// Forgets what hangs on the rows of services and on the time.

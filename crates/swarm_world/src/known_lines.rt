@@ -65,7 +65,7 @@ impl KnownLine for Downs {
 
     #[tactic(auto, using(crate::proofs::RowsKnown::known_steps))]
     fn duty<R: Rows>(rows: &R, known: &mut Known, service: &Service) -> Option<Duty> {
-        down_duty_by(&mut known.places, rows, service)
+        down_duty_by(rows, &mut known.places, service)
     }
 }
 
@@ -79,7 +79,7 @@ impl KnownLine for Creates {
 
     #[tactic(auto, using(crate::proofs::RowsKnown::known_steps))]
     fn duty<R: Rows>(rows: &R, known: &mut Known, service: &Service) -> Option<Duty> {
-        create_duty_by(&mut known.places, rows, service)
+        create_duty_by(rows, &mut known.places, service)
     }
 }
 

@@ -197,7 +197,7 @@ fn first_news(records: &Records, sent: &Sents, node: Id, agent: &Agent, live: bo
 // The first about executors, behind their steps: looked for only where the agent may have news. Where it has none, its
 // node leaves the span, with those before it.
 #[tactic(auto, using(crate::proofs::Heard::heard_steps))]
-fn first_told(
+fn first_unsaid(
     records: &Records,
     sent: &Sents,
     node: Id,
@@ -250,7 +250,7 @@ fn first_executed(
 {
     match first_step(records, node, agent, steps) {
         Some(duty) => Some(duty),
-        None => first_told(records, sent, node, agent, live, news),
+        None => first_unsaid(records, sent, node, agent, live, news),
     }
 }
 
@@ -306,7 +306,8 @@ fn first_on(
         lease.wants_beat ≡ is_some_and (is_beat_due t) (session_of t node) }
     requires live { lease.live ≡ is_session_live (tables_of records.now) node }
     requires may { MayBeTold (looked_at (tables_of records.now) sent.now) node lease.live tells.old }
-    requires may_say { MayHaveNews (looked_at (tables_of records.now) sent.now) (at_node node agent.now) lease.live news.old }
+    requires may_say { let w = looked_at (tables_of records.now) sent.now in
+        MayHaveNews w (at_node node agent.now) lease.live news.old }
     requires none { HasNoStep (tables_of records.now).clock steps.old (at_node node agent.now) }
     ensures first { let w = looked_at (tables_of records.now) sent.now in
         result ≡ first_of (duties_on w (at_node node agent.now) lease.live) }
@@ -364,7 +365,8 @@ fn agent_first(
 #[tactic(auto, using(crate::proofs::NextAgents::agents))]
 fn next_agent_in<'a>(agents: &'a Agents, span: &Span) -> Option<(&'a Id, &'a Agent)>
     requires { RisesFrom agent_node 0 agents.now }
-    ensures { option_map (λ p. seen_agent (at_node p.0.now p.1.now)) result ≡ find (λ a. is_in span.now a.node) agents.now }
+    ensures { option_map (λ p. seen_agent (at_node p.0.now p.1.now)) result
+        ≡ find (λ a. is_in span.now a.node) agents.now }
 {
     let mut after = span.after;
     while after < span.high {

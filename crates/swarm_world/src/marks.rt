@@ -1,6 +1,6 @@
 // Where a duty of the control loops over the rows may be: for each line of duties the span of the rows that may have
 // one.
-ghost use Rattle.std.specs.Prelude.{◌≡◌, ◌++◌, ◌∷◌, List as Seq, Option as Optional, [], false, flat_map, true, ℕ};
+ghost use Rattle.std.specs.Prelude.{◌≡◌, ◌≤◌, ◌++◌, ◌∷◌, List as Seq, Option as Optional, [], false, flat_map, true, ℕ};
 ghost use Rattle.std.specs.List.{list_all};
 ghost use Rattle.swarm_model.specs.History.{IsLegal, replay};
 ghost use Rattle.swarm_objects.specs.declared.calls.Entry.{Entry};
@@ -101,7 +101,8 @@ fn replicated<R: Rows>(
     requires downs { CoversServices downs (R.tables rows.now) downs_in.old }
     requires creates { CoversServices creates (R.tables rows.now) creates_in.old }
     ensures first { let t = R.tables rows.now in
-        result ≡ first_of (flat_map (goes t) t.tasks ++ flat_map (downs t) t.services ++ flat_map (creates t) t.services) }
+        result ≡ first_of (flat_map (goes t) t.tasks
+        ++ flat_map (downs t) t.services ++ flat_map (creates t) t.services) }
     ensures knows { KnowsAll (R.tables rows.now) known.new }
     ensures goes { CoversTasks goes (R.tables rows.now) goes_in.new }
     ensures downs { CoversServices downs (R.tables rows.now) downs_in.new }
@@ -160,7 +161,8 @@ fn allocator<R: Rows>(
     requires addresses { CoversTasks addresses (R.tables rows.now) addresses_in.old }
     requires notes { CoversTasks notes (R.tables rows.now) notes_in.old }
     ensures first { let t = R.tables rows.now in
-        result ≡ first_of (flat_map (port_duties t) t.services ++ flat_map (addresses t) t.tasks ++ flat_map (notes t) t.tasks) }
+        result ≡ first_of (flat_map (port_duties t) t.services
+        ++ flat_map (addresses t) t.tasks ++ flat_map (notes t) t.tasks) }
     ensures ports { CoversServices port_duties (R.tables rows.now) ports_in.new }
     ensures addresses { CoversTasks addresses (R.tables rows.now) addresses_in.new }
     ensures notes { CoversTasks notes (R.tables rows.now) notes_in.new }
@@ -298,7 +300,8 @@ impl Marks {
         requires usable { IsUsable (tables_of records.now) }
         requires marks { AreMarked self.old (tables_of records.now) }
         ensures stays { AreMarked self.new (tables_of records.now) }
-        ensures goes_on { let u = apply_changes (tables_of records.now) changes.now in IsUsable u → AreMarked self.new u }
+        ensures goes_on { let u = apply_changes (tables_of records.now) changes.now in
+            IsUsable u → AreMarked self.new u }
         ensures foreseen { AreForeseen (apply_changes (tables_of records.now) changes.now) result }
         ensures agents { self.new.agents ≡ self.old.agents }
     {
@@ -311,7 +314,8 @@ impl Marks {
 
     /// What is known now is remembered, if the changes were made.
     pub fn remember(&mut self, foreseen: Foreseen, are_made: bool)
-        ensures marks { (t : Tables) → AreMarked self.old t → (are_made ≡ true → AreForeseen t foreseen) → AreMarked self.new t }
+        ensures marks { (t : Tables) → AreMarked self.old t → (are_made ≡ true → AreForeseen t foreseen) →
+            AreMarked self.new t }
         ensures agents { self.new.agents ≡ self.old.agents }
     {
         if are_made {
@@ -324,7 +328,7 @@ impl Marks {
     pub fn touch_time(&mut self, records: &Records)
         requires { IsUsable (tables_of records.now) }
         ensures rows { let t = tables_of records.now in
-            (clock : ℕ) → AreMarked self.old t → AreMarked self.new (at_time clock t) }
+            (clock : ℕ) → t.clock ≤ clock → AreMarked self.old t → AreMarked self.new (at_time clock t) }
         ensures duties { self.new.agents.duties ≡ full }
         ensures tells { self.new.agents.tells ≡ self.old.agents.tells }
         ensures news { self.new.agents.news ≡ self.old.agents.news }
@@ -332,7 +336,7 @@ impl Marks {
     {
         self.tasks = self.tasks.with_time(records);
         self.services = self.services.with_time(records);
-        self.known.forget_services();
+        self.known.pass_time();
         self.agents.duties = Span::full();
         self.agents.steps = Steps::none();
     }
@@ -349,7 +353,7 @@ impl Marks {
         self.known.forget_services();
     }
 
-    // With nodes that come from this id on. What is remembered of nodes is by all of them.
+    // With nodes that come from this id on. All that is remembered is forgotten: most of it hangs on all nodes.
     fn touch_nodes(&mut self, first: Id)
         ensures tasks { NodesLaw self.old.tasks self.new.tasks }
         ensures services { ServiceNodesLaw self.old.services self.new.services }
@@ -379,7 +383,8 @@ impl Marks {
 
     // With what these operations may touch, whether they are done or not: what comes, or everything.
     fn touch_any(&mut self, parts: &Parts, ops: &[Op])
-        ensures { (h : Seq Entry) (q : Whole) → IsLegal h → StandsFor parts.now (replay h) → IsMarked self.old parts.now →
+        ensures { (h : Seq Entry) (q : Whole) → IsLegal h → StandsFor parts.now (replay h) →
+            IsMarked self.old parts.now →
             HasHistory q → IsAfterCall h (Call.Txn ops.now) q → IsMarked self.new q }
     {
         let first = parts.records.next_id();
@@ -395,7 +400,8 @@ impl Marks {
     // With what the operations may touch, whether they are done or not.
     fn touch_ops(&mut self, parts: &Parts, ops: &[Op])
         requires { HasHistory parts.now }
-        ensures { (h : Seq Entry) (q : Whole) → IsLegal h → StandsFor parts.now (replay h) → IsMarked self.old parts.now →
+        ensures { (h : Seq Entry) (q : Whole) → IsLegal h → StandsFor parts.now (replay h) →
+            IsMarked self.old parts.now →
             HasHistory q → IsAfterCall h (Call.Txn ops.now) q → IsMarked self.new q }
     {
         if let [op] = ops {
@@ -409,7 +415,8 @@ impl Marks {
     /// With what the call may touch of the world that these parts are, whether it changes something or not.
     pub fn touch_call(&mut self, parts: &Parts, call: &Call)
         requires { HasHistory parts.now }
-        ensures { (h : Seq Entry) (q : Whole) → IsLegal h → StandsFor parts.now (replay h) → IsMarked self.old parts.now →
+        ensures { (h : Seq Entry) (q : Whole) → IsLegal h → StandsFor parts.now (replay h) →
+            IsMarked self.old parts.now →
             HasHistory q → IsAfterCall h call.now q → IsMarked self.new q }
     {
         times_that_no_step_looks_at();

@@ -1,8 +1,9 @@
 // The rows of the world with the sessions of its nodes: what control loops read.
-ghost use Rattle.std.specs.Prelude.{◌≡◌};
 ghost use Rattle.swarm_world.specs.Inside.Records.{tables_of};
 
-use swarm_objects::{Id, Ms, Network, Node, Place, Rows, Service, Settings, Task, Version};
+use swarm_objects::{
+    Id, Ms, Network, Node, Place, Rows, Service, Settings, Task, TaskKey, Version,
+};
 use swarm_sessions::Sessions;
 use swarm_store::Store;
 
@@ -70,6 +71,10 @@ impl Rows for Records {
 
     fn next_task_on(&self, node: Id, after: Id) -> Option<&Task> {
         self.store.next_task_on(node, after)
+    }
+
+    fn ids_with(&self, key: TaskKey) -> Option<&[Id]> {
+        self.store.ids_with(key)
     }
 
     fn session_live(&self, node: Id) -> bool {

@@ -1,10 +1,10 @@
 // The nodes that changes of rows touch: they are told something else of a task, and their agents may get a duty. It is
 // asked before the changes are made, with the rows as they are.
-ghost use Rattle.std.specs.Prelude.{◌≡◌, Some};
+ghost use Rattle.std.specs.Prelude.{IsTrue, Some};
 ghost use Rattle.swarm_objects.specs.Rows.{row_at, task_id};
 ghost use Rattle.swarm_spans.specs.Spans.{IsWider};
 ghost use Rattle.swarm_world.specs.Inside.Records.{tables_of};
-ghost use Rattle.swarm_world.specs.Inside.Touches.{AreTouched, HasNodeOf, TouchesAllTold, TouchesTold};
+ghost use Rattle.swarm_world.specs.Inside.Touches.{AreTouched, HasNodeOf, IsToldAlike, TouchesAllTold, TouchesTold};
 
 use crate::agent_spans::AgentSpans;
 use crate::records::Records;
@@ -36,6 +36,30 @@ fn add_former(records: &Records, id: Id, span: &mut Span)
     }
 }
 
+// Each node is told the same of both.
+#[tactic(auto, using(crate::proofs::ToldAlike::told_alike))]
+fn is_told_alike(task: &Task, old: &Task) -> bool
+    ensures { IsTrue result → IsToldAlike task.now (Some old.now) }
+{
+    task.id == old.id
+        && task.is_below_assigned() == old.is_below_assigned()
+        && task.node == old.node
+        && task.desired == old.desired
+        && task.template.workload == old.template.workload
+}
+
+// Each node is told the same of the task as of the row that it replaces: so it is mostly, since a task goes through
+// many states and notes.
+#[tactic(auto, using(crate::proofs::ToldAlike::row_alike))]
+fn stays_told(records: &Records, task: &Task) -> bool
+    ensures { IsTrue result → IsToldAlike task.now (row_at task_id task.now.id (tables_of records.now).tasks) }
+{
+    match records.task(task.id) {
+        Some(old) => is_told_alike(task, old),
+        None => false,
+    }
+}
+
 // What one change touches.
 #[tactic(auto, using(crate::proofs::ToldNodes::change_steps))]
 fn touch_by(records: &Records, change: &Change, span: &mut Span)
@@ -43,6 +67,7 @@ fn touch_by(records: &Records, change: &Change, span: &mut Span)
     ensures touches { TouchesTold (tables_of records.now) span.new change.now }
 {
     match change {
+        Change::PutTask(task) if stays_told(records, task) => {}
         Change::PutTask(task) => {
             add_node_of(task, span);
             add_former(records, task.id, span);

@@ -17,7 +17,7 @@ use std::marker::Model;
 use swarm_objects::limits::MOST_ENTRIES;
 use swarm_objects::{
     Call, Duty, Entry, Id, Ms, Network, NoMemory, Node, Place, Refusal, Reply, Role, Rows, Service,
-    Settings, Settle, Task, Version, What,
+    Settings, Settle, Task, TaskKey, Version, What,
 };
 use turn_cell::Counted;
 
@@ -302,6 +302,10 @@ impl Rows for World {
 
     fn next_task_on(&self, node: Id, after: Id) -> Option<&Task> {
         self.rows().next_task_on(node, after)
+    }
+
+    fn ids_with(&self, key: TaskKey) -> Option<&[Id]> {
+        self.rows().ids_with(key)
     }
 
     fn session_live(&self, node: Id) -> bool {

@@ -58,7 +58,8 @@ news_by _ span = span
 abbrev pub lowered : ℕ → ℕ → Steps → Steps
 lowered node task s = if s.node == node && nat_lt task s.before then record s { before = task } else s
 
--- one that made a step may have the next one, and after a message each may have one; no other duty gives an executor a step
+-- one that made a step may have the next one, and after a message each may have one; no other duty gives an executor
+-- a step
 abbrev pub steps_by : Duty → Steps → Steps
 steps_by (duty.Apply node) s = lowered node 0 s
 steps_by (duty.Exec node task) s = lowered node task s

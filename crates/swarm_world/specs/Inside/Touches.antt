@@ -16,6 +16,10 @@ abbrev pub told_on : ℕ → Option Task → Option Assigned
 told_on node None = None
 told_on node (Some x) = if is_assigned_on node x then Some (assigned x) else None
 
+-- each node is told the same of the task as of the other one
+abbrev pub IsToldAlike : Task → Option Task → Type 0
+IsToldAlike y o = (node : ℕ) → told_on node (Some y) ≡ told_on node o
+
 -- each node to which the task is assigned is in the span
 pub record HasNodeOf (wide : Span) (o : Option Task) : Type 0 where
   pub has : (x : Task) (node : ℕ) → o ≡ Some x → 0 < node → is_assigned_on node x ≡ true → is_in wide node ≡ true
