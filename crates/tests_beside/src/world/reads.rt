@@ -1,5 +1,5 @@
 // Whether the one world reads as the plain one: all reads of rows.
-use swarm_objects::{Network, Node, Rows, Same, Service, Task};
+use swarm_objects::{Network, Node, Rows, Same, Service, Task, TaskKey};
 use swarm_plain::Plain;
 use swarm_world::World;
 
@@ -31,9 +31,29 @@ fn is_service_same(plain: &Plain, world: &World, service: &Service) -> bool {
         && is_same(plain.next_task_of(id, 0), world.next_task_of(id, 0))
 }
 
+// The world's list of ids for the key has the task.
+fn is_listed(world: &World, key: TaskKey, task: &Task) -> bool {
+    match world.ids_with(key) {
+        Some(ids) => ids.iter().any(|id| *id == task.id),
+        None => false,
+    }
+}
+
+// It stands in the lists of its service, its place and its node.
+fn is_found(world: &World, task: &Task) -> bool {
+    let is_on_node = match task.node {
+        Some(node) => is_listed(world, TaskKey::Node(node), task),
+        None => true,
+    };
+    is_on_node
+        && is_listed(world, TaskKey::Service(task.service), task)
+        && is_listed(world, TaskKey::Place(task.service, task.place), task)
+}
+
 fn is_task_same(plain: &Plain, world: &World, task: &Task) -> bool {
     let (id, service, place, version) = (task.id, task.service, task.place, task.born);
     is_row(task, world.task(id))
+        && is_found(world, task)
         && is_same(
             plain.next_task_of(service, id),
             world.next_task_of(service, id),
