@@ -46,7 +46,8 @@ moved more n count =
 -- each number is named so many times more, or fewer
 abbrev pub MovesAll : Bool → (Bool → ℕ → ℕ) → Counts → Counts → Type 0
 MovesAll more n before after =
-    (udp : Bool) (number : ℕ) → count_of udp after number ≡ option_map (moved more (n udp number)) (count_of udp before number)
+    (udp : Bool) (number : ℕ) →
+    count_of udp after number ≡ option_map (moved more (n udp number)) (count_of udp before number)
 
 -- how often a number is named, as far as its count tells it
 abbrev pub known : Option ℕ → Option ℕ
@@ -56,7 +57,8 @@ known (Some count) = if nat_lt count most_times then Some count else None
 -- what the table tells is how often the services name the number
 abbrev pub AreTimes : Counts → List Service → Type 0
 AreTimes counts services =
-    (udp : Bool) (number : ℕ) → IfSome (known (count_of udp counts number)) (λ times. times ≡ times_in udp number services)
+    (udp : Bool) (number : ℕ) →
+    IfSome (known (count_of udp counts number)) (λ times. times ≡ times_in udp number services)
 
 -- how many numbers a protocol has
 abbrev pub all_numbers : ℕ
@@ -64,7 +66,8 @@ all_numbers = 65536
 
 -- no number is held
 abbrev pub AreNone : Counts → Type 0
-AreNone counts = (udp : Bool) (number : ℕ) → count_of udp counts number ≡ (if nat_lt number all_numbers then Some 0 else None)
+AreNone counts =
+    (udp : Bool) (number : ℕ) → count_of udp counts number ≡ (if nat_lt number all_numbers then Some 0 else None)
 
 -- this one number, once
 abbrev pub once : Bool → ℕ → Bool → ℕ → ℕ

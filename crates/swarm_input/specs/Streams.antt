@@ -32,8 +32,8 @@ HasFailed s = Rose s.faults_before s.faults_after
 abbrev pub HasRisen : Stream → Type 0
 HasRisen s = s.faults_before < s.faults_after
 
--- of a source at most so many lines were taken, none longer than this, and what was read ahead of them: a line that isn't
--- whole, and a piece
+-- of a source at most so many lines were taken, none longer than this, and what was read ahead of them: a line that
+-- isn't whole, and a piece
 pub record TakesLines (before after : Option (List ℕ)) (most longest : ℕ) : Type 0 where
   pub lines : List ℕ
   pub ahead : List ℕ

@@ -10,7 +10,8 @@ use Rattle.swarm_objects.specs.declared.duties.Duty.{Duty}
 use Rattle.swarm_objects.specs.declared.loops.Role.{Role}
 use Rattle.turn_cell.specs.Entries.{StartsWith}
 
--- the entry with this number of the history is a duty of one of these control loops, the loop's first one just before it
+-- the entry with this number of the history is a duty of one of these control loops, the loop's first one just before
+-- it
 pub record IsTurn (rs : List Role) (history : List Entry) (m : ℕ × Entry) : Type 0 where
   pub duty : Duty
   pub is_duty : m.1.what ≡ Done duty

@@ -22,7 +22,8 @@ pub record SeesBusy (before : List Entry) : Type 0 where
   pub sees : Sees before world
   pub busy : is_busy world ≡ true
 
--- there is a next line, and it isn't done: of a wait line time is left, or its last stretch isn't full and has more to do
+-- there is a next line, and it isn't done: of a wait line time is left, or its last stretch isn't full and has more to
+-- do
 abbrev pub IsUndone : (start : List Entry) (w : World) (next : Option Asked) (part : List Entry) → IsPart w next part →
     Type 0
 IsUndone start w None part is = ⊥

@@ -1,4 +1,5 @@
--- The text of a journal, and what the bytes of one say: the head line, and then one entry a line, up to the first line outside the grammar.
+-- The text of a journal, and what the bytes of one say: the head line, and then one entry a line, up to the first line
+-- outside the grammar.
 use Rattle.std.specs.Prelude.{ℕ, ◌+◌, nat_lt, if◌then◌else◌, Bool, List, [], ◌∷◌, ◌++◌, codes, Option, Some, None, Result, Ok, Err}
 use Rattle.std.specs.List.{flat_map}
 use Rattle.std.specs.Str.{bytes_eq}

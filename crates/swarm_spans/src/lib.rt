@@ -10,9 +10,9 @@
 //
 // A commit of a list of changes touches each line's span before it applies them, with the rows as they are: by
 // `touch_tasks` with what the line reads (`reads`), and by `touch_blocked`, `touch_moved`, `touch_freed` and
-// `touch_held` where other rows may let a waiting task go on. These take the span of all that wait, which is kept like a
-// line of its own. Afterwards the lines' laws (`tasks_go_on`, `waiting_go_on`) say that each span covers in the tables
-// that the changes made.
+// `touch_held` where other rows may let a waiting task go on. These take the span of all that wait, which is kept like
+// a line of its own. Afterwards the lines' laws (`tasks_go_on`, `waiting_go_on`) say that each span covers in the
+// tables that the changes made.
 // `ServiceSpans` and `TaskSpans` have the spans of all lines, and do so for each of them (`touch`). Time and a node's
 // session are no rows: `with_time` and `with_session` say what they touch. What else changes (settings, networks, rows
 // that calls make or remove) makes all spans full. Where only a step's events are known, `events_tell_all` says that

@@ -57,7 +57,8 @@ BeginLaw =
     (h : List Entry) (f : Filter) (before after : Watchings) (result : Result (Unit {0}) Refusal) →
     let w = replay h in
     StandsFor before w → MayAnswerAs (begin_answer before.watchers w.tables.next_id f) before result after →
-    MayAnswerAsWorld (λ _. reply.WatchBegun w.tables.next_id) (step w (what.Call (call.WatchBegin f))) before result after
+    MayAnswerAsWorld (λ _. reply.WatchBegun w.tables.next_id) (step w (what.Call (call.WatchBegin f)))
+    before result after
 
 abbrev pub PollsLaw : Type 0
 PollsLaw =

@@ -75,7 +75,8 @@ IsKept NoMemory w after = ⊤
 -- the same of the line of an entry, or how the reading ends there
 abbrev pub TellsEntry : ℕ → World → List ℕ → Result (List ℕ) Verdict → World → World → Type 0
 TellsEntry count w line (Ok text) before after = IsTold w line before after text
-TellsEntry count w line (Err verdict) before after = TakesEntry count w line (Err verdict) after × IsKept verdict w after
+TellsEntry count w line (Err verdict) before after =
+    TakesEntry count w line (Err verdict) after × IsKept verdict w after
 
 -- a line of events that was made is put, or how the reading ends
 abbrev pub PutsTold : Result (List ℕ) Verdict → Result (Unit {0}) Ending → Stream → Type 0

@@ -37,9 +37,11 @@ pub record TaskRises (old new : Task) : Type 0 where
 abbrev pub EachTaskRises : List Task → List Task → Type 0
 EachTaskRises old new = (x y : Task) → Has old x → Has new y → x.id ≡ y.id → TaskRises x y
 
--- each id that is new is none that was given before, and is given now: it lies from the next id before on, below the next one after
+-- each id that is new is none that was given before, and is given now: it lies from the next id before on, below the
+-- next one after
 abbrev pub ComeAbove : {X : Type 0} → (X → ℕ) → ℕ → ℕ → List X → List X → Type 0
-ComeAbove key next end old new = All (λ row. (has_row key (key row) old ≡ true) ⊎ ((next ≤ key row) × (key row < end))) new
+ComeAbove key next end old new =
+    All (λ row. (has_row key (key row) old ≡ true) ⊎ ((next ≤ key row) × (key row < end))) new
 
 abbrev pub session_id : NodeSession → ℕ
 session_id s = s.session.id

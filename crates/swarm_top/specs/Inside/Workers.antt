@@ -27,7 +27,8 @@ module _ {V : Type 0} {C : Ghosts V Entry} where
     pub adds : AddsTurns (share n workers) [] (mine p) (seen p)
 
   -- caller 0 has read a script, and Halt stands behind it
-  pub record HasRead (cell : TurnCell V Entry) (ending : Ending) (script out : Stream) (p : Pass V Entry C) : Type 0 where
+  pub record HasRead
+      (cell : TurnCell V Entry) (ending : Ending) (script out : Stream) (p : Pass V Entry C) : Type 0 where
     pub cell_is : IsPassOf cell p
     pub number : number_of p ≡ 0
     pub now : List Entry
@@ -36,7 +37,8 @@ module _ {V : Type 0} {C : Ghosts V Entry} where
 
   -- the passes of the workers from 1 on, in order
   abbrev pub AreReady : TurnCell V Entry → List (Pass V Entry C) → Type 0
-  AreReady cell passes = (k : ℕ) (d : Pass V Entry C) → k < length passes → IsReady cell (k + 1) (slice_index_or passes k d)
+  AreReady cell passes =
+      (k : ℕ) (d : Pass V Entry C) → k < length passes → IsReady cell (k + 1) (slice_index_or passes k d)
 
   abbrev pub HaveWorked : TurnCell V Entry → ℕ → List (Pass V Entry C) → Type 0
   HaveWorked cell workers passes =
