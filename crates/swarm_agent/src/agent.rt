@@ -24,11 +24,8 @@ ghost use Rattle.swarm_objects.specs.Loops.Agents.{has_step, is_forgotten, recei
 ghost use Rattle.swarm_objects.specs.Rows.{drop_row, executor_task, has_row, row_at, rows_above};
 
 use crate::executors::Executors;
-use crate::looks::{
-    first_forgotten, first_news, first_phase, first_step, first_step_above, phase_after,
-};
+use crate::looks::{first_forgotten, first_news, first_phase, first_step_above, phase_after};
 use crate::messages::{is_stale, take_in};
-use crate::steps::make_step;
 use std::alloc::Global;
 use std::marker::Model;
 use swarm_objects::{AgentMode, Id, Message, Ms, NoMemory, TaskState};
@@ -167,15 +164,7 @@ impl Agent {
         }
     }
 
-    /// The least task whose executor has a step that is due.
-    pub fn step_due(&self, now: Ms) -> Option<Id>
-        ensures value { result ≡ first_task (has_step now) self.now.executors }
-        ensures due { IfSome result (λ task. passes (has_step now) task self.now ≡ true) }
-    {
-        first_step(&self.executors, now)
-    }
-
-    /// The least such task above this one.
+    /// The least task above this one whose executor has a step that is due.
     pub fn step_due_after(&self, after: Id, now: Ms) -> Option<Id>
         ensures { result ≡ first_task (has_step now) (rows_above executor_task after self.now.executors) }
     {

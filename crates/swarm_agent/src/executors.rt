@@ -96,7 +96,7 @@ fn forget(rows: &mut Vec<Executor>, task: Id)
     }
 }
 
-/// Executors, by rising task. Contracts see them as a list. An agent has few and goes over them at each look.
+/// Executors, by rising task. Contracts see them as a list.
 #[derive(Drop)]
 pub struct Executors {
     rows: Vec<Executor>,

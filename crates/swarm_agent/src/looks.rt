@@ -11,19 +11,6 @@ use crate::executors::Executors;
 use crate::steps::{has_step, phase_time};
 use swarm_objects::{Executor, Id, Ms, TaskState, rank};
 
-/// The first executor with a step that is due.
-pub fn first_step(executors: &Executors, now: Ms) -> Option<Id>
-    ensures order { IsRising executor_task executors.now }
-    ensures value { result ≡ first_task (has_step now) executors.now }
-{
-    for executor in executors.iter() {
-        if has_step(now, executor) {
-            return Some(executor.task);
-        }
-    }
-    None
-}
-
 /// The first executor after this task with a step that is due.
 pub fn first_step_above(executors: &Executors, after: Id, now: Ms) -> Option<Id>
     ensures { result ≡ first_task (has_step now) (rows_above executor_task after executors.now) }

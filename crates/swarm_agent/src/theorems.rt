@@ -11,7 +11,7 @@ pub fn messages_bring_the_last_due_set()
     ensures { HearingLaw }
 {}
 
-/// What `step_due` and `forget_due` find is the first duty of its kind that the agent has.
+/// The first executor with a step that is due, and the first that is forgotten, have the first duties of their kinds.
 pub fn what_is_found_is_the_first_duty()
     ensures { DutiesLaw }
 {}

@@ -236,8 +236,8 @@ impl Store {
         self.state.next_task_on(node, after)
     }
 
-    /// Ids by rising number, those of all tasks with the key among them, so that a walk over these looks the key up
-    /// once. None where they don't stand in one list, since memory was wanting for a row.
+    /// Ids among which those of all tasks with the key stand, these by rising number, so that a walk over these tasks
+    /// looks the key up once. None where they don't stand in one list, since memory was wanting for a row.
     pub fn ids_with(&self, key: TaskKey) -> Option<&[Id]>
         ensures { let tasks = self.now.tables.tasks in
             IfSome result (λ ids. named_with key ids.now tasks ≡ filter (has_key key) tasks) }

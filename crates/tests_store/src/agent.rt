@@ -95,7 +95,7 @@ fn again(agent: &mut Agent) -> bool {
 fn step(agent: &mut Agent, now: Ms) -> Option<Id>
     requires { now < far_end }
 {
-    match agent.step_due(now) {
+    match agent.step_due_after(0, now) {
         Some(task) => {
             agent.exec(task, now);
             Some(task)

@@ -1,8 +1,0 @@
-use Rattle.std.proofs.Common.{◌≡◌}
-use Rattle.std.specs.Slice.Iter.{iter_rest}
-use Rattle.swarm_agent.specs.Agent.{first_task}
-use Rattle.swarm_objects.specs.Loops.Agents.{has_step}
-use Rattle.swarm_agent.proofs.looks.first_step.Given as goal
-
-abbrev pub invariant-loop-executor : goal.invariant-loop-executor
-invariant-loop-executor l = first_task (has_step l.now) (iter_rest l.executor-iterator) ≡ first_task (has_step l.now) l.executors
