@@ -1,5 +1,7 @@
 -- What is remembered of services, and changes that touch one of them.
-use Rattle.std.proofs.Common.{Bool, List, None, Option, Some, ap, arith, eqb, false, get_or, length, not, refl, set, subst, sym, true, ℕ, ◌%◌, ◌<◌, ◌∙◌, ◌≡◌, ◌≢◌, ◌⊎◌, inl, inr}
+use Rattle.std.proofs.Common.{Bool, List, None, Option, Some, [], ap, arith, cond, eqb, false, get_or, is_some, length}
+use Rattle.std.proofs.Common.{not, refl, set, subst, suc, sym, true, zero, ℕ, ◌%◌, ◌<◌, ◌∙◌, ◌∷◌, ◌≡◌, ◌≢◌, ◌⊎◌, inl}
+use Rattle.std.proofs.Common.{inr}
 use Rattle.std.proofs.lemmas.Bool.Decides.{nat_tests}
 use Rattle.std.proofs.lemmas.List.{get_or-set_other, get_or-set_same}
 use Rattle.std.specs.List.{list_all}
@@ -8,7 +10,8 @@ use Rattle.role_words.proofs.Numbers.{number_equal, same_number}
 use Rattle.role_words.specs.Marks.{stands}
 use Rattle.swarm_objects.proofs.RowLemmas.{Has-from_row_at}
 use Rattle.swarm_objects.proofs.SameLemmas.{Decides-same_place}
-use Rattle.swarm_objects.proofs.Tests.{all-pass, both, first_so, of-all, or_cases, or_left, or_right, second_so, some-and, some-and-cases}
+use Rattle.swarm_objects.proofs.Tests.{all-pass, both, first_so, of-all, or_cases, or_left, or_right, second_so}
+use Rattle.swarm_objects.proofs.Tests.{some-and, some-and-cases}
 use Rattle.swarm_objects.specs.ChangeLists.{apply_changes}
 use Rattle.swarm_objects.specs.Rows.{Has, is_some_and, row_at, service_id, task_id}
 use Rattle.swarm_objects.specs.Same.{same_bool, same_place}
@@ -24,12 +27,16 @@ use Rattle.swarm_objects.specs.declared.tasks.Place.{Place}
 use Rattle.swarm_objects.specs.declared.tasks.Task.{Task}
 use Rattle.swarm_replicated.proofs.Leaving.{not-of, service-stays}
 use Rattle.swarm_replicated.proofs.Recounting.{all-spared}
-use Rattle.swarm_replicated.proofs.Turning.{is-it}
+use Rattle.swarm_replicated.proofs.PlaceSteps.{is-it}
 use Rattle.swarm_replicated.specs.Inside.Touches.{is_same_standing, keeps_standing, touches_only, was_other}
-use Rattle.swarm_replicated.specs.Inside.Turns.{goes_on, is_alike, is_elsewhere, is_it, spares, was_elsewhere}
-use Rattle.swarm_replicated.specs.KnownPlaces.{AreCounted, IsCounted, IsKept, Knows}
+use Rattle.swarm_replicated.specs.Inside.PlaceChanges.{goes_on, is_alike, is_elsewhere, is_it, spares, was_elsewhere}
+use Rattle.swarm_replicated.specs.Inside.Reach.{reach_only}
+use Rattle.swarm_replicated.specs.KnownPlaces.{AreCounted, IsCounted, IsKept, Knows, entry, of_service}
 use Rattle.swarm_replicated.specs.declared.known_places.Counted.{Counted}
 use Rattle.swarm_replicated.specs.declared.known_places.KnownPlaces.{KnownPlaces}
+use Rattle.swarm_replicated.specs.declared.known_places.TheConstants.{SLOTS}
+use Rattle.swarm_replicated.specs.declared.reach.Reach.TheVariants as reach
+use Rattle.swarm_replicated.specs.declared.reach.Reach.{Reach}
 
 -- A change that touches no service but another one spares all places.
 
@@ -190,22 +197,23 @@ knows_same t u known services tasks knows = record {
 
 -- The slots.
 
-pub within : (service slot : ℕ) → slot ≡ service % 8 → slot < 8
+pub within : (service slot : ℕ) → slot ≡ service % SLOTS → slot < SLOTS
 within service slot is = omega (arith, is)
 
 goes-on : (t : Tables) (o : Option ℕ) (cs : List Change) (slot : ℕ) (p : Option Counted) → IsUsable t →
-    list_all (touches_only t o) cs ≡ true → ((k : Counted) → k.service % 8 ≡ slot → o ≡ Some k.service → ⊥) →
+    list_all (touches_only t o) cs ≡ true → ((k : Counted) → k.service % SLOTS ≡ slot → o ≡ Some k.service → ⊥) →
     IfSome p (IsKept t slot) → IfSome p (IsKept (apply_changes t cs) slot)
 goes-on t o cs slot None usable all apart kept = tt
 goes-on t o cs slot (Some k) usable all apart kept =
     record { counted = untouched t k o cs usable kept.counted all (apart k kept.stands); stands = kept.stands }
 
 -- where no service is touched
-pub none-touched : (t : Tables) (known : KnownPlaces) (o : Option ℕ) (cs : List Change) → IsUsable t → o ≡ None →
-    list_all (touches_only t o) cs ≡ true → Knows t known → Knows (apply_changes t cs) known
-none-touched t known o cs usable is all knows = record {
+pub none-touched : (t : Tables) (known : KnownPlaces) (r : Reach) (cs : List Change) → IsUsable t → r ≡ reach.Nothing →
+    reach_only (touches_only t) r cs ≡ true → Knows t known → Knows (apply_changes t cs) known
+none-touched t known r cs usable is all knows = record {
   each = λ slot lt.
-      goes-on t o cs slot (get_or known.counted slot None) usable all (λ k _ e. none k (sym is ∙ e)) (knows.each slot lt);
+      goes-on t None cs slot (get_or known.counted slot None) usable
+      (subst (λ p. reach_only (touches_only t) p cs ≡ true) is all) (λ k _ e. none k e) (knows.each slot lt);
 }
   where
     none : (k : Counted) → None ≡ Some k.service → ⊥
@@ -213,14 +221,15 @@ none-touched t known o cs usable is all knows = record {
 
 -- where one is, and its slot is filled or emptied
 pub one-touched : (t : Tables) (known : KnownPlaces) (service slot : ℕ) (cs : List Change) (p : Option Counted) → IsUsable t →
-    slot ≡ service % 8 → slot < 8 → length known.counted ≡ 8 → list_all (touches_only t (Some service)) cs ≡ true → Knows t known →
+    slot ≡ service % SLOTS → slot < SLOTS → length known.counted ≡ SLOTS →
+    list_all (touches_only t (Some service)) cs ≡ true → Knows t known →
     IfSome p (IsKept (apply_changes t cs) slot) →
     Knows (apply_changes t cs) (record { counted = set known.counted slot p })
 one-touched t known service slot cs p usable is within wide all knows kept = record {
   each = λ j lt. go j lt (eqb j slot) refl;
 }
   where
-    go : (j : ℕ) → j < 8 → (b : Bool) → eqb j slot ≡ b →
+    go : (j : ℕ) → j < SLOTS → (b : Bool) → eqb j slot ≡ b →
         IfSome (get_or (set known.counted slot p) j None) (IsKept (apply_changes t cs) j)
     go j lt true e =
         let same : slot ≡ j = grind (arith, nat_tests, e) in
@@ -231,21 +240,101 @@ one-touched t known service slot cs p usable is within wide all knows kept = rec
         subst (λ q. IfSome q (IsKept (apply_changes t cs) j)) (sym (get_or-set_other known.counted slot j p None differ))
         (goes-on t (Some service) cs j (get_or known.counted j None) usable all (apart differ) (knows.each j lt))
       where
-        apart : j ≢ slot → (k : Counted) → k.service % 8 ≡ j → Some service ≡ Some k.service → ⊥
+        apart : j ≢ slot → (k : Counted) → k.service % SLOTS ≡ j → Some service ≡ Some k.service → ⊥
         apart differ k at same =
-            let one : service ≡ k.service = cc in differ (sym at ∙ ap (λ n. n % 8) (sym one) ∙ sym is)
+            let one : service ≡ k.service = cc in differ (sym at ∙ ap (λ n. n % SLOTS) (sym one) ∙ sym is)
 
-pub counted-at : (t : Tables) (known : KnownPlaces) (slot : ℕ) → slot < 8 → Knows t known →
-    IfSome (get_or known.counted slot None) (IsCounted t)
-counted-at t known slot lt knows = go (get_or known.counted slot None) (knows.each slot lt)
+-- What is remembered of one service.
+
+of-counted : (t : Tables) (slot id : ℕ) (o : Option Counted) → IfSome o (IsKept t slot) →
+    IfSome (of_service id o) (IsCounted t)
+of-counted t slot id None kept = tt
+of-counted t slot id (Some k) kept = go (eqb k.service id)
   where
-    go : (o : Option Counted) → IfSome o (IsKept t slot) → IfSome o (IsCounted t)
-    go None kept = tt
-    go (Some k) kept = kept.counted
+    go : (b : Bool) → IfSome (cond b (Some k) None) (IsCounted t)
+    go true = kept.counted
+    go false = tt
 
--- what is made of the slot's
-pub kept-after : (t u : Tables) (slot : ℕ) (w : Counted) (is : Option Counted) → IsKept t slot w →
-    IfSome is (IsCounted u) → IfSome is (λ k. k.service ≡ w.service) → IfSome is (IsKept u slot)
-kept-after t u slot w None kept counted same = tt
-kept-after t u slot w (Some k) kept counted same =
-    record { counted = counted; stands = ap (λ n. n % 8) same ∙ kept.stands }
+of-same : (id : ℕ) (o : Option Counted) → IfSome (of_service id o) (λ k. k.service ≡ id)
+of-same id None = tt
+of-same id (Some k) = go (eqb k.service id) refl
+  where
+    go : (b : Bool) → eqb k.service id ≡ b → IfSome (cond b (Some k) None) (λ k. k.service ≡ id)
+    go true is = same_number k.service id is
+    go false is = tt
+
+entry-counted : (t : Tables) (known : KnownPlaces) (id : ℕ) → Knows t known → IfSome (entry known id) (IsCounted t)
+entry-counted t known id knows =
+    of-counted t (id % SLOTS) id (get_or known.counted (id % SLOTS) None)
+    (knows.each (id % SLOTS) (within id (id % SLOTS) refl))
+
+pub found-counted : (t : Tables) (known : KnownPlaces) (id : ℕ) (k : Counted) → Some k ≡ entry known id →
+    Knows t known → IsCounted t k
+found-counted t known id k is knows = subst (λ o. IfSome o (IsCounted t)) (sym is) (entry-counted t known id knows)
+
+pub found-same : (known : KnownPlaces) (id : ℕ) (k : Counted) → Some k ≡ entry known id → k.service ≡ id
+found-same known id k is =
+    subst (λ o. IfSome o (λ k. k.service ≡ id)) (sym is) (of-same id (get_or known.counted (id % SLOTS) None))
+
+pub recalled-same : (known : KnownPlaces) (id : ℕ) (o : Option Counted) → o ≡ entry known id →
+    IfSome o (λ k. k.service ≡ id)
+recalled-same known id o is =
+    subst (λ p. IfSome p (λ k. k.service ≡ id)) (sym is) (of-same id (get_or known.counted (id % SLOTS) None))
+
+pub recalled : (t : Tables) (known : KnownPlaces) (s : Service) (o : Option Counted) → o ≡ entry known s.id →
+    Knows t known → row_at service_id s.id t.services ≡ Some s → IfSome o (λ k. AreCounted k (held_places t s))
+recalled t known s None is knows at = tt
+recalled t known s (Some k) is knows at =
+    (found-counted t known s.id k is knows).each s
+    (subst (λ n. row_at service_id n t.services ≡ Some s) (sym (found-same known s.id k is)) at)
+
+-- where nothing is remembered of the one that is touched
+pub other-touched : (t : Tables) (known : KnownPlaces) (service : ℕ) (cs : List Change) → IsUsable t →
+    entry known service ≡ None → list_all (touches_only t (Some service)) cs ≡ true → Knows t known →
+    Knows (apply_changes t cs) known
+other-touched t known service cs usable none all knows = record {
+  each = λ j lt. go j (get_or known.counted j None) refl (knows.each j lt);
+}
+  where
+    apart : (j : ℕ) (k : Counted) → get_or known.counted j None ≡ Some k → k.service % SLOTS ≡ j →
+        Some service ≡ Some k.service → ⊥
+    apart j k at stands same =
+        let one : service ≡ k.service = cc in
+        let slot : service % SLOTS ≡ j = ap (λ n. n % SLOTS) one ∙ stands in
+        let there : entry known service ≡ Some k =
+        ap (λ n. of_service service (get_or known.counted n None)) slot ∙ ap (of_service service) at
+        ∙ ap (λ b. cond b (Some k) None) (number_equal k.service service (sym one)) in
+        differ (sym none ∙ there)
+      where
+        differ : None ≡ Some k → ⊥
+        differ e = absurd cc
+
+    go : (j : ℕ) (o : Option Counted) → get_or known.counted j None ≡ o → IfSome o (IsKept t j) →
+        IfSome o (IsKept (apply_changes t cs) j)
+    go j None at kept = tt
+    go j (Some k) at kept = record {
+      counted = untouched t k (Some service) cs usable kept.counted all (apart j k at kept.stands);
+      stands = kept.stands;
+    }
+
+-- what is made of it
+pub kept-after : (u : Tables) (slot service : ℕ) (w : Counted) (o : Option Counted) → slot ≡ service % SLOTS →
+    w.service ≡ service → IfSome o (IsCounted u) → IfSome o (λ k. k.service ≡ w.service) → IfSome o (IsKept u slot)
+kept-after u slot service w None at is counted same = tt
+kept-after u slot service w (Some k) at is counted same =
+    record { counted = counted; stands = ap (λ n. n % SLOTS) (same ∙ is) ∙ sym at }
+
+-- Nothing is remembered.
+
+none-at : (all : List (Option Counted)) (slot : ℕ) → list_all (λ o. not (is_some o)) all ≡ true →
+    get_or all slot None ≡ None
+none-at [] slot e = refl
+none-at (None ∷ all) zero e = refl
+none-at (None ∷ all) (suc slot) e = none-at all slot e
+none-at (Some k ∷ all) slot e = absurd cc
+
+pub empty-knows : (t : Tables) (known : KnownPlaces) → list_all (λ o. not (is_some o)) known.counted ≡ true →
+    Knows t known
+empty-knows t known empty = record {
+  each = λ slot lt. subst (λ o. IfSome o (IsKept t slot)) (sym (none-at known.counted slot empty)) tt;
+}

@@ -3,10 +3,11 @@ mod Choosing
 mod Counting
 pub mod Keeping
 mod Leaving
+mod PlaceSteps
+mod Reaching
 mod Recounting
 mod Remembering
 mod Services
 mod Sights
 mod Steps
-mod Turning
 mod Weighing

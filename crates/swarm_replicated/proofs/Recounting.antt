@@ -15,10 +15,13 @@ use Rattle.swarm_objects.specs.declared.rows.Change.{Change}
 use Rattle.swarm_objects.specs.declared.services.Service.{Service}
 use Rattle.swarm_replicated.proofs.Leaving.{service-stays}
 use Rattle.swarm_replicated.proofs.Remembering.{held-not, held-rise, more-places, same-places}
-use Rattle.swarm_replicated.proofs.Turning.{held-spared}
-use Rattle.swarm_replicated.specs.Inside.Turns.{spares}
+use Rattle.swarm_replicated.proofs.PlaceSteps.{held-spared}
+use Rattle.swarm_replicated.specs.Inside.PlaceChanges.{spares}
+use Rattle.swarm_replicated.specs.Inside.Reach.{reach_only}
 use Rattle.swarm_replicated.specs.KnownPlaces.{AreCounted, IsCounted}
 use Rattle.swarm_replicated.specs.declared.known_places.Counted.{Counted}
+use Rattle.swarm_replicated.specs.declared.reach.Reach.TheVariants as reach
+use Rattle.swarm_replicated.specs.declared.reach.Reach.{Reach}
 
 one-service : (s v : Service) (o : Option Service) → o ≡ Some s → o ≡ Some v → s ≡ v
 one-service s v o e f = let both : Some s ≡ Some v = sym e ∙ f in cc
@@ -51,11 +54,11 @@ all-spared t s k cs usable counted at all =
     none : {j : ℕ} → None ≡ Some j → ⊥
     none e = absurd cc
 
-pub none-other : (t : Tables) (s : Service) (k : Counted) (o : Option ℕ) (cs : List Change) → IsUsable t → IsCounted t k →
-    row_at service_id k.service t.services ≡ Some s → o ≡ None → list_all (spares t s o) cs ≡ true →
+pub none-other : (t : Tables) (s : Service) (k : Counted) (r : Reach) (cs : List Change) → IsUsable t → IsCounted t k →
+    row_at service_id k.service t.services ≡ Some s → r ≡ reach.Nothing → reach_only (spares t s) r cs ≡ true →
     IsCounted (apply_changes t cs) k
-none-other t s k o cs usable counted at is all =
-    all-spared t s k cs usable counted at (subst (λ p. list_all (spares t s p) cs ≡ true) is all)
+none-other t s k r cs usable counted at is all =
+    all-spared t s k cs usable counted at (subst (λ p. reach_only (spares t s) p cs ≡ true) is all)
 
 elsewhere : (t : Tables) (s : Service) (number : ℕ) (cs : List Change) → IsUsable t →
     list_all (spares t s (Some number)) cs ≡ true → (j : ℕ) → (number ≡ j → ⊥) →

@@ -1,17 +1,20 @@
 -- What one held place more makes of how many are held, and of the least number that isn't.
-use Rattle.std.proofs.Common.{Bool, List, [], ap, arith, cond, eqb, false, inl, inr, length, ltb, refl, subst, suc, sym, true, zero, ℕ, ◌+◌, ◌-◌, ◌<◌, ◌∙◌, ◌∷◌, ◌≡◌, ◌≤◌, ◌⊎◌}
+use Rattle.std.proofs.Common.{Bool, List, None, Option, Some, [], ap, arith, cond, eqb, false, inl, inr, length, ltb}
+use Rattle.std.proofs.Common.{refl, subst, suc, sym, true, zero, ℕ, ◌+◌, ◌-◌, ◌<◌, ◌∙◌, ◌∷◌, ◌≡◌, ◌≤◌, ◌⊎◌}
 use Rattle.std.proofs.lemmas.Bool.Decides.{nat_tests}
 use Rattle.std.specs.List.{list_any}
-use Rattle.std.specs.Prelude.{filter, fold}
+use Rattle.std.specs.Prelude.{IfSome, filter, fold}
 use Rattle.role_words.proofs.Numbers.{number_at, numbers-rising, one_place}
 use Rattle.role_words.proofs.Stepping.{rises_from}
-use Rattle.swarm_objects.proofs.Gaps.{first_gap-free, first_gap-ge, Has-with_number_keeps, Has-with_row, IsRising-filter, IsRising-with_row}
+use Rattle.swarm_objects.proofs.Gaps.{first_gap-free, first_gap-ge, Has-with_number_keeps, Has-with_row}
+use Rattle.swarm_objects.proofs.Gaps.{IsRising-filter, IsRising-with_row}
 use Rattle.swarm_objects.proofs.Rising.{gap-free, gap-held, with_number-cases}
 use Rattle.swarm_objects.proofs.Newest.{newest_has}
 use Rattle.swarm_objects.proofs.RowLemmas.{Has-filter, Has-filter_cases, RisesFrom-filter, number_above}
 use Rattle.swarm_objects.proofs.Tests.{any-has, first_so, or_cases, second_so, some-and-cases}
 use Rattle.swarm_objects.specs.Rows.{Has, IsRising, RisesFrom, first_gap, is_some_and, itself, with_number}
-use Rattle.swarm_objects.specs.Tasks.Places.{closes, counts_for, held_places, is_held_place, is_in_place, newest, place_at, place_number, place_numbers, place_tasks}
+use Rattle.swarm_objects.specs.Tasks.Places.{closes, counts_for, held_places, is_held_place, is_in_place, newest}
+use Rattle.swarm_objects.specs.Tasks.Places.{place_at, place_number, place_numbers, place_tasks}
 use Rattle.swarm_objects.specs.Same.{same_place}
 use Rattle.swarm_objects.specs.Tasks.Words.{is_live}
 use Rattle.swarm_objects.specs.World.{Tables}
@@ -235,6 +238,34 @@ past-held t s gap next held searches = let beyond = searches.beyond in record {
   so =
       goes-on t s gap next (Has-with_number_keeps gap next (held_places t s) (held-has t s next held)) searches.so;
 }
+
+-- a number that comes before doesn't count
+gap-before : (k from : ℕ) (ks : List ℕ) → k < from → first_gap from (k ∷ ks) ≡ first_gap from ks
+gap-before k from ks lt =
+    let less : ltb k from ≡ true = grind (arith, nat_tests, lt) in
+    ap (λ b. cond b (first_gap from ks) (cond (eqb k from) (first_gap (from + 1) ks) from)) less
+
+gap-past : (k from : ℕ) (ks : List ℕ) → k < from → first_gap from (with_number k ks) ≡ first_gap from ks
+gap-past k from [] lt = gap-before k from [] lt
+gap-past k from (j ∷ js) lt = go (ltb k j) refl (eqb k j) refl (gap-past k from js lt)
+  where
+    go : (a : Bool) → ltb k j ≡ a → (b : Bool) → eqb k j ≡ b → first_gap from (with_number k js) ≡ first_gap from js →
+        first_gap from (cond a (k ∷ j ∷ js) (cond b (k ∷ js) (j ∷ with_number k js))) ≡ first_gap from (j ∷ js)
+    go true g b e rest = gap-before k from (j ∷ js) lt
+    go false g true e rest =
+        gap-before k from js lt ∙ sym (gap-before j from js (grind (arith, nat_tests, e, lt)))
+    go false g false e rest =
+        let below : j < from = grind (arith, nat_tests, g, e, lt) in
+        gap-before j from (with_number k js) below ∙ rest ∙ sym (gap-before j from js below)
+
+-- the first one that isn't held from the end of the search on
+pub search-beyond : (t : Tables) (s : Service) (gap next end : ℕ) (o : Option ℕ) → next ≡ end →
+    IfSome o (λ k. k ≡ first_gap end (held_places t s)) → Searches t s gap next →
+    IfSome o (λ k. k ≡ first_gap 1 (with_number gap (held_places t s)))
+search-beyond t s gap next end None at is searches = tt
+search-beyond t s gap next end (Some k) at is searches =
+    is ∙ ap (λ n. first_gap n (held_places t s)) (sym at)
+    ∙ sym (searches.so ∙ gap-past gap next (held_places t s) searches.beyond)
 
 -- One place more.
 

@@ -13,7 +13,7 @@ use Rattle.swarm_objects.specs.Tasks.Words.{is_live, is_of, is_running}
 use Rattle.swarm_objects.specs.World.{Tables}
 use Rattle.swarm_objects.specs.declared.services.Service.{Service}
 use Rattle.swarm_objects.specs.declared.tasks.Task.{Task}
-use Rattle.swarm_replicated.proofs.Turning.{at-stands, stands-at}
+use Rattle.swarm_replicated.proofs.PlaceSteps.{at-stands, stands-at}
 use Rattle.swarm_replicated.specs.Inside.Weights.{IsApart, IsAt, Remains, Weighs, blank, heavier, is_up_with, most_with, noted_at, weight_at}
 use Rattle.swarm_replicated.specs.declared.weights.TheConstants.{BLANK, WIDTH}
 use Rattle.swarm_replicated.specs.declared.weights.Weight.{Weight}

@@ -1,6 +1,7 @@
 -- Words of private contracts.
 pub mod Candidates
 pub mod Crowds
-pub mod Turns
-pub mod Weights
+pub mod PlaceChanges
+pub mod Reach
 pub mod Touches
+pub mod Weights

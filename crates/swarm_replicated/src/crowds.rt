@@ -9,7 +9,7 @@ use swarm_objects::walks::tasks_on;
 use swarm_objects::{Id, Rows, Service};
 
 // How many nodes are remembered.
-const SLOTS: usize = 64;
+const SLOTS: usize = 256;
 
 // How many of the service's live tasks are on the node.
 #[derive(Clone, Copy)]
@@ -32,6 +32,7 @@ impl<'a, R: Rows> Model for Crowds<'a, R> {
     ghost use Rattle.std.specs.Prelude.{◌≡◌, length};
     ghost use Rattle.swarm_objects.specs.Usable.{IsUsable};
     ghost use Rattle.swarm_replicated.specs.Inside.Crowds.{AreKnown, Counted};
+    ghost use Rattle.swarm_replicated.specs.declared.crowds.TheConstants.{SLOTS};
 
     ghost Value = { Counted };
 
@@ -39,12 +40,12 @@ impl<'a, R: Rows> Model for Crowds<'a, R> {
 
     ghost invariant = { λ c. IsUsable (R.tables c.rows.now)
         × AreKnown (record { tables = R.tables c.rows.now; service = c.service.now }) c.known
-        × (length c.known ≡ 64) };
+        × (length c.known ≡ SLOTS) };
 }
 
 // The node's slot.
 fn slot_of(node: Id) -> usize
-    ensures { result < 64 }
+    ensures { result < SLOTS }
 {
     node as usize % SLOTS
 }

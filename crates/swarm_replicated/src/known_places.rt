@@ -1,5 +1,5 @@
 // What is remembered of the places of some services, so that they aren't counted again for each of their tasks.
-ghost use Rattle.std.specs.Prelude.{◌%◌, ◌≡◌, IfSome, List, Some, false, length, nat_lt, true, ℕ};
+ghost use Rattle.std.specs.Prelude.{◌%◌, ◌≡◌, IfSome, List, Some, false, is_some, length, nat_lt, not, true, ℕ};
 ghost use Rattle.std.specs.List.{list_all};
 ghost use Rattle.swarm_objects.specs.ChangeLists.{apply_changes};
 ghost use Rattle.swarm_objects.specs.Loops.Replicated.{create_duty, down_duty};
@@ -7,14 +7,15 @@ ghost use Rattle.swarm_objects.specs.Rows.{Has, IsRising, first_gap, first_of, i
 ghost use Rattle.swarm_objects.specs.Tasks.Places.{held_places, is_held_place};
 ghost use Rattle.swarm_objects.specs.Usable.{IsUsable};
 ghost use Rattle.swarm_objects.specs.World.{Tables};
-ghost use Rattle.swarm_replicated.specs.KnownPlaces.{AreCounted, IsCounted, IsKept, Knows};
+ghost use Rattle.swarm_replicated.specs.KnownPlaces.{AreCounted, IsCounted, Knows, entry};
+ghost use Rattle.swarm_replicated.specs.Inside.PlaceChanges.{spares};
 ghost use Rattle.swarm_replicated.specs.Inside.Touches.{touches_only};
-ghost use Rattle.swarm_replicated.specs.Inside.Turns.{spares};
 
-use crate::place_changes::{all_spare, first_number, will_hold};
+use crate::place_changes::{places_together, will_hold};
+use crate::reach::Reach;
 use crate::slots::{gives_up, held_bound};
-use crate::touches::{all_touch_only, first_touched};
-use role_words::{is_held_place, tally};
+use crate::touches::touched_together;
+use role_words::{first_gap, is_held_place, tally};
 use swarm_objects::{Change, Duty, Id, Mode, Rows, Service};
 
 // How many places of the service are held, and the least number from 1 on that isn't.
@@ -28,6 +29,9 @@ struct Counted {
 // How many services are remembered.
 const SLOTS: usize = 8;
 
+// How many numbers behind the gap are asked for one by one, before one pass tells the next gap.
+const ASKED: u64 = 8;
+
 /// What is remembered of services. Each has one slot, by the rest of its id; of services with the same slot the last
 /// one is remembered.
 #[derive(Drop)]
@@ -37,9 +41,20 @@ pub struct KnownPlaces {
 
 // The service's slot.
 fn slot_of(service: Id) -> usize
-    ensures { result ≡ service % 8 }
+    ensures { result ≡ service % SLOTS }
 {
     service as usize % SLOTS
+}
+
+// The least number from this one on that isn't held, by one pass over the service's tasks.
+fn gap_from<R: Rows>(rows: &R, service: &Service, from: u64) -> Option<u64>
+    requires { IsUsable (R.tables rows.now) }
+    ensures { IfSome result (λ gap. gap ≡ first_gap from (held_places (R.tables rows.now) service.now)) }
+{
+    if from > u64::from(u32::MAX) {
+        return None;
+    }
+    Some(first_gap(rows, service, from as u32))
 }
 
 // The least number from 1 on that isn't held once this one is, which was the least.
@@ -49,12 +64,14 @@ fn next_gap<R: Rows>(rows: &R, service: &Service, gap: u64) -> Option<u64>
     ensures { IfSome result (λ next.
         next ≡ first_gap 1 (with_number gap (held_places (R.tables rows.now) service.now))) }
 {
-    for next in gap.checked_add(1)?..u64::MAX {
+    let first = gap.checked_add(1)?;
+    let end = first.checked_add(ASKED)?;
+    for next in first..end {
         if !is_held_place(rows, service, next) {
             return Some(next);
         }
     }
-    None
+    gap_from(rows, service, end)
 }
 
 impl Counted {
@@ -157,27 +174,11 @@ impl Counted {
         let Some(service) = rows.service(self.service) else {
             return None;
         };
-        let place = first_number(rows, service, changes);
-        if !all_spare(rows, service, place, changes) {
-            return None;
+        match places_together(rows, service, changes) {
+            Reach::Nothing => Some(self),
+            Reach::One(number) => self.after_place(rows, service, number, changes),
+            Reach::More => None,
         }
-        match place {
-            Some(number) => self.after_place(rows, service, number, changes),
-            None => Some(self),
-        }
-    }
-}
-
-// The same of what may be remembered.
-fn after<R: Rows>(counted: Option<Counted>, rows: &R, changes: &[Change]) -> Option<Counted>
-    requires usable { IsUsable (R.tables rows.now) }
-    requires counted { IfSome counted (IsCounted (R.tables rows.now)) }
-    ensures { let t = R.tables rows.now in (slot : ℕ) → IfSome counted (IsKept t slot)
-        → IfSome result (IsKept (apply_changes t changes.now) slot) }
-{
-    match counted {
-        Some(counted) => counted.after(rows, changes),
-        None => None,
     }
 }
 
@@ -198,6 +199,24 @@ impl KnownPlaces {
         *self = KnownPlaces::none();
     }
 
+    // Nothing is remembered.
+    fn is_empty(&self) -> bool
+        ensures { result ≡ list_all (λ slot. not (is_some slot)) self.now.counted }
+    {
+        self.counted.iter().all(|slot| slot.is_none())
+    }
+
+    // What is remembered of the service with this id.
+    fn entry(&self, service: Id) -> Option<Counted>
+        ensures { result ≡ entry self.now service }
+    {
+        let counted = self.counted[slot_of(service)];
+        match counted {
+            Some(counted) if counted.service == service => Some(counted),
+            _ => None,
+        }
+    }
+
     // What is remembered of the service's places.
     fn recall<R: Rows>(&self, rows: &R, service: &Service) -> Option<Counted>
         requires knows { Knows (R.tables rows.now) self.now }
@@ -205,11 +224,7 @@ impl KnownPlaces {
         ensures service { IfSome result (λ k. k.service ≡ service.now.id) }
         ensures counted { IfSome result (λ k. AreCounted k (held_places (R.tables rows.now) service.now)) }
     {
-        let counted = self.counted[slot_of(service.id)];
-        match counted {
-            Some(counted) if counted.service == service.id => Some(counted),
-            _ => None,
-        }
+        self.entry(service.id)
     }
 
     // Remembers what was counted of the service.
@@ -258,7 +273,7 @@ impl KnownPlaces {
     }
 
     // Goes over the slot of the one service that these changes touch, before they are made.
-    fn turn<R: Rows>(&mut self, rows: &R, changes: &[Change], service: Id) -> KnownPlaces
+    fn go_over_slot<R: Rows>(&mut self, rows: &R, changes: &[Change], service: Id) -> KnownPlaces
         requires usable { IsUsable (R.tables rows.now) }
         requires knows { Knows (R.tables rows.now) self.old }
         requires touched { list_all (touches_only (R.tables rows.now) (Some service)) changes.now ≡ true }
@@ -266,12 +281,14 @@ impl KnownPlaces {
         ensures goes_on { Knows (apply_changes (R.tables rows.now) changes.now) self.new }
         ensures after { Knows (apply_changes (R.tables rows.now) changes.now) result }
     {
-        let slot = slot_of(service);
-        let counted = after(self.counted[slot], rows, changes);
         let mut then = KnownPlaces {
             counted: self.counted,
         };
-        then.counted[slot] = counted;
+        let Some(counted) = self.entry(service) else {
+            return then;
+        };
+        let slot = slot_of(service);
+        then.counted[slot] = counted.after(rows, changes);
         self.counted[slot] = None;
         then
     }
@@ -285,16 +302,18 @@ impl KnownPlaces {
         ensures goes_on { Knows (apply_changes (R.tables rows.now) changes.now) self.new }
         ensures after { Knows (apply_changes (R.tables rows.now) changes.now) result }
     {
-        let service = first_touched(rows, changes);
-        if !all_touch_only(rows, service, changes) {
-            self.forget_all();
+        if self.is_empty() {
             return KnownPlaces::none();
         }
-        match service {
-            Some(service) => self.turn(rows, changes, service),
-            None => KnownPlaces {
+        match touched_together(rows, changes) {
+            Reach::Nothing => KnownPlaces {
                 counted: self.counted,
             },
+            Reach::One(service) => self.go_over_slot(rows, changes, service),
+            Reach::More => {
+                self.forget_all();
+                KnownPlaces::none()
+            }
         }
     }
 }

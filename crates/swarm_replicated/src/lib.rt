@@ -7,6 +7,7 @@ mod crowds;
 mod known_places;
 mod order;
 mod place_changes;
+mod reach;
 mod slots;
 mod touches;
 mod weights;

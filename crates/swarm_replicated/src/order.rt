@@ -4,7 +4,7 @@ ghost use Rattle.swarm_objects.specs.Kinds.{bit};
 ghost use Rattle.swarm_objects.specs.Loops.Replicated.{first_to_go};
 ghost use Rattle.swarm_objects.specs.Rows.{keep_least};
 ghost use Rattle.swarm_objects.specs.Usable.{IsUsable};
-ghost use Rattle.swarm_replicated.specs.Inside.Candidates.{candidate_cmp, weighed};
+ghost use Rattle.swarm_replicated.specs.Inside.Candidates.{candidate_cmp};
 
 use crate::crowds::Crowds;
 use crate::weights::{Weight, Weights};
@@ -16,10 +16,7 @@ use swarm_objects::{Rows, Service};
 #[derive(Clone, Copy)]
 struct Candidate {
     number: u64,
-    // a live task that runs stands in it
-    is_up: bool,
-    // the most of the service's live tasks on a node of its own live ones
-    crowd: u64,
+    weight: Weight,
 }
 
 // Yes is 1, and no is 0.
@@ -33,9 +30,9 @@ fn bit(yes: bool) -> u8
 fn compare(a: Candidate, b: Candidate) -> Ordering
     ensures { result ≡ candidate_cmp a b }
 {
-    bit(a.is_up)
-        .cmp(&bit(b.is_up))
-        .then(b.crowd.cmp(&a.crowd))
+    bit(a.weight.is_up)
+        .cmp(&bit(b.weight.is_up))
+        .then(b.weight.crowd.cmp(&a.weight.crowd))
         .then(b.number.cmp(&a.number))
 }
 
@@ -49,17 +46,6 @@ fn sooner(first: Option<Candidate>, place: Candidate) -> Option<Candidate>
     }
 }
 
-// The place with this number, as it was weighed.
-fn weighed(number: u64, weight: Weight) -> Candidate
-    ensures { result ≡ weighed number weight }
-{
-    Candidate {
-        number,
-        is_up: weight.is_up,
-        crowd: weight.crowd,
-    }
-}
-
 /// The first of the held places to go, by one walk over the service's tasks for each window of place numbers.
 pub fn first_to_go<R: Rows>(rows: &R, service: &Service) -> Option<u64>
     requires { IsUsable (R.tables rows.now) }
@@ -70,7 +56,7 @@ pub fn first_to_go<R: Rows>(rows: &R, service: &Service) -> Option<u64>
     let mut first = None;
     for number in held_places(rows, service) {
         let weight = weights.weigh(&mut crowds, rows, service, number);
-        first = sooner(first, weighed(number, weight));
+        first = sooner(first, Candidate { number, weight });
     }
     Some(first?.number)
 }

@@ -1,13 +1,16 @@
 // What changes of rows make of a service's places: which of them they spare, and whether one is held after them.
-ghost use Rattle.std.specs.Prelude.{◌≡◌, IfSome};
+ghost use Rattle.std.specs.Prelude.{◌≡◌, IfSome, true};
 ghost use Rattle.std.specs.List.{list_all, list_any};
 ghost use Rattle.role_words.specs.Marks.{stands};
 ghost use Rattle.swarm_objects.specs.ChangeLists.{apply_changes};
 ghost use Rattle.swarm_objects.specs.Tasks.Places.{is_held_place};
 ghost use Rattle.swarm_objects.specs.Usable.{IsUsable};
-ghost use Rattle.swarm_replicated.specs.Inside.Turns.{fills, goes_on, holds, is_alike, is_elsewhere, is_emptied, is_filled};
-ghost use Rattle.swarm_replicated.specs.Inside.Turns.{is_it, is_kept, is_named, leaves_full, may_hold, may_stay, names, puts_none, spares, was_elsewhere};
+ghost use Rattle.swarm_replicated.specs.Inside.PlaceChanges.{fills, holds, is_alike, is_emptied, is_filled, is_kept};
+ghost use Rattle.swarm_replicated.specs.Inside.PlaceChanges.{is_named, leaves_full, may_hold, may_stay, names};
+ghost use Rattle.swarm_replicated.specs.Inside.PlaceChanges.{place_of, puts_none, spares};
+ghost use Rattle.swarm_replicated.specs.Inside.Reach.{passes, reach_only};
 
+use crate::reach::Reach;
 use role_words::place_tasks;
 use swarm_objects::{Change, Id, Rows, Service, Task};
 
@@ -28,33 +31,6 @@ fn holds(service: &Service, number: u64, task: &Task) -> bool
     task.is_live() && stands(service, task) && task.place.place_number() == number
 }
 
-/// The number is this one.
-pub fn is_it(place: Option<u64>, number: u64) -> bool
-    ensures { result ≡ is_it place number }
-{
-    match place {
-        Some(it) => it == number,
-        None => false,
-    }
-}
-
-// The task stands in a place of the service, another one than this.
-fn is_elsewhere(service: &Service, place: Option<u64>, task: &Task) -> bool
-    ensures { result ≡ is_elsewhere service.now place task.now }
-{
-    stands(service, task) && !is_it(place, task.place.place_number())
-}
-
-// The task with this id stands there.
-fn was_elsewhere<R: Rows>(rows: &R, service: &Service, place: Option<u64>, id: Id) -> bool
-    ensures { result ≡ was_elsewhere (R.tables rows.now) service.now place id }
-{
-    match rows.task(id) {
-        Some(task) => is_elsewhere(service, place, task),
-        None => false,
-    }
-}
-
 // Both stand in the same place, and make the same of it.
 fn is_alike(service: &Service, one: &Task, two: &Task) -> bool
     ensures { result ≡ is_alike service.now one.now two.now }
@@ -66,80 +42,73 @@ fn is_alike(service: &Service, one: &Task, two: &Task) -> bool
         && one.closes() == two.closes()
 }
 
-// The task is there, and alike.
-fn goes_on<R: Rows>(rows: &R, service: &Service, task: &Task) -> bool
-    ensures { result ≡ goes_on (R.tables rows.now) service.now task.now }
+// The place of the service that the task stands in.
+fn place_of(service: &Service, task: &Task) -> Reach
+    ensures { result ≡ place_of service.now task.now }
 {
-    match rows.task(task.id) {
-        Some(former) => is_alike(service, task, former),
-        None => false,
-    }
-}
-
-// Each place of the service but this one is held after the change as before.
-fn spares<R: Rows>(rows: &R, service: &Service, place: Option<u64>, change: &Change) -> bool
-    ensures { result ≡ spares (R.tables rows.now) service.now place change.now }
-{
-    match change {
-        Change::PutNode(_) | Change::Keep(_) => true,
-        Change::PutService(put) => put.id != service.id,
-        Change::PutTask(task) => {
-            goes_on(rows, service, task)
-                || (!is_elsewhere(service, place, task)
-                    && !was_elsewhere(rows, service, place, task.id))
-        }
-        Change::DropTask(task) => !was_elsewhere(rows, service, place, *task),
-    }
-}
-
-/// All of them spare these places.
-pub fn all_spare<R: Rows>(
-    rows: &R,
-    service: &Service,
-    place: Option<u64>,
-    changes: &[Change],
-) -> bool
-    ensures { result ≡ list_all (spares (R.tables rows.now) service.now place) changes.now }
-{
-    changes
-        .iter()
-        .all(|change| spares(rows, service, place, change))
-}
-
-// The number of a place that the task stands in.
-fn number_of(service: &Service, task: &Task) -> Option<u64> {
     if stands(service, task) {
-        Some(task.place.place_number())
+        Reach::One(task.place.place_number())
     } else {
-        None
+        Reach::Nothing
     }
 }
 
-// The number of the place in which the change may matter.
-fn number_in<R: Rows>(rows: &R, service: &Service, change: &Change) -> Option<u64> {
+// The places in which the put of the task may matter: its own, and that of the one that was there; none where both
+// are alike.
+#[tactic(auto, using(crate::proofs::Reaching::place_steps))]
+fn places_put<R: Rows>(rows: &R, service: &Service, task: &Task) -> Reach
+    ensures { passes (λ place. spares (R.tables rows.now) service.now place (Change.PutTask task.now)) result ≡ true }
+{
+    let Some(former) = rows.task(task.id) else {
+        return place_of(service, task);
+    };
+    if is_alike(service, task, former) {
+        return Reach::Nothing;
+    }
+    place_of(service, task).and(place_of(service, former))
+}
+
+// The place of the task with this id, if it is there.
+#[tactic(auto, using(crate::proofs::Reaching::place_steps))]
+fn places_dropped<R: Rows>(rows: &R, service: &Service, id: Id) -> Reach
+    ensures { passes (λ place. spares (R.tables rows.now) service.now place (Change.DropTask id)) result ≡ true }
+{
+    match rows.task(id) {
+        Some(former) => place_of(service, former),
+        None => Reach::Nothing,
+    }
+}
+
+// The places of the service in which the change may matter: all others are held after it as before.
+fn places_changed<R: Rows>(rows: &R, service: &Service, change: &Change) -> Reach
+    ensures { passes (λ place. spares (R.tables rows.now) service.now place change.now) result ≡ true }
+{
     match change {
-        Change::PutTask(task) => {
-            if goes_on(rows, service, task) {
-                return None;
-            }
-            match number_of(service, task) {
-                Some(number) => Some(number),
-                None => number_of(service, rows.task(task.id)?),
+        Change::PutNode(_) | Change::Keep(_) => Reach::Nothing,
+        Change::PutService(put) => {
+            if put.id == service.id {
+                Reach::More
+            } else {
+                Reach::Nothing
             }
         }
-        Change::DropTask(task) => number_of(service, rows.task(*task)?),
-        _ => None,
+        Change::PutTask(task) => places_put(rows, service, task),
+        Change::DropTask(task) => places_dropped(rows, service, *task),
     }
 }
 
-/// The same of the first of these changes that has one.
-pub fn first_number<R: Rows>(rows: &R, service: &Service, changes: &[Change]) -> Option<u64> {
+/// The places in which any of them may matter.
+pub fn places_together<R: Rows>(rows: &R, service: &Service, changes: &[Change]) -> Reach
+    ensures { reach_only (spares (R.tables rows.now) service.now) result changes.now ≡ true }
+{
+    let mut together = Reach::Nothing;
     for change in changes {
-        if let Some(number) = number_in(rows, service, change) {
-            return Some(number);
+        together = together.and(places_changed(rows, service, change));
+        if let Reach::More = together {
+            return Reach::More;
         }
     }
-    None
+    together
 }
 
 // The change puts a new task that holds the place.

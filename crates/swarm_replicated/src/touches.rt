@@ -1,9 +1,9 @@
 // Which services changes of rows touch: all others hold their places as before.
-ghost use Rattle.std.specs.Prelude.{◌≡◌};
-ghost use Rattle.std.specs.List.{list_all};
-ghost use Rattle.swarm_replicated.specs.Inside.Touches.{is_same_standing, keeps_standing, touches_only, was_other};
+ghost use Rattle.std.specs.Prelude.{◌≡◌, true};
+ghost use Rattle.swarm_replicated.specs.Inside.Reach.{passes, reach_only};
+ghost use Rattle.swarm_replicated.specs.Inside.Touches.{is_same_standing, touches_only};
 
-use crate::place_changes::is_it;
+use crate::reach::Reach;
 use swarm_objects::{Change, Id, Rows, Task};
 
 // The two stand alike in any service's places.
@@ -17,71 +17,55 @@ fn is_same_standing(one: &Task, two: &Task) -> bool
         && one.closes() == two.closes()
 }
 
-// The task is there, and stands alike.
-fn keeps_standing<R: Rows>(rows: &R, task: &Task) -> bool
-    ensures { result ≡ keeps_standing (R.tables rows.now) task.now }
+// The services that the put of the task touches: its own, and that of the one that was there; none where both stand
+// alike.
+#[tactic(auto, using(crate::proofs::Reaching::touch_steps))]
+fn touched_by_put<R: Rows>(rows: &R, task: &Task) -> Reach
+    ensures { passes (λ service. touches_only (R.tables rows.now) service (Change.PutTask task.now)) result ≡ true }
 {
-    match rows.task(task.id) {
-        Some(former) => is_same_standing(task, former),
-        None => false,
+    let Some(former) = rows.task(task.id) else {
+        return Reach::One(task.service);
+    };
+    if is_same_standing(task, former) {
+        return Reach::Nothing;
     }
+    Reach::One(task.service).and(Reach::One(former.service))
 }
 
-// The task with this id is there, and of another service than this.
-fn was_other<R: Rows>(rows: &R, service: Option<Id>, id: Id) -> bool
-    ensures { result ≡ was_other (R.tables rows.now) service id }
+// The service of the task with this id, if it is there.
+#[tactic(auto, using(crate::proofs::Reaching::touch_steps))]
+fn touched_by_drop<R: Rows>(rows: &R, id: Id) -> Reach
+    ensures { passes (λ service. touches_only (R.tables rows.now) service (Change.DropTask id)) result ≡ true }
 {
     match rows.task(id) {
-        Some(former) => !is_it(service, former.service),
-        None => false,
+        Some(former) => Reach::One(former.service),
+        None => Reach::Nothing,
     }
 }
 
-// The change touches no service but this one.
-fn touches_only<R: Rows>(rows: &R, service: Option<Id>, change: &Change) -> bool
-    ensures { result ≡ touches_only (R.tables rows.now) service change.now }
+// The services that the change touches.
+#[tactic(auto, using(crate::proofs::Reaching::touch_steps))]
+fn touched<R: Rows>(rows: &R, change: &Change) -> Reach
+    ensures { passes (λ service. touches_only (R.tables rows.now) service change.now) result ≡ true }
 {
     match change {
-        Change::PutNode(_) | Change::Keep(_) => true,
-        Change::PutService(put) => is_it(service, put.id),
-        Change::PutTask(task) => {
-            keeps_standing(rows, task)
-                || (is_it(service, task.service) && !was_other(rows, service, task.id))
-        }
-        Change::DropTask(task) => !was_other(rows, service, *task),
+        Change::PutNode(_) | Change::Keep(_) => Reach::Nothing,
+        Change::PutService(put) => Reach::One(put.id),
+        Change::PutTask(task) => touched_by_put(rows, task),
+        Change::DropTask(task) => touched_by_drop(rows, *task),
     }
 }
 
-/// None of them touches another one.
-pub fn all_touch_only<R: Rows>(rows: &R, service: Option<Id>, changes: &[Change]) -> bool
-    ensures { result ≡ list_all (touches_only (R.tables rows.now) service) changes.now }
+/// The services that all of them touch.
+pub fn touched_together<R: Rows>(rows: &R, changes: &[Change]) -> Reach
+    ensures { reach_only (touches_only (R.tables rows.now)) result changes.now ≡ true }
 {
-    changes
-        .iter()
-        .all(|change| touches_only(rows, service, change))
-}
-
-// A service that the change touches.
-fn touched<R: Rows>(rows: &R, change: &Change) -> Option<Id> {
-    match change {
-        Change::PutNode(_) | Change::Keep(_) => None,
-        Change::PutService(put) => Some(put.id),
-        Change::PutTask(task) => {
-            if keeps_standing(rows, task) {
-                return None;
-            }
-            Some(task.service)
-        }
-        Change::DropTask(task) => Some(rows.task(*task)?.service),
-    }
-}
-
-/// The first service that one of them touches.
-pub fn first_touched<R: Rows>(rows: &R, changes: &[Change]) -> Option<Id> {
+    let mut together = Reach::Nothing;
     for change in changes {
-        if let Some(service) = touched(rows, change) {
-            return Some(service);
+        together = together.and(touched(rows, change));
+        if let Reach::More = together {
+            return Reach::More;
         }
     }
-    None
+    together
 }

@@ -1,4 +1,4 @@
-// What decides when a place goes, for a window of place numbers: one walk over the service's tasks tells it of them all.
+// What decides when a place goes, for a window of place numbers: one walk over the service's tasks tells it of all.
 ghost use Rattle.std.specs.Prelude.{IfSome, List, None, ◌&&◌, ◌<◌, ◌∷◌, ◌≡◌};
 ghost use Rattle.role_words.specs.Marks.{stands};
 ghost use Rattle.swarm_objects.specs.Tasks.Words.{is_live};
@@ -6,7 +6,8 @@ ghost use Rattle.swarm_objects.specs.Usable.{IsUsable};
 ghost use Rattle.swarm_objects.specs.World.{Tables};
 ghost use Rattle.swarm_objects.specs.declared.services.Service.{Service as ServiceRow};
 ghost use Rattle.swarm_objects.specs.declared.tasks.Task.{Task as TaskRow};
-ghost use Rattle.swarm_replicated.specs.Inside.Weights.{IsApart, IsAt, Remains, Weighs, blank, heavier, noted_at, weight_of};
+ghost use Rattle.swarm_replicated.specs.Inside.Weights.{IsApart, IsAt, Remains, Weighs};
+ghost use Rattle.swarm_replicated.specs.Inside.Weights.{blank, heavier, noted_at, weight_of};
 
 use crate::crowds::Crowds;
 use crate::place_changes::stands;
@@ -14,7 +15,7 @@ use swarm_objects::walks::tasks_of;
 use swarm_objects::{Rows, Service, Task};
 
 // How many numbers a window has.
-const WIDTH: usize = 256;
+const WIDTH: usize = 1024;
 
 /// What the live tasks of a place say: one of them runs, and the most of the service's live tasks on a node of theirs.
 #[derive(Clone, Copy, Drop)]
@@ -65,7 +66,7 @@ impl Weights {
 
     // Notes a live task at this place.
     fn note_at(&mut self, index: usize, is_running: bool, crowd: u64)
-        requires { index < 256 }
+        requires { index < WIDTH }
         ensures { self.new ≡ noted_at index is_running crowd self.old }
     {
         self.weights[index] = heavier(self.weights[index], is_running, crowd);

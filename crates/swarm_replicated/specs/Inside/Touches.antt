@@ -8,7 +8,7 @@ use Rattle.swarm_objects.specs.World.{Tables}
 use Rattle.swarm_objects.specs.declared.rows.Change.{Change}
 use Rattle.swarm_objects.specs.declared.rows.Change.TheVariants as change
 use Rattle.swarm_objects.specs.declared.tasks.Task.{Task}
-use Rattle.swarm_replicated.specs.Inside.Turns.{is_it}
+use Rattle.swarm_replicated.specs.Inside.PlaceChanges.{is_it}
 
 -- the two stand alike in any service's places
 abbrev pub is_same_standing : Task → Task → Bool

@@ -1,5 +1,5 @@
 use Rattle.std.proofs.Common.{sym, ◌∙◌}
-use Rattle.swarm_replicated.proofs.Turning.{emptied, filled, kept}
+use Rattle.swarm_replicated.proofs.PlaceSteps.{emptied, filled, kept}
 use Rattle.swarm_replicated.proofs.place_changes.will_hold.Goals as goal
 
 pub returns-then-is_filled : goal.returns-then-is_filled

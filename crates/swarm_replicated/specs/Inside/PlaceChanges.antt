@@ -1,6 +1,7 @@
 -- What changes make of a service's places.
 use Rattle.std.specs.List.{list_all, list_any}
-use Rattle.std.specs.Prelude.{Bool, List, None, Option, Some, false, nat_le, nat_lt, not, true, ℕ, ◌&&◌, ◌==◌, ◌||◌}
+use Rattle.std.specs.Prelude.{Bool, List, None, Option, Some, false, if◌then◌else◌, nat_le, nat_lt, not, true, ℕ, ◌&&◌}
+use Rattle.std.specs.Prelude.{◌==◌, ◌||◌}
 use Rattle.role_words.specs.Marks.{stands}
 use Rattle.swarm_objects.specs.Rows.{is_row_and, task_id}
 use Rattle.swarm_objects.specs.Same.{same_bool}
@@ -11,6 +12,8 @@ use Rattle.swarm_objects.specs.declared.rows.Change.{Change}
 use Rattle.swarm_objects.specs.declared.rows.Change.TheVariants as change
 use Rattle.swarm_objects.specs.declared.services.Service.{Service}
 use Rattle.swarm_objects.specs.declared.tasks.Task.{Task}
+use Rattle.swarm_replicated.specs.declared.reach.Reach.TheVariants as reach
+use Rattle.swarm_replicated.specs.declared.reach.Reach.{Reach}
 
 -- Which places a change spares.
 
@@ -26,6 +29,10 @@ is_elsewhere s place x = stands s x && not (is_it place (place_number x.place))
 -- the task with this id stands there
 abbrev pub was_elsewhere : Tables → Service → Option ℕ → ℕ → Bool
 was_elsewhere t s place id = is_row_and task_id (is_elsewhere s place) t.tasks id
+
+-- the place of the service that the task stands in
+abbrev pub place_of : Service → Task → Reach
+place_of s x = if stands s x then reach.One (place_number x.place) else reach.Nothing
 
 -- both stand in the same place, and make the same of it
 abbrev pub is_alike : Service → Task → Task → Bool

@@ -1,19 +1,23 @@
 -- What changes make of a service's places: those that they spare are held as before, and what becomes of another one.
-use Rattle.std.proofs.Common.{Bool, List, None, Option, Some, [], ap, arith, cond, eqb, false, inl, inr, is_some, map, not, refl, subst, sym, true, ℕ, ◌∙◌, ◌∷◌, ◌≡◌, ◌≤◌, ◌⊎◌}
+use Rattle.std.proofs.Common.{Bool, List, None, Option, Some, [], ap, arith, cond, eqb, false, inl, inr, is_some, map}
+use Rattle.std.proofs.Common.{not, refl, subst, sym, true, ℕ, ◌∙◌, ◌∷◌, ◌≡◌, ◌≤◌, ◌⊎◌}
 use Rattle.std.proofs.lemmas.Bool.Decides.{nat_tests}
 use Rattle.std.specs.List.{last_or, list_all, list_any}
 use Rattle.std.specs.Option.{option_map}
 use Rattle.std.specs.Prelude.{filter, nat_le, nat_lt, ◌&&◌, ◌||◌}
 use Rattle.role_words.proofs.Numbers.{number_at, number_equal, one_place, same_number}
 use Rattle.role_words.specs.Marks.{stands}
-use Rattle.swarm_objects.proofs.RowLemmas.{Has-append_cases, Has-append_left, Has-append_right, Has-filter, Has-filter_cases, Has-from_row_at, Has-map, Has-map_cases, row_at-Some}
+use Rattle.swarm_objects.proofs.RowLemmas.{Has-append_cases, Has-append_left, Has-append_right, Has-filter}
+use Rattle.swarm_objects.proofs.RowLemmas.{Has-filter_cases, Has-from_row_at, Has-map, Has-map_cases, row_at-Some}
 use Rattle.swarm_objects.proofs.Newest.{newest_has}
-use Rattle.swarm_objects.proofs.Tests.{any-has, any_map, first_so, has-any, never-both, of-all, or_cases, or_left, or_right, same_bool_is, same_test, second_so, some-and-cases}
+use Rattle.swarm_objects.proofs.Tests.{any-has, any_map, first_so, has-any, never-both, of-all, or_cases, or_left}
+use Rattle.swarm_objects.proofs.Tests.{or_right, same_bool_is, same_test, second_so, some-and-cases}
 use Rattle.swarm_objects.specs.ChangeLists.{apply_change, apply_changes}
 use Rattle.swarm_objects.specs.Rows.{Has, has_row, is_some_and, put_row, row_at, task_id}
 use Rattle.swarm_objects.specs.Same.{same_bool, same_place}
 use Rattle.swarm_objects.specs.Tasks.New.{with_task}
-use Rattle.swarm_objects.specs.Tasks.Places.{closes, counts_for, is_held_place, is_in_place, newest, place_at, place_number, place_tasks}
+use Rattle.swarm_objects.specs.Tasks.Places.{closes, counts_for, is_held_place, is_in_place, newest, place_at}
+use Rattle.swarm_objects.specs.Tasks.Places.{place_number, place_tasks}
 use Rattle.swarm_objects.specs.Tasks.Words.{is_live}
 use Rattle.swarm_objects.specs.Usable.{IsUsable}
 use Rattle.swarm_objects.specs.World.{Tables}
@@ -23,7 +27,9 @@ use Rattle.swarm_objects.specs.declared.services.Service.{Service}
 use Rattle.swarm_objects.specs.declared.tasks.Task.{Task}
 use Rattle.swarm_replicated.proofs.Leaving.{not-of}
 use Rattle.swarm_replicated.proofs.Sights.{Keeps, Shows, none-there, seen, seen-changes, shown}
-use Rattle.swarm_replicated.specs.Inside.Turns.{fills, goes_on, holds, is_alike, is_elsewhere, is_emptied, is_filled, is_it, is_kept, is_named, leaves_full, may_hold, may_stay, names, puts_none, spares, was_elsewhere}
+use Rattle.swarm_replicated.specs.Inside.PlaceChanges.{fills, goes_on, holds, is_alike, is_elsewhere, is_emptied}
+use Rattle.swarm_replicated.specs.Inside.PlaceChanges.{is_filled, is_it, is_kept, is_named, leaves_full, may_hold}
+use Rattle.swarm_replicated.specs.Inside.PlaceChanges.{may_stay, names, puts_none, spares, was_elsewhere}
 
 -- What the tasks of a place show: whether they are live, and whether they close it.
 
