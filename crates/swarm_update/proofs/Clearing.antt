@@ -1,7 +1,8 @@
--- Changes that give a service no task that may make a place dirty.
-use Rattle.std.proofs.Common.{◌≡◌, ◌∙◌, ◌∷◌, ℕ, Bool, List, Option, Some, [], ap, false, inl, inr, refl, subst, sym, true}
+-- Changes that give services no task that may make a place dirty.
+use Rattle.std.proofs.Common.{◌%◌, ◌≡◌, ◌∙◌, ◌∷◌, ℕ, Bool, List, None, Option, Some, [], ap, arith, eqb, false, get_or, inl, inr, refl, subst, sym, true}
 use Rattle.std.specs.List.{list_any}
 use Rattle.std.specs.Prelude.{IfSome, filter, ◌&&◌}
+use Rattle.role_words.proofs.Numbers.{same_number}
 use Rattle.swarm_objects.proofs.PlaceLemmas.{any_again}
 use Rattle.swarm_objects.proofs.RowLemmas.{Has-from_row_at}
 use Rattle.swarm_objects.proofs.Tests.{any_filter, has-any}
@@ -16,24 +17,9 @@ use Rattle.swarm_objects.specs.declared.tasks.Task.{Task}
 use Rattle.swarm_update.proofs.Leaving.{CameFrom, Misses, PutsAlike, as_read, changes-leave, row_came}
 use Rattle.swarm_update.proofs.Marking.{true_false}
 use Rattle.swarm_update.proofs.Suspects.{any_suspect, none_suspect}
-use Rattle.swarm_update.specs.KnownSurvey.{AllStayClean, HasAlike, HasNoSuspect, StaysClean, is_suspect}
-
--- A loop over changes: where those that are left give none, all give none.
-pub record AreClean (t : Tables) (id : ℕ) (left all : List Change) : Type 0 where
-  pub goes_on : AllStayClean t id left → AllStayClean t id all
-
-pub clean_first : (t : Tables) (id : ℕ) (all : List Change) → AreClean t id all all
-clean_first t id all = record { goes_on = λ h. h }
-
-pub clean_next : (t : Tables) (id : ℕ) (left rest all : List Change) (c : Change) → left ≡ c ∷ rest
-    → StaysClean t id c → AreClean t id left all → AreClean t id rest all
-clean_next t id left rest all c is stays h = record {
-  goes_on = λ r. h.goes_on (subst (AllStayClean t id) (sym is) (stays, r));
-}
-
-pub clean_none : (t : Tables) (id : ℕ) (left all : List Change) → left ≡ [] → AreClean t id left all
-    → AllStayClean t id all
-clean_none t id left all is h = h.goes_on (subst (AllStayClean t id) (sym is) tt)
+use Rattle.swarm_update.specs.KnownSurvey.{AllStayClean, AreClean, HasAlike, HasNoSuspect, IsClean, StaysClean, has_service, is_suspect}
+use Rattle.swarm_update.specs.declared.clean.CleanServices.{CleanServices}
+use Rattle.swarm_update.specs.declared.clean.TheConstants.{SLOTS}
 
 each_clean : (t : Tables) (id : ℕ) (cs : List Change) (c : Change) → AllStayClean t id cs → Has cs c
     → StaysClean t id c
@@ -117,11 +103,17 @@ clean_on t id cs known all = record {
 
 -- What is remembered tells of the service's row, and a row is remembered.
 
-pub known_clean : (t : Tables) (o : Option ℕ) (id : ℕ) (s : Service) → IfSome o (HasNoSuspect t) → o ≡ Some id
-    → id ≡ s.id → row_at service_id s.id t.services ≡ Some s → any_suspect s t.tasks ≡ false
-known_clean t o id s known is own at =
-    let none : HasNoSuspect t id = subst (λ p. IfSome p (HasNoSuspect t)) is known in
-    none.each s (ap (λ n. row_at service_id n t.services) own ∙ at)
+pub known_clean : (t : Tables) (clean : CleanServices) (s : Service) → AreClean t clean → has_service clean s.id ≡ true
+    → row_at service_id s.id t.services ≡ Some s → any_suspect s t.tasks ≡ false
+known_clean t clean s known has at = go (get_or clean.services slot None) (known.each slot (omega arith)) has
+  where
+    slot : ℕ
+    slot = s.id % SLOTS
+
+    go : (o : Option ℕ) → IfSome o (IsClean t slot) → is_some_and (λ k. eqb k s.id) o ≡ true
+        → any_suspect s t.tasks ≡ false
+    go None is e = absurd cc
+    go (Some id) is e = is.none.each s (ap (λ n. row_at service_id n t.services) (same_number id s.id e) ∙ at)
 
 pub row_clean : (t : Tables) (s : Service) → row_at service_id s.id t.services ≡ Some s → any_suspect s t.tasks ≡ false
     → HasNoSuspect t s.id

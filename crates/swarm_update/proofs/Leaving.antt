@@ -1,14 +1,14 @@
 -- Changes that leave what is remembered of a service's update.
-use Rattle.std.proofs.Common.{◌≡◌, ◌∙◌, ◌∷◌, ◌⊎◌, ◌<◌, ℕ, Bool, List, None, Option, Some, [], ap, arith, cond, eqb, false, fold, get_or, inl, inr, ltb, not, refl, set, slice_set, subst, suc, sym, true, zero, ◌≤◌}
+use Rattle.std.proofs.Common.{◌≡◌, ◌∙◌, ◌∷◌, ◌⊎◌, ◌<◌, ℕ, Bool, List, None, Option, Some, [], ap, arith, cond, eqb, false, fold, get_or, inl, inr, ltb, not, refl, subst, sym, true}
 use Rattle.std.proofs.lemmas.Bool.Decides.{nat_tests}
 use Rattle.std.specs.List.{list_any}
-use Rattle.std.specs.Prelude.{IfSome, count_by, filter, slice_index, ◌&&◌, ◌++◌, ◌||◌}
+use Rattle.std.specs.Prelude.{IfSome, count_by, filter, ◌&&◌, ◌++◌, ◌||◌}
 use Rattle.role_words.proofs.Numbers.{number_equal, same_number}
 use Rattle.role_words.specs.Marks.{has_number, tasks_at}
 use Rattle.swarm_objects.proofs.Filters.{filter_again}
 use Rattle.swarm_objects.proofs.PlaceLemmas.{and_left, any_again, count_again}
 use Rattle.swarm_objects.proofs.RowLemmas.{Has-append_cases, Has-filter_cases, Has-from_row_at, Has-map_cases, row_at-Some}
-use Rattle.swarm_objects.proofs.Tests.{any_filter, both, first_so, or_false, or_right, second_so}
+use Rattle.swarm_objects.proofs.Tests.{any_filter, both, first_so, or_false, second_so}
 use Rattle.swarm_objects.specs.ChangeLists.{apply_change, apply_changes}
 use Rattle.swarm_objects.specs.Rows.{Has, drop_row, has_row, is_row_and, is_some_and, put_row, row_at, service_id, task_id, with_number}
 use Rattle.swarm_objects.specs.Same.{same_place}
@@ -25,12 +25,15 @@ use Rattle.swarm_objects.specs.declared.services.ServiceSpec.{ServiceSpec}
 use Rattle.swarm_objects.specs.declared.services.UpdateRun.{UpdateRun}
 use Rattle.swarm_objects.specs.declared.tasks.Task.{Task}
 use Rattle.swarm_update.proofs.Marking.{number_is, true_false}
-use Rattle.swarm_update.specs.KnownSurvey.{HasAlike, HasNoSuspect, IsLess, IsOf, IsSo, Knows, KnowsKept, LeaveAll, Leaves, is_among, is_suspect, leaves_out, may_fail, touches}
+use Rattle.swarm_update.specs.KnownSurvey.{AreClean, HasAlike, HasNoSuspect, IsLess, IsOf, IsSo, Knows, KnowsKept, LeaveAll, Leaves, is_suspect, leaves_out, may_fail, touches}
 use Rattle.swarm_update.specs.Marks.{mark_of}
+use Rattle.swarm_update.specs.declared.clean.CleanServices.{CleanServices}
 use Rattle.swarm_update.specs.declared.known_survey.Kept.{Kept}
+use Rattle.swarm_update.specs.StalePlaces.{is_stale}
 use Rattle.swarm_update.specs.declared.known_survey.KnownSurvey.{KnownSurvey}
 use Rattle.swarm_update.specs.declared.known_survey.Subject.{Subject}
 use Rattle.swarm_update.specs.declared.marks.TheConstants.{WIDTH}
+use Rattle.swarm_update.specs.declared.stale_places.StalePlaces.{StalePlaces}
 use Rattle.swarm_update.specs.declared.survey.Survey.{Survey}
 use Rattle.swarm_update.specs.Surveys.{Tells}
 use Rattle.swarm_update.proofs.Renoting.{shows_others}
@@ -432,13 +435,13 @@ no_failure k far s run x id counted version off = go (is_failure s run x) refl
         (both (is_of k.service x) _ own
         (later_or (not (leaves_out k far (place_number x.place))) _ (both k.is_counted _ counted fails))) off)
 
-out_below : (k : Subject) (far : Bool) (n : ℕ) → n < WIDTH → is_among k.stale n ≡ false → leaves_out k far n ≡ false
+out_below : (k : Subject) (far : Bool) (n : ℕ) → n < WIDTH → is_stale k.stale n ≡ false → leaves_out k far n ≡ false
 out_below k far n lt out =
     let below : ltb n WIDTH ≡ true = grind (arith, nat_tests, lt) in
-    ap (λ b. cond b (is_among k.stale n) far) below ∙ out
+    ap (λ b. cond b (is_stale k.stale n) far) below ∙ out
 
 out_above : (k : Subject) (far : Bool) (n : ℕ) → ltb n WIDTH ≡ false → far ≡ false → leaves_out k far n ≡ false
-out_above k far n above near = ap (λ b. cond b (is_among k.stale n) far) above ∙ near
+out_above k far n above near = ap (λ b. cond b (is_stale k.stale n) far) above ∙ near
 
 -- the same of tables of which all is the same that isn't touched
 stays_so : (v : Survey) (k : Subject) (t u : Tables) (s : Service) → s.id ≡ k.service → u.clock ≡ t.clock
@@ -536,44 +539,23 @@ less_so t v a b less h = record {
       failures = λ e run version. so.failures (less.counted e) run (version ∙ less.version);
     }
 
--- a number in the place of one that stands for no place
-set_more : (xs : List ℕ) (i m n : ℕ) → (eqb (get_or xs i 0) n ≡ false) → is_among (set xs i m) n ≡ false
-    → is_among xs n ≡ false
-set_more [] i m n apart e = e
-set_more (x ∷ xs) zero m n apart e =
-    ap (λ b. b || is_among xs n) apart ∙ second (eqb m n) (is_among xs n) e
+-- with one stale place more
+pub less_stale : (a : Subject) (more : StalePlaces) (m : ℕ)
+    → ((n : ℕ) → is_stale more n ≡ (eqb n m || is_stale a.stale n)) → IsLess a (record a { stale = more })
+less_stale a more m is = record {
+  service = refl;
+  version = refl;
+  counted = λ e. e;
+  stale = λ n lt out. second (eqb n m) (is_stale a.stale n) (sym (is n) ∙ out);
+}
   where
     second : (a b : Bool) → (a || b) ≡ false → b ≡ false
     second true b f = absurd cc
     second false b f = f
-set_more (x ∷ xs) (suc i) m n apart e = go (eqb x n) (set_more xs i m n apart) e
-  where
-    go : (b : Bool) → (is_among (set xs i m) n ≡ false → is_among xs n ≡ false)
-        → (b || is_among (set xs i m) n) ≡ false → (b || is_among xs n) ≡ false
-    go true rest f = absurd cc
-    go false rest f = rest f
 
-pub less_set : (a b : Subject) (i m : ℕ) → b ≡ a → WIDTH ≤ slice_index b.stale i
-    → IsLess a (record b { stale = slice_set b.stale i m })
-less_set a b i m same le =
-    less_then a b (record b { stale = slice_set b.stale i m }) (subst (IsLess a) (sym same) (less_same a)) (record {
-      service = refl;
-      version = refl;
-      counted = λ e. e;
-      stale = λ n lt out. set_more b.stale i m n (apart n lt) out;
-    })
-  where
-    apart : (n : ℕ) → n < WIDTH → eqb (slice_index b.stale i) n ≡ false
-    apart n lt = grind (arith, nat_tests, le, lt)
-
--- it is among them then
-set_among : (xs : List ℕ) (i m : ℕ) → 0 < get_or xs i 0 → is_among (set xs i m) m ≡ true
-set_among [] i m lt = absurd (omega (arith, lt))
-set_among (x ∷ xs) zero m lt = ap (λ b. b || is_among xs m) (number_equal m m refl)
-set_among (x ∷ xs) (suc i) m lt = or_right (eqb x m) (is_among (set xs i m) m) (set_among xs i m lt)
-
-pub stale_set : (a : Subject) (i m : ℕ) → WIDTH ≤ slice_index a.stale i → is_among (slice_set a.stale i m) m ≡ true
-stale_set a i m le = set_among a.stale i m (omega (arith, le))
+pub stale_own : (stale more : StalePlaces) (m : ℕ) → ((n : ℕ) → is_stale more n ≡ (eqb n m || is_stale stale n))
+    → is_stale more m ≡ true
+stale_own stale more m is = is m ∙ ap (λ b. b || is_stale stale m) (number_equal m m refl)
 
 -- What is kept.
 
@@ -610,7 +592,7 @@ told_known t v k s run tells id version row = record { each = λ z at. one z (fo
 
     one : (z : Service) → s ≡ z → IsSo v k t z
     one z same = subst (IsSo v k t) same (record {
-      places = shows_others v.places t s k.stale tells.places;
+      places = shows_others v.places t s (is_stale k.stale) tells.places;
       failures = λ counted other is.
           tells.failures ∙ ap (λ n. failures t s (record run { version = n })) (sym version ∙ sym is);
     })
@@ -637,11 +619,19 @@ clean_same t u id services tasks h = record {
       ∙ h.each s (sym (ap (row_at service_id id) services) ∙ at);
 }
 
+pub slots_same : (t u : Tables) (clean : CleanServices) → ((id : ℕ) → HasNoSuspect t id → HasNoSuspect u id)
+    → AreClean t clean → AreClean u clean
+slots_same t u clean goes h = record {
+  each = λ slot lt.
+      if_some_then (get_or clean.services slot None) (h.each slot lt)
+      (λ id is. record { none = goes id is.none; stands = is.stands });
+}
+
 pub knows_same : (t u : Tables) (known : KnownSurvey) → u.services ≡ t.services → u.tasks ≡ t.tasks
     → u.clock ≡ t.clock → Knows t known → Knows u known
 knows_same t u known services tasks clock knows = record {
   survey = if_some_then known.kept knows.survey (λ b h. kept_same t u b.value services tasks clock h);
-  clean = if_some_then known.clean knows.clean (λ id h. clean_same t u id services tasks h);
+  clean = slots_same t u known.clean (λ id h. clean_same t u id services tasks h) knows.clean;
 }
 
 pub ruleset less_steps = (less_same, less_then)

@@ -1,4 +1,5 @@
 mod Answering
+mod CleanSlots
 mod Clearing
 mod Failures
 pub mod Leaving
@@ -7,6 +8,7 @@ mod Passing
 mod Renoting
 mod Replacements
 mod Running
+mod StaleBits
 mod Steps
 mod Suspects
 mod Walking

@@ -11,10 +11,11 @@ use Rattle.swarm_objects.specs.Tasks.Words.{is_below_running, is_running}
 use Rattle.swarm_objects.specs.World.{Tables}
 use Rattle.swarm_objects.specs.declared.services.Service.{Service}
 use Rattle.swarm_objects.specs.declared.tasks.Task.{Task}
-use Rattle.swarm_update.proofs.Leaving.{clean_same, if_some_then, less_so}
+use Rattle.swarm_update.proofs.Leaving.{clean_same, less_same, less_so, slots_same}
 use Rattle.swarm_update.proofs.Marking.{are_numbered, true_false}
-use Rattle.swarm_update.specs.KnownSurvey.{AreStale, HasNoSuspect, IsLess, IsOf, IsSo, Knows, is_among}
+use Rattle.swarm_update.specs.KnownSurvey.{AreClean, AreStale, IsLess, IsOf, IsSo, Knows}
 use Rattle.swarm_update.specs.Marks.{mark_at, mark_of}
+use Rattle.swarm_update.specs.StalePlaces.{is_stale}
 use Rattle.swarm_update.specs.declared.known_survey.KnownSurvey.{KnownSurvey}
 use Rattle.swarm_update.specs.declared.known_survey.Subject.{Subject}
 use Rattle.swarm_update.specs.declared.marks.Places.{Places}
@@ -26,24 +27,32 @@ use Rattle.swarm_update.specs.declared.survey.Survey.{Survey}
 pub stale_none : (v : Places) (k : Subject) → AreStale 0 v k
 stale_none v k = record { each = λ n lt e. absurd (omega (arith, lt)) }
 
-still_stale : (a b : Subject) (n : ℕ) → IsLess a b → n < WIDTH → is_among a.stale n ≡ true → is_among b.stale n ≡ true
-still_stale a b n less lt e = go (is_among b.stale n) refl
+still_stale : (a b : Subject) (n : ℕ) → IsLess a b → n < WIDTH → is_stale a.stale n ≡ true → is_stale b.stale n ≡ true
+still_stale a b n less lt e = go (is_stale b.stale n) refl
   where
-    go : (c : Bool) → is_among b.stale n ≡ c → c ≡ true
+    go : (c : Bool) → is_stale b.stale n ≡ c → c ≡ true
     go true f = refl
-    go false f = absurd (true_false (is_among a.stale n) e (less.stale n lt f))
+    go false f = absurd (true_false (is_stale a.stale n) e (less.stale n lt f))
 
-pub stale_more : (i : ℕ) (v : Places) (a b : Subject) → i < WIDTH → AreStale i v a → IsLess a b
-    → ((mark_at v i).has_flying ≡ true → is_among b.stale i ≡ true) → AreStale (i + 1) v b
+stale_more : (i : ℕ) (v : Places) (a b : Subject) → i < WIDTH → AreStale i v a → IsLess a b
+    → ((mark_at v i).has_flying ≡ true → is_stale b.stale i ≡ true) → AreStale (i + 1) v b
 stale_more i v a b lt h less here = record { each = λ n below e. go n below e (eqb n i) refl }
   where
-    go : (n : ℕ) → n < i + 1 → (mark_at v n).has_flying ≡ true → (c : Bool) → eqb n i ≡ c → is_among b.stale n ≡ true
+    go : (n : ℕ) → n < i + 1 → (mark_at v n).has_flying ≡ true → (c : Bool) → eqb n i ≡ c → is_stale b.stale n ≡ true
     go n below e true f =
         let same : i ≡ n = grind (arith, nat_tests) in
-        subst (λ j. (mark_at v j).has_flying ≡ true → is_among b.stale j ≡ true) same here e
+        subst (λ j. (mark_at v j).has_flying ≡ true → is_stale b.stale j ≡ true) same here e
     go n below e false f =
         let lower : n < i = grind (arith, nat_tests) in
         still_stale a b n less (omega (arith, lower, lt)) (h.each n lower e)
+
+pub stale_here : (i : ℕ) (v : Places) (a b : Subject) → i < WIDTH → AreStale i v a → IsLess a b
+    → is_stale b.stale i ≡ true → AreStale (i + 1) v b
+stale_here i v a b lt h less is = stale_more i v a b lt h less (λ e. is)
+
+pub stale_past : (i : ℕ) (v : Places) (k : Subject) → i < WIDTH → AreStale i v k → (mark_at v i).has_flying ≡ false
+    → AreStale (i + 1) v k
+stale_past i v k lt h off = stale_more i v k k lt h (less_same k) (λ e. absurd (true_false (mark_at v i).has_flying e off))
 
 -- A task that isn't in flight won't be so later.
 
@@ -79,7 +88,7 @@ same_mark t clock s xs le off =
 -- The places of which the marks tell have none.
 
 none_flies : (v : Survey) (k : Subject) (t : Tables) (s : Service) (n : ℕ) → AreStale (min v.places.reach WIDTH) v.places k
-    → IsSo v k t s → n < WIDTH → is_among k.stale n ≡ false → list_any (is_flying t s) (tasks_at s t.tasks n) ≡ false
+    → IsSo v k t s → n < WIDTH → is_stale k.stale n ≡ false → list_any (is_flying t s) (tasks_at s t.tasks n) ≡ false
 none_flies v k t s n stale h lt out = go (list_any (is_flying t s) (tasks_at s t.tasks n)) refl (has_number s t.tasks n) refl
   where
     go : (b : Bool) → list_any (is_flying t s) (tasks_at s t.tasks n) ≡ b → (c : Bool) → has_number s t.tasks n ≡ c → b ≡ false
@@ -87,7 +96,7 @@ none_flies v k t s n stale h lt out = go (list_any (is_flying t s) (tasks_at s t
     go true e true has =
         let below : n < v.places.reach = h.places.reach n has lt out in
         let within : n < min v.places.reach WIDTH = grind (arith, below, lt) in
-        absurd (true_false (is_among k.stale n)
+        absurd (true_false (is_stale k.stale n)
         (stale.each n within (ap (λ m. m.has_flying) (h.places.marks n lt out) ∙ e)) out)
     go true e false has =
         sym e ∙ ap (list_any (is_flying t s)) (are_numbered s t.tasks n has)
@@ -111,11 +120,10 @@ later_of : (t : Tables) (clock : ℕ) (v : Survey) (k : Subject) → t.clock ≤
     → AreStale (min v.places.reach WIDTH) v.places k → IsOf t v k → IsOf (record t { clock = clock }) v k
 later_of t clock v k le stale h = record { each = λ s at. later_so v k t clock s le stale (h.each s at) }
 
-pub later_known : (v : Survey) (o : Option Subject) (k : Subject) (p : Option Subject) → o ≡ Some k
-    → IfSome p (IsLess k) → IfSome p (AreStale (min v.places.reach WIDTH) v.places)
-    → (t : Tables) (clock : ℕ) → t.clock ≤ clock → IfSome o (IsOf t v) → IfSome p (IsOf (record t { clock = clock }) v)
-later_known v o k None is less stale t clock le known = tt
-later_known v o k (Some b) is less stale t clock le known =
+pub later_known : (v : Survey) (o : Option Subject) (k b : Subject) → o ≡ Some k → IsLess k b
+    → AreStale (min v.places.reach WIDTH) v.places b
+    → (t : Tables) (clock : ℕ) → t.clock ≤ clock → IfSome o (IsOf t v) → IsOf (record t { clock = clock }) v b
+later_known v o k b is less stale t clock le known =
     later_of t clock v b le stale (less_so t v k b less (subst (λ q. IfSome q (IsOf t v)) is known))
 
 pub later_none : (v : Survey) (o : Option Subject) → o ≡ None → (t : Tables) (clock : ℕ) → t.clock ≤ clock
@@ -123,10 +131,11 @@ pub later_none : (v : Survey) (o : Option Subject) → o ≡ None → (t : Table
 later_none v o is t clock le known = subst (λ q. IfSome q (IsOf (record t { clock = clock }) v)) (sym is) tt
 
 pub clean_later : (t : Tables) (clock : ℕ) (known : KnownSurvey) → Knows t known
-    → IfSome known.clean (HasNoSuspect (record t { clock = clock }))
+    → AreClean (record t { clock = clock }) known.clean
 clean_later t clock known h =
-    if_some_then known.clean h.clean (λ id none. clean_same t (record t { clock = clock }) id refl refl none)
+    slots_same t (record t { clock = clock }) known.clean
+    (λ id none. clean_same t (record t { clock = clock }) id refl refl none) h.clean
 
-pub ruleset stale_steps = (stale_none, stale_more)
+pub ruleset stale_steps = (stale_none, stale_here, stale_past)
 
 pub ruleset later_steps = (later_known, later_none)

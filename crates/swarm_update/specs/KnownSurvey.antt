@@ -1,8 +1,8 @@
 -- What is remembered of the services whose updates were looked at last, and which changes leave it so.
-use Rattle.std.specs.Prelude.{Bool, List, Some, [], false, filter, if◌then◌else◌, length, nat_lt, not, true, ℕ, ⊤, IfSome, ◌&&◌, ◌+◌, ◌<◌, ◌==◌, ◌||◌, ◌≡◌, ◌∷◌, max, set}
+use Rattle.std.specs.Prelude.{Bool, List, None, Option, Some, [], false, filter, get_or, if◌then◌else◌, length, nat_lt, not, true, ℕ, ⊤, IfSome, ◌%◌, ◌&&◌, ◌+◌, ◌<◌, ◌==◌, ◌||◌, ◌≡◌, ◌∷◌, max, set}
 use Rattle.std.specs.List.{list_any}
 use Rattle.role_words.specs.Marks.{has_number, tasks_at}
-use Rattle.swarm_objects.specs.Rows.{is_row_and, row_at, service_id, task_id}
+use Rattle.swarm_objects.specs.Rows.{is_row_and, is_some_and, row_at, service_id, task_id}
 use Rattle.swarm_objects.specs.Services.Runs.{counts_as_failure, failures}
 use Rattle.swarm_objects.specs.Services.Words.{is_dirty}
 use Rattle.swarm_objects.specs.Tasks.Places.{closes, place_number}
@@ -14,6 +14,9 @@ use Rattle.swarm_objects.specs.declared.services.Service.{Service}
 use Rattle.swarm_objects.specs.declared.services.UpdateRun.{UpdateRun}
 use Rattle.swarm_objects.specs.declared.tasks.Task.{Task}
 use Rattle.swarm_update.specs.Marks.{mark_at, mark_of}
+use Rattle.swarm_update.specs.StalePlaces.{is_stale}
+use Rattle.swarm_update.specs.declared.clean.CleanServices.{CleanServices}
+use Rattle.swarm_update.specs.declared.clean.TheConstants.{SLOTS}
 use Rattle.swarm_update.specs.declared.known_survey.Kept.{Kept}
 use Rattle.swarm_update.specs.declared.known_survey.KnownSurvey.{KnownSurvey}
 use Rattle.swarm_update.specs.declared.known_survey.Subject.{Subject}
@@ -22,15 +25,11 @@ use Rattle.swarm_update.specs.declared.marks.Places.{Places}
 use Rattle.swarm_update.specs.declared.marks.TheConstants.{WIDTH}
 use Rattle.swarm_update.specs.declared.survey.Survey.{Survey}
 
--- it is one of these numbers
-abbrev pub is_among : List ℕ → ℕ → Bool
-is_among numbers k = list_any (λ j. j == k) numbers
-
 -- the marks are what the tasks say of the service's places, but of these
-pub record ShowsOthers (v : Places) (t : Tables) (s : Service) (stale : List ℕ) : Type 0 where
+pub record ShowsOthers (v : Places) (t : Tables) (s : Service) (stale : ℕ → Bool) : Type 0 where
   pub wide : length v.marks ≡ WIDTH
-  pub marks : (k : ℕ) → k < WIDTH → is_among stale k ≡ false → mark_at v k ≡ mark_of t s (tasks_at s t.tasks k)
-  pub reach : (k : ℕ) → has_number s t.tasks k ≡ true → k < WIDTH → is_among stale k ≡ false → k < v.reach
+  pub marks : (k : ℕ) → k < WIDTH → stale k ≡ false → mark_at v k ≡ mark_of t s (tasks_at s t.tasks k)
+  pub reach : (k : ℕ) → has_number s t.tasks k ≡ true → k < WIDTH → stale k ≡ false → k < v.reach
   pub far : v.has_far ≡ false → (k : ℕ) → has_number s t.tasks k ≡ true → k < WIDTH
 
 -- with another mark of the place with this number
@@ -39,7 +38,7 @@ with_mark k m v = record v { marks = set v.marks k m; reach = max v.reach (k + 1
 
 -- the survey tells of the service what it is kept for
 pub record IsSo (v : Survey) (k : Subject) (t : Tables) (s : Service) : Type 0 where
-  pub places : ShowsOthers v.places t s k.stale
+  pub places : ShowsOthers v.places t s (is_stale k.stale)
   pub failures : k.is_counted ≡ true → (run : UpdateRun) → run.version ≡ k.version → v.failures ≡ failures t s run
 
 -- where the service is there
@@ -59,10 +58,23 @@ pub record HasNoSuspect (t : Tables) (id : ℕ) : Type 0 where
   pub each : (s : Service) → row_at service_id id t.services ≡ Some s
       → list_any (is_suspect s) (filter (is_of s.id) t.tasks) ≡ false
 
+-- the service has none, and stands in its slot
+pub record IsClean (t : Tables) (slot id : ℕ) : Type 0 where
+  pub none : HasNoSuspect t id
+  pub stands : id % SLOTS ≡ slot
+
+-- all that are remembered do
+pub record AreClean (t : Tables) (clean : CleanServices) : Type 0 where
+  pub each : (slot : ℕ) → slot < SLOTS → IfSome (get_or clean.services slot None) (IsClean t slot)
+
+-- the service is remembered
+abbrev pub has_service : CleanServices → ℕ → Bool
+has_service clean id = is_some_and (λ k. k == id) (get_or clean.services (id % SLOTS) None)
+
 -- whatever is remembered is so
 pub record Knows (t : Tables) (known : KnownSurvey) : Type 0 where
   pub survey : IfSome known.kept (λ kept. KnowsKept t kept.value)
-  pub clean : IfSome known.clean (HasNoSuspect t)
+  pub clean : AreClean t known.clean
 
 -- The changes.
 
@@ -72,7 +84,7 @@ may_fail version x = x.born == version && counts_as_failure x.state
 
 -- the marks don't tell of the place with this number
 abbrev pub leaves_out : Subject → Bool → ℕ → Bool
-leaves_out k far number = if nat_lt number WIDTH then is_among k.stale number else far
+leaves_out k far number = if nat_lt number WIDTH then is_stale k.stale number else far
 
 -- whether the task is there matters
 abbrev pub touches : Subject → Bool → Task → Bool
@@ -118,13 +130,30 @@ abbrev pub AllStayClean : Tables → ℕ → List Change → Type 0
 AllStayClean t id [] = ⊤
 AllStayClean t id (c ∷ cs) = StaysClean t id c × AllStayClean t id cs
 
+-- the one service of which the change may be
+abbrev pub service_of : Change → Option ℕ
+service_of (change.PutNode n) = None
+service_of (change.PutService s) = Some s.id
+service_of (change.PutTask x) = Some x.service
+service_of (change.DropTask id) = None
+service_of (change.Keep a) = None
+
+-- what the slot still has it had before, and the change gives that no such task
+pub record SlotIsLeft (t : Tables) (c : Change) (before : CleanServices) (slot id : ℕ) : Type 0 where
+  pub was : get_or before.services slot None ≡ Some id
+  pub stays : id % SLOTS ≡ slot → StaysClean t id c
+
+-- so it is with all slots
+pub record SlotsAreLeft (t : Tables) (c : Change) (before after : CleanServices) : Type 0 where
+  pub each : (slot : ℕ) → slot < SLOTS → IfSome (get_or after.services slot None) (SlotIsLeft t c before slot)
+
 -- the same with more stale places, or without the failures
 pub record IsLess (before after : Subject) : Type 0 where
   pub service : after.service ≡ before.service
   pub version : after.version ≡ before.version
   pub counted : after.is_counted ≡ true → before.is_counted ≡ true
-  pub stale : (k : ℕ) → k < WIDTH → is_among after.stale k ≡ false → is_among before.stale k ≡ false
+  pub stale : (k : ℕ) → k < WIDTH → is_stale after.stale k ≡ false → is_stale before.stale k ≡ false
 
 -- the places before this one with a task in flight are stale
 pub record AreStale (end : ℕ) (v : Places) (k : Subject) : Type 0 where
-  pub each : (n : ℕ) → n < end → (mark_at v n).has_flying ≡ true → is_among k.stale n ≡ true
+  pub each : (n : ℕ) → n < end → (mark_at v n).has_flying ≡ true → is_stale k.stale n ≡ true

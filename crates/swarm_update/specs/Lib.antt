@@ -1,4 +1,5 @@
 pub mod KnownSurvey
 pub mod Marks
 pub mod Replacing
+pub mod StalePlaces
 pub mod Surveys

@@ -1,14 +1,32 @@
-// Whether a service has a task that may make a place dirty, and which changes give it none.
-ghost use Rattle.std.specs.Prelude.{◌≡◌, IfSome, IsTrue, filter};
+// Services without a task that may make a place dirty, and which changes give them none.
+ghost use Rattle.std.specs.Prelude.{◌%◌, ◌≡◌, IsTrue, None, filter, get_or, ℕ};
 ghost use Rattle.std.specs.List.{list_any};
 ghost use Rattle.swarm_objects.specs.ChangeLists.{apply_changes};
 ghost use Rattle.swarm_objects.specs.Tasks.Words.{is_of};
 ghost use Rattle.swarm_objects.specs.Usable.{IsUsable};
-ghost use Rattle.swarm_update.specs.KnownSurvey.{AllStayClean, HasNoSuspect, StaysClean, is_suspect, is_suspect_of};
+ghost use Rattle.swarm_objects.specs.World.{Tables};
+ghost use Rattle.swarm_update.specs.KnownSurvey.{AreClean, SlotsAreLeft, HasNoSuspect, StaysClean, has_service, is_suspect, is_suspect_of, service_of};
 
 use crate::known_survey::has_alike;
 use swarm_objects::walks::tasks_of;
 use swarm_objects::{Change, Id, Rows, Service, Task};
+
+// How many services are remembered.
+const SLOTS: usize = 8;
+
+/// Services without a task that may make a place dirty. Each has one slot, by the rest of its id; of services with the
+/// same slot the last one is remembered.
+#[derive(Drop)]
+pub struct CleanServices {
+    services: [Option<Id>; SLOTS],
+}
+
+// The service's slot.
+fn slot_of(service: Id) -> usize
+    ensures { result ≡ service % SLOTS }
+{
+    service as usize % SLOTS
+}
 
 // The task may make its place dirty: it is dirty, and live or closes the place. So history doesn't count.
 fn is_suspect(service: &Service, task: &Task) -> bool
@@ -50,28 +68,78 @@ fn stays_clean<R: Rows>(rows: &R, service: Id, change: &Change) -> bool
     }
 }
 
-// None of them does.
-fn all_stay_clean<R: Rows>(rows: &R, service: Id, changes: &[Change]) -> bool
-    ensures { IsTrue result → AllStayClean (R.tables rows.now) service changes.now }
+// The one service to which the change may give such a task.
+fn service_of(change: &Change) -> Option<Id>
+    ensures { result ≡ service_of change.now }
 {
-    for change in changes {
-        if !stays_clean(rows, service, change) {
-            return false;
-        }
+    match change {
+        Change::PutService(put) => Some(put.id),
+        Change::PutTask(task) => Some(task.service),
+        Change::PutNode(_) | Change::DropTask(_) | Change::Keep(_) => None,
     }
-    true
 }
 
-/// What is left of such a service both before and after these changes.
-#[tactic(auto, using(crate::proofs::Clearing::clean_on))]
-pub fn left_clean<R: Rows>(rows: &R, clean: Option<Id>, changes: &[Change]) -> Option<Id>
-    requires knows { IfSome clean (HasNoSuspect (R.tables rows.now)) }
-    ensures stays { IfSome result (HasNoSuspect (R.tables rows.now)) }
-    ensures goes_on { IfSome result (HasNoSuspect (apply_changes (R.tables rows.now) changes.now)) }
-{
-    let service = clean?;
-    if !all_stay_clean(rows, service, changes) {
-        return None;
+impl CleanServices {
+    /// No service is remembered.
+    pub fn none() -> CleanServices
+        ensures { (t : Tables) → AreClean t result }
+    {
+        CleanServices {
+            services: [None; SLOTS],
+        }
     }
-    Some(service)
+
+    /// The service is remembered.
+    pub fn has(&self, service: Id) -> bool
+        ensures { result ≡ has_service self.now service }
+    {
+        match self.services[slot_of(service)] {
+            Some(clean) => clean == service,
+            None => false,
+        }
+    }
+
+    /// The service is remembered, in place of another one with its slot.
+    pub fn add(&mut self, service: Id)
+        ensures { (t : Tables) → HasNoSuspect t service → AreClean t self.old → AreClean t self.new }
+    {
+        self.services[slot_of(service)] = Some(service);
+    }
+
+    // No slot is filled.
+    fn is_empty(&self) -> bool
+        ensures { IsTrue result → (slot : ℕ) → get_or self.now.services slot None ≡ None }
+    {
+        self.services.iter().all(|slot| slot.is_none())
+    }
+
+    // Forgets the service to which the change may give such a task. Only where that is remembered, its row is asked.
+    fn forget_change<R: Rows>(&mut self, rows: &R, change: &Change)
+        ensures { SlotsAreLeft (R.tables rows.now) change.now self.old self.new }
+    {
+        let Some(service) = service_of(change) else {
+            return;
+        };
+        if !self.has(service) {
+            return;
+        }
+        if !stays_clean(rows, service, change) {
+            self.services[slot_of(service)] = None;
+        }
+    }
+
+    /// Forgets the services to which these changes may give such a task, before they are made. Those that are left
+    /// have none before and after.
+    pub fn forget_changed<R: Rows>(&mut self, rows: &R, changes: &[Change])
+        requires knows { AreClean (R.tables rows.now) self.old }
+        ensures stays { AreClean (R.tables rows.now) self.new }
+        ensures goes_on { AreClean (apply_changes (R.tables rows.now) changes.now) self.new }
+    {
+        if self.is_empty() {
+            return;
+        }
+        for change in changes {
+            self.forget_change(rows, change);
+        }
+    }
 }

@@ -1,7 +1,7 @@
 // The survey of the service whose update was looked at last, kept from one look to the next, so that only places whose
-// tasks changed are noted anew; and a service without a task that may make a place dirty, so that its tasks aren't gone
-// over at each look.
-ghost use Rattle.std.specs.Prelude.{◌≡◌, ◌≤◌, IfSome, IsTrue, None, Some, false, filter, min, true, ℕ};
+// tasks changed are noted anew, however many these are; and some services without a task that may make a place dirty,
+// so that their tasks aren't gone over at each look.
+ghost use Rattle.std.specs.Prelude.{◌<◌, ◌≡◌, ◌≤◌, IfSome, IsTrue, None, Some, false, filter, min, true, ℕ};
 ghost use Rattle.std.specs.List.{list_any};
 ghost use Rattle.swarm_objects.specs.ChangeLists.{apply_changes};
 ghost use Rattle.swarm_objects.specs.Loops.Update.{is_to_start, run_duties, update_duties};
@@ -11,20 +11,19 @@ ghost use Rattle.swarm_objects.specs.Tasks.Places.{has_dirty_place};
 ghost use Rattle.swarm_objects.specs.Tasks.Words.{is_of};
 ghost use Rattle.swarm_objects.specs.Usable.{IsUsable};
 ghost use Rattle.swarm_objects.specs.World.{Tables};
-ghost use Rattle.swarm_update.specs.KnownSurvey.{AreStale, HasAlike, IsLess, IsSo, Knows, KnowsKept, LeaveAll, Leaves, is_among, is_suspect, leaves_out, may_fail, touches};
+ghost use Rattle.swarm_update.specs.KnownSurvey.{AreStale, HasAlike, IsLess, IsSo, Knows, KnowsKept, LeaveAll, Leaves, is_suspect, leaves_out, may_fail, touches};
+ghost use Rattle.swarm_update.specs.StalePlaces.{is_stale};
 ghost use Rattle.swarm_update.specs.Surveys.{Tells};
 
-use crate::clean::{has_suspect, left_clean};
+use crate::clean::{CleanServices, has_suspect};
 use crate::first_open;
 use crate::marks::{Places, WIDTH};
 use crate::runs::{counts_as_failure, has_present_run};
+use crate::stale_places::StalePlaces;
 use crate::survey::{Survey, go_over};
 use role_words::is_under_way;
 use std::alloc::Global;
 use swarm_objects::{Change, Duty, Id, Rows, Same, Service, Task, UpdateRun, Version};
-
-// How many places may be stale.
-const STALE: usize = 16;
 
 // The service and run that a survey is of, and what of it isn't so any more.
 #[derive(Clone, Copy, Drop)]
@@ -34,8 +33,8 @@ struct Subject {
     version: Version,
     // its failures are so
     is_counted: bool,
-    // the numbers of places whose tasks changed; those from the width on stand for none
-    stale: [u64; STALE],
+    // the places below the width whose tasks changed
+    stale: StalePlaces,
 }
 
 // A survey that is kept, where it is of something.
@@ -52,8 +51,8 @@ pub struct KnownSurvey {
     alloc: Option<Global>,
     // made at the first look, in a box since it is large
     kept: Option<Box<Kept>>,
-    // a service without a task that may make a place dirty
-    clean: Option<Id>,
+    // services without a task that may make a place dirty
+    clean: CleanServices,
 }
 
 // The task is one of the run's, and has ended so that it may be one of its failures.
@@ -83,15 +82,8 @@ impl Subject {
             service: service.id,
             version: run.version,
             is_counted: true,
-            stale: [u64::MAX; STALE],
+            stale: StalePlaces::none(),
         }
-    }
-
-    // The place with this number is stale.
-    fn is_stale(&self, number: u64) -> bool
-        ensures { result ≡ is_among self.now.stale number }
-    {
-        self.stale.iter().any(|other| *other == number)
     }
 
     // The marks don't tell of the place with this number.
@@ -99,7 +91,7 @@ impl Subject {
         ensures { result ≡ leaves_out self.now far number }
     {
         if number < WIDTH as u64 {
-            self.is_stale(number)
+            self.stale.has(number)
         } else {
             far
         }
@@ -150,22 +142,13 @@ impl Subject {
         true
     }
 
-    // The place with this number is stale, too, where there is room for it. Tells whether it is stale then.
-    #[tactic(auto, using(crate::proofs::Leaving::less_steps))]
-    fn make_stale(&mut self, number: u64) -> bool
+    // The place with this number is stale, too.
+    fn make_stale(&mut self, number: u64)
+        requires { number < 1024 }
         ensures less { IsLess self.old self.new }
-        ensures stale { IsTrue result → is_among self.new.stale number ≡ true }
+        ensures stale { is_stale self.new.stale number ≡ true }
     {
-        if self.is_stale(number) {
-            return true;
-        }
-        for index in 0..STALE {
-            if self.stale[index] >= WIDTH as u64 {
-                self.stale[index] = number;
-                return true;
-            }
-        }
-        false
+        self.stale.add(number);
     }
 
     // The place of the task is stale, and so are the failures where it may be one.
@@ -235,16 +218,16 @@ impl Subject {
 
     // What is left of it whatever time passes: the places with a task in flight are stale, too.
     #[tactic(auto, using(crate::proofs::Leaving::less_steps, crate::proofs::Passing::stale_steps))]
-    fn without_flying(mut self, places: &Places) -> Option<Subject>
-        ensures less { IfSome result (IsLess self) }
-        ensures stale { IfSome result (AreStale (min places.now.reach WIDTH) places.now) }
+    fn without_flying(mut self, places: &Places) -> Subject
+        ensures less { IsLess self result }
+        ensures stale { AreStale (min places.now.reach WIDTH) places.now result }
     {
         for index in 0..places.end() {
-            if places.mark_at(index).has_flying && !self.make_stale(index as u64) {
-                return None;
+            if places.mark_at(index).has_flying {
+                self.make_stale(index as u64);
             }
         }
-        Some(self)
+        self
     }
 }
 
@@ -284,7 +267,7 @@ impl Kept {
         let Some(subject) = self.subject else {
             return;
         };
-        self.subject = subject.without_flying(&self.survey.places);
+        self.subject = Some(subject.without_flying(&self.survey.places));
     }
 
     // What the survey is of, where that is this run of the service.
@@ -329,7 +312,7 @@ impl KnownSurvey {
         KnownSurvey {
             alloc: None,
             kept: None,
-            clean: None,
+            clean: CleanServices::none(),
         }
     }
 
@@ -340,7 +323,7 @@ impl KnownSurvey {
         KnownSurvey {
             alloc: Some(alloc),
             kept: None,
-            clean: None,
+            clean: CleanServices::none(),
         }
     }
 
@@ -351,7 +334,7 @@ impl KnownSurvey {
         if let Some(kept) = &mut self.kept {
             kept.subject = None;
         }
-        self.clean = None;
+        self.clean = CleanServices::none();
     }
 
     /// Forgets what these changes may change, before they are made. What is left is so before and after.
@@ -364,7 +347,7 @@ impl KnownSurvey {
         if let Some(kept) = &mut self.kept {
             kept.forget_changed(rows, changes);
         }
-        self.clean = left_clean(rows, self.clean, changes);
+        self.clean.forget_changed(rows, changes);
     }
 
     /// Forgets what time that passes may change: whether a task is in flight.
@@ -415,10 +398,7 @@ impl KnownSurvey {
         ensures { let t = R.tables rows.now in
             IsTrue result → list_any (is_suspect service.now) (filter (is_of service.now.id) t.tasks) ≡ false }
     {
-        match self.clean {
-            Some(clean) => clean == service.id,
-            None => false,
-        }
+        self.clean.has(service.id)
     }
 
     // A place of the service is dirty. Where none of its tasks may make one so, that is remembered.
@@ -436,7 +416,7 @@ impl KnownSurvey {
         if has_suspect(rows, service) {
             return role_words::has_dirty_place(rows, service);
         }
-        self.clean = Some(service.id);
+        self.clean.add(service.id);
         false
     }
 }

@@ -8,6 +8,7 @@ mod known_survey;
 mod marks;
 mod replacing;
 mod runs;
+mod stale_places;
 mod starting;
 mod survey;
 

@@ -1,10 +1,12 @@
 // What a service's tasks say to an update of each of its places: noted in one pass, for all places with small numbers.
-ghost use Rattle.std.specs.Prelude.{◌≡◌, ◌<◌, ◌∷◌, None, IfSome, List, min, ℕ};
+ghost use Rattle.std.specs.Prelude.{◌*◌, ◌+◌, ◌<◌, ◌≡◌, IfSome, None, min};
 ghost use Rattle.role_words.specs.Marks.{tasks_at};
 ghost use Rattle.swarm_objects.specs.Usable.{IsUsable};
 ghost use Rattle.swarm_update.specs.KnownSurvey.{ShowsOthers, with_mark};
 ghost use Rattle.swarm_update.specs.Marks.{answers, blank, mark_at, mark_of, mark_with, noted, noted_at, IsFirst, NoneBefore, ShowsPlaces};
+ghost use Rattle.swarm_update.specs.StalePlaces.{is_stale, is_stale_from};
 
+use crate::stale_places::{StalePlaces, WORD, WORDS};
 use role_words::{is_flying, place_tasks};
 use swarm_objects::{Rows, Service, Task};
 
@@ -143,26 +145,42 @@ impl Places {
     }
 
     // Notes all tasks of the place with this number anew.
-    #[tactic(auto, using(crate::proofs::Renoting::note_steps))]
     fn renote<R: Rows>(&mut self, rows: &R, service: &Service, number: u64)
         requires usable { IsUsable (R.tables rows.now) }
-        ensures { (others : List ℕ) → ShowsOthers self.old (R.tables rows.now) service.now (number ∷ others) →
-            ShowsOthers self.new (R.tables rows.now) service.now others }
+        requires number { number < 1024 }
+        ensures { let t = R.tables rows.now in
+            self.new ≡ with_mark number (mark_of t service.now (tasks_at service.now t.tasks number)) self.old }
     {
-        if number < WIDTH as u64 {
-            self.set_mark(number as usize, mark_of(rows, service, number));
+        self.set_mark(number as usize, mark_of(rows, service, number));
+    }
+
+    // Notes the tasks of those stale places anew whose numbers are of this word.
+    fn renote_word<R: Rows>(&mut self, rows: &R, service: &Service, stale: &StalePlaces, word: u64)
+        requires usable { IsUsable (R.tables rows.now) }
+        requires word { word < WORDS }
+        requires others { ShowsOthers self.old (R.tables rows.now) service.now
+            (is_stale_from (word * WORD) stale.now) }
+        ensures { ShowsOthers self.new (R.tables rows.now) service.now
+            (is_stale_from (word * WORD + WORD) stale.now) }
+    {
+        let first = word * WORD;
+        for number in first..first + WORD {
+            if stale.has(number) {
+                self.renote(rows, service, number);
+            }
         }
     }
 
-    /// Notes the tasks of these places anew.
-    #[tactic(auto, using(crate::proofs::Renoting::shows_all))]
-    pub fn renote_all<R: Rows>(&mut self, rows: &R, service: &Service, numbers: &[u64])
+    /// Notes the tasks of the stale places anew.
+    pub fn renote_all<R: Rows>(&mut self, rows: &R, service: &Service, stale: &StalePlaces)
         requires usable { IsUsable (R.tables rows.now) }
-        requires others { ShowsOthers self.old (R.tables rows.now) service.now numbers.now }
+        requires others { ShowsOthers self.old (R.tables rows.now) service.now (is_stale stale.now) }
         ensures { let t = R.tables rows.now in ShowsPlaces self.new t service.now t.tasks }
     {
-        for number in numbers {
-            self.renote(rows, service, *number);
+        for word in 0..WORDS {
+            if !stale.has_none(word) {
+                self.renote_word(rows, service, stale, word);
+            }
         }
     }
 

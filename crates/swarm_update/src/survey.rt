@@ -9,10 +9,12 @@ ghost use Rattle.swarm_objects.specs.Tasks.Words.{is_of};
 ghost use Rattle.swarm_objects.specs.Usable.{IsUsable};
 ghost use Rattle.swarm_update.specs.KnownSurvey.{ShowsOthers};
 ghost use Rattle.swarm_update.specs.Marks.{ShowsPlaces};
+ghost use Rattle.swarm_update.specs.StalePlaces.{is_stale};
 ghost use Rattle.swarm_update.specs.Surveys.{Tells};
 
 use crate::marks::{Places, Question, WIDTH};
 use crate::runs::is_failure;
+use crate::stale_places::StalePlaces;
 use role_words::{is_flying, tasks_of_place};
 use swarm_objects::walks::tasks_of;
 use swarm_objects::{Place, Replaced, Rows, Service, UpdateRun};
@@ -49,18 +51,18 @@ impl Survey {
         }
     }
 
-    /// Goes over the tasks of these places again, where it tells of all others, and counts the failures where they
+    /// Goes over the tasks of the stale places again, where it tells of all others, and counts the failures where they
     /// aren't so any more.
     pub fn renew<R: Rows>(
         &mut self,
         rows: &R,
         service: &Service,
         run: &UpdateRun,
-        stale: &[u64],
+        stale: &StalePlaces,
         is_counted: bool,
     )
         requires usable { IsUsable (R.tables rows.now) }
-        requires others { ShowsOthers self.old.places (R.tables rows.now) service.now stale.now }
+        requires others { ShowsOthers self.old.places (R.tables rows.now) service.now (is_stale stale.now) }
         requires counted { is_counted ≡ true → self.old.failures ≡ failures (R.tables rows.now) service.now run.now }
         ensures { Tells self.new (R.tables rows.now) service.now run.now }
     {

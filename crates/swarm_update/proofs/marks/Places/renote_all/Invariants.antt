@@ -1,7 +1,8 @@
-use Rattle.std.proofs.Common.{drop}
+use Rattle.std.proofs.Common.{◌*◌}
 use Rattle.swarm_update.specs.KnownSurvey.{ShowsOthers}
+use Rattle.swarm_update.specs.StalePlaces.{is_stale_from}
 use Rattle.swarm_update.proofs.marks.Places.renote_all.Given as goal
 
-abbrev pub invariant-loop-number : goal.invariant-loop-number
-invariant-loop-number g l =
-    ShowsOthers l.self (g.R.Rows.tables l.rows) l.service (drop l.number-index l.numbers)
+abbrev pub invariant-loop-word : goal.invariant-loop-word
+invariant-loop-word g l =
+    ShowsOthers l.self (g.R.Rows.tables l.rows) l.service (is_stale_from (l.word * 64) l.stale)

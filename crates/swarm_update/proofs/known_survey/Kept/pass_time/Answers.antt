@@ -1,0 +1,7 @@
+use Rattle.swarm_update.proofs.Passing.{later_known}
+use Rattle.swarm_update.proofs.known_survey.Kept.pass_time.Goals as goal
+
+pub returns : goal.returns
+returns c =
+    later_known c.args.self.now.survey c.args.self.now.subject c.in-Some.subject c.without_flying.result c.in-Some.is
+    c.without_flying.ensures.less c.without_flying.ensures.stale
