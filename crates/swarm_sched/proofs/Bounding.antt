@@ -1,12 +1,15 @@
 -- What is known of how many live tasks nodes have at least: what changes of rows leave of it, and what it rules out.
-use Rattle.std.proofs.Common.{◌≡◌, ◌∙◌, ◌+◌, ◌-◌, ◌∷◌, ◌<◌, ◌≤◌, ◌⊎◌, ℕ, Bool, List, None, Option, Some, Err, Ok, [], ap, arith, cond, false, get_or, inl, inr, length, ltb, refl, replicate, set, subst, suc, sym, true, zero, is_some}
+use Rattle.std.proofs.Common.{◌≡◌, ◌∙◌, ◌+◌, ◌-◌, ◌∷◌, ◌<◌, ◌≤◌, ◌⊎◌, ℕ, Bool, List, None, Option, Some, Err, Ok, []}
+use Rattle.std.proofs.Common.{ap, arith, cond, false, get_or, inl, inr, is_some, length, ltb, refl, replicate, set}
+use Rattle.std.proofs.Common.{subst, suc, sym, true, zero}
 use Rattle.std.proofs.lemmas.Bool.Decides.{nat_tests}
 use Rattle.std.proofs.lemmas.List.Sums.{sum_by-append}
-use Rattle.std.proofs.lemmas.List.{get_or-append_right, get_or_append_left, get_or_default, get_or-set_other, get_or-set_same}
+use Rattle.std.proofs.lemmas.List.{get_or-append_right, get_or_append_left, get_or_default}
+use Rattle.std.proofs.lemmas.List.{get_or-set_other, get_or-set_same}
 use Rattle.std.specs.Borrow.{Bor}
 use Rattle.std.specs.Option.{option_copied}
 use Rattle.std.specs.Ordering.{is_lt, nat_cmp, ord_max, ordering_then}
-use Rattle.std.specs.Prelude.{IfSome, count_by, sum_by, ◌%◌, ◌/◌, ◌++◌, ◌&&◌}
+use Rattle.std.specs.Prelude.{IfSome, count_by, is_none, sum_by, ◌%◌, ◌/◌, ◌++◌, ◌&&◌}
 use Rattle.std.specs.declared.cmp.Ordering.{Ordering}
 use Rattle.std.specs.declared.cmp.Ordering.TheVariants.{Equal, Greater, Less}
 use Rattle.swarm_objects.proofs.Halves.{any_start}
@@ -31,17 +34,20 @@ use Rattle.swarm_sched.proofs.Branching.{at_place}
 use Rattle.swarm_sched.proofs.Halving.{from_any}
 use Rattle.swarm_sched.proofs.Knowing.{changes-leave, decide, sum-put}
 use Rattle.swarm_sched.proofs.Remembering.{spares-tasks, touches-task}
-use Rattle.swarm_sched.specs.Inside.Bounds.{AreAtMost, AreLeast, AreLowering, IsAtMost, IsLowered, IsNoted, IsOnly, IsPlaceOf, bound}
-use Rattle.swarm_sched.specs.Inside.Classes.{AreBelow, AreCounted, AreFew, HaveClasses, entry_id}
+use Rattle.swarm_sched.specs.Inside.Bounds.{AreAtMost, AreLeast, AreLowered, IsAtMost, IsLowered, IsNoted, IsOnly}
+use Rattle.swarm_sched.specs.Inside.Bounds.{IsPlaceOf, bound}
+use Rattle.swarm_sched.specs.Inside.Classes.{AreBelow, AreFew, HaveClasses, entry_id}
 use Rattle.swarm_sched.specs.Inside.Known.{adds, one_if}
-use Rattle.swarm_sched.specs.Inside.KnownRefusals.{IsSpared, former_node, touched}
 use Rattle.swarm_sched.specs.Inside.Nearing.{IsPlace}
 use Rattle.swarm_sched.specs.Inside.Placing.{AreBehind, IsNodeLoad, Leads, LeadsAll, block_end, comes_first}
+use Rattle.swarm_sched.specs.Inside.Touching.{IsSpared, former_node, touched}
+use Rattle.swarm_sched.specs.declared.bounds.TheConstants.{BLOCK}
 use Rattle.swarm_sched.specs.declared.classes.ClassedNode.{ClassedNode}
+use Rattle.swarm_sched.specs.declared.classes.TheConstants.{CLASSES}
 use Rattle.swarm_sched.specs.declared.placing.NodeLoad.{NodeLoad}
 
-abbrev Rows : Type 0
-Rows = List (List (Option ℕ))
+abbrev Blocks : Type 0
+Blocks = List (List (Option ℕ))
 
 abbrev at : List ClassedNode → ℕ → ClassedNode → ℕ
 at nodes j d = (get_or nodes j d).id
@@ -60,35 +66,38 @@ zero-in zero j = refl
 zero-in (suc n) zero = refl
 zero-in (suc n) (suc j) = zero-in n j
 
-pub record AreZero (rows : Rows) : Type 0 where
-  pub each : (k class : ℕ) → bound rows k class ≡ Some 0
+pub record AreZero (blocks : Blocks) : Type 0 where
+  pub each : (k class : ℕ) → bound blocks k class ≡ Some 0
 
 pub zero_none : AreZero []
 zero_none = record { each = λ k class. refl }
 
-pub zero_more : (rows after : Rows) → AreZero rows → after ≡ rows ++ replicate 16 (Some 0) ∷ [] → AreZero after
-zero_more rows after so is = subst AreZero (sym is) (record { each = λ k class. go k class (ltb k (length rows)) refl })
+pub zero_more : (blocks after : Blocks) → AreZero blocks → after ≡ blocks ++ replicate CLASSES (Some 0) ∷ [] →
+    AreZero after
+zero_more blocks after so is =
+    subst AreZero (sym is) (record { each = λ k class. go k class (ltb k (length blocks)) refl })
   where
-    row : List (Option ℕ)
-    row = replicate 16 (Some 0)
+    block : List (Option ℕ)
+    block = replicate CLASSES (Some 0)
 
-    last : (k class : ℕ) → bound (row ∷ []) k class ≡ Some 0
-    last zero class = zero-in 16 class
+    last : (k class : ℕ) → bound (block ∷ []) k class ≡ Some 0
+    last zero class = zero-in CLASSES class
     last (suc k) class = refl
 
-    go : (k class : ℕ) (b : Bool) → ltb k (length rows) ≡ b → bound (rows ++ row ∷ []) k class ≡ Some 0
+    go : (k class : ℕ) (b : Bool) → ltb k (length blocks) ≡ b → bound (blocks ++ block ∷ []) k class ≡ Some 0
     go k class true e =
         ap (λ (r : List (Option ℕ)). get_or r class (Some 0))
-        (get_or_append_left rows (row ∷ []) [] k (grind (arith, nat_tests, e))) ∙ so.each k class
+        (get_or_append_left blocks (block ∷ []) [] k (grind (arith, nat_tests, e))) ∙ so.each k class
     go k class false e =
         ap (λ (r : List (Option ℕ)). get_or r class (Some 0))
-        (get_or-append_right rows (row ∷ []) (length rows) k [] refl (grind (arith, nat_tests, e)))
-        ∙ last (k - length rows) class
+        (get_or-append_right blocks (block ∷ []) (length blocks) k [] refl (grind (arith, nat_tests, e)))
+        ∙ last (k - length blocks) class
 
-pub zeros_least : (rows : Rows) → AreZero rows → (t : Tables) (nodes : List ClassedNode) → AreLeast t nodes rows
-zeros_least rows so t nodes = record {
+pub zeros_least : (blocks : Blocks) → AreZero blocks → (t : Tables) (nodes : List ClassedNode) → AreLeast t nodes blocks
+zeros_least blocks so t nodes = record {
   each = λ j d lt.
-      subst (λ o. IsAtMost o (load t (at nodes j d))) (sym (so.each (j / 16) (get_or nodes j d).class)) (omega arith);
+      subst (λ o. IsAtMost o (load t (at nodes j d))) (sym (so.each (j / BLOCK) (get_or nodes j d).class))
+      (omega arith);
 }
 
 pub ruleset zero_steps = (zero_none, zero_more, zeros_least)
@@ -109,8 +118,10 @@ one-place : {X : Type 0} (key : X → ℕ) (rows : List X) (i j : ℕ) (d : X) �
 one-place key rows i j d r one other same = go (ltb i j) refl (ltb j i) refl
   where
     go : (x : Bool) → ltb i j ≡ x → (y : Bool) → ltb j i ≡ y → i ≡ j
-    go true e y f = absurd (omega (arith, same, rises-strictly key 0 rows i j d r (grind (arith, nat_tests, e)) other))
-    go false e true f = absurd (omega (arith, same, rises-strictly key 0 rows j i d r (grind (arith, nat_tests, f)) one))
+    go true e y f =
+        absurd (omega (arith, same, rises-strictly key 0 rows i j d r (grind (arith, nat_tests, e)) other))
+    go false e true f =
+        absurd (omega (arith, same, rises-strictly key 0 rows j i d r (grind (arith, nat_tests, f)) one))
     go false e false f = grind (arith, nat_tests, e, f)
 
 row-of : (nodes : List ClassedNode) (j : ℕ) (d : ClassedNode) → RisesFrom entry_id 0 nodes → j < length nodes →
@@ -134,16 +145,16 @@ stands_nowhere nodes node place r is = λ j d lt same.
 
 -- Of a node nothing is known any more.
 
-pub lowered_without : (nodes : List ClassedNode) (o : Option ℕ) (rows : Rows) → o ≡ None →
-    IsLowered nodes o rows rows
-lowered_without nodes o rows none = record {
+pub lowered_without : (nodes : List ClassedNode) (o : Option ℕ) (blocks : Blocks) → o ≡ None →
+    IsLowered nodes o blocks blocks
+lowered_without nodes o blocks none = record {
   own = λ j d class lt e. let both : None ≡ Some (at nodes j d) = sym none ∙ e in absurd cc;
   others = λ k class. inr refl;
 }
 
-pub lowered_nowhere : (nodes : List ClassedNode) (node : ℕ) (rows : Rows) → IsPlaceOf nodes node None →
-    IsLowered nodes (Some node) rows rows
-lowered_nowhere nodes node rows out = record {
+pub lowered_nowhere : (nodes : List ClassedNode) (node : ℕ) (blocks : Blocks) → IsPlaceOf nodes node None →
+    IsLowered nodes (Some node) blocks blocks
+lowered_nowhere nodes node blocks out = record {
   own = λ j d class lt e.
       let both : Some node ≡ Some (at nodes j d) = e in
       let same : node ≡ at nodes j d = cc in
@@ -151,24 +162,26 @@ lowered_nowhere nodes node rows out = record {
   others = λ k class. inr refl;
 }
 
-noted-zero : (block class : ℕ) (before after : Rows) → IsNoted block (replicate 16 (Some 0)) before after →
-    bound after block class ≡ Some 0
-noted-zero block class before after noted = elim noted.own [
-  | inl row ↦ ap (λ (r : List (Option ℕ)). get_or r class (Some 0)) row ∙ zero-in 16 class
+noted-zero : (number class : ℕ) (before after : Blocks) → IsNoted number (replicate CLASSES (Some 0)) before after →
+    bound after number class ≡ Some 0
+noted-zero number class before after noted = elim noted.own [
+  | inl block ↦ ap (λ (r : List (Option ℕ)). get_or r class (Some 0)) block ∙ zero-in CLASSES class
   | inr none ↦ ap (λ (r : List (Option ℕ)). get_or r class (Some 0)) none
 ]
 
-pub lowered_at : (nodes : List ClassedNode) (node place : ℕ) (before after : Rows) → IsPlaceOf nodes node (Some place) →
-    IsNoted (place / 16) (replicate 16 (Some 0)) before after → IsLowered nodes (Some node) before after
+pub lowered_at : (nodes : List ClassedNode) (node place : ℕ) (before after : Blocks) →
+    IsPlaceOf nodes node (Some place) →
+    IsNoted (place / BLOCK) (replicate CLASSES (Some 0)) before after → IsLowered nodes (Some node) before after
 lowered_at nodes node place before after stands noted = record {
   own = λ j d class lt e.
       let both : Some node ≡ Some (at nodes j d) = e in
       let same : node ≡ at nodes j d = cc in
-      ap (λ (i : ℕ). bound after (i / 16) class) (stands j d lt (sym same))
-      ∙ noted-zero (place / 16) class before after noted;
+      ap (λ (i : ℕ). bound after (i / BLOCK) class) (stands j d lt (sym same))
+      ∙ noted-zero (place / BLOCK) class before after noted;
   others = λ k class.
-      elim (decide k (place / 16)) [
-        | inl same ↦ inl (ap (λ (i : ℕ). bound after i class) same ∙ noted-zero (place / 16) class before after noted)
+      elim (decide k (place / BLOCK)) [
+        | inl same ↦
+            inl (ap (λ (i : ℕ). bound after i class) same ∙ noted-zero (place / BLOCK) class before after noted)
         | inr other ↦ inr (ap (λ (r : List (Option ℕ)). get_or r class (Some 0)) (noted.others k other))
       ];
 }
@@ -177,22 +190,31 @@ pub ruleset lower_steps = (lowered_without, lowered_nowhere, lowered_at)
 
 -- The nodes that changes touch.
 
-pub lowering_none : (t : Tables) (nodes : List ClassedNode) (cs : List Change) (rows : Rows) →
-    AreLowering t nodes cs cs rows rows
-lowering_none t nodes cs rows = record { each = λ j d class lt. inr (refl, λ c h. inr h) }
+-- what is said of a node stays so where the changes spare it, so far as they aren't left
+pub record AreLowering (t : Tables) (nodes : List ClassedNode) (cs left : List Change) (before after : Blocks) :
+    Type 0 where
+  pub each : (j : ℕ) (d : ClassedNode) (class : ℕ) → j < length nodes →
+      (bound after (j / BLOCK) class ≡ Some 0)
+      ⊎ ((bound after (j / BLOCK) class ≡ bound before (j / BLOCK) class)
+      × ((c : Change) → Has cs c → IsSpared t (at nodes j d) c ⊎ Has left c))
+
+pub lowering_none : (t : Tables) (nodes : List ClassedNode) (cs : List Change) (blocks : Blocks) →
+    AreLowering t nodes cs cs blocks blocks
+lowering_none t nodes cs blocks = record { each = λ j d class lt. inr (refl, λ c h. inr h) }
 
 pub lowering_one : (t : Tables) (nodes : List ClassedNode) (cs left rest : List Change) (c : Change)
-    (before a m b : Rows) → AreLowering t nodes cs left before a → left ≡ c ∷ rest → IsLowered nodes (touched t c).0 a m →
+    (before a m b : Blocks) → AreLowering t nodes cs left before a → left ≡ c ∷ rest →
+    IsLowered nodes (touched t c).0 a m →
     IsLowered nodes (touched t c).1 m b → AreLowering t nodes cs rest before b
 lowering_one t nodes cs left rest c before a m b so step first second = record {
   each = λ j d class lt.
-      all j d class lt (second.others (j / 16) class) (first.others (j / 16) class) (so.each j d class lt)
+      all j d class lt (second.others (j / BLOCK) class) (first.others (j / BLOCK) class) (so.each j d class lt)
       (decide-some (touched t c).0 (at nodes j d)) (decide-some (touched t c).1 (at nodes j d));
 }
   where
     Goes : ℕ → ClassedNode → ℕ → Type 0
-    Goes j d class = (bound b (j / 16) class ≡ Some 0)
-        ⊎ ((bound b (j / 16) class ≡ bound before (j / 16) class)
+    Goes j d class = (bound b (j / BLOCK) class ≡ Some 0)
+        ⊎ ((bound b (j / BLOCK) class ≡ bound before (j / BLOCK) class)
         × ((x : Change) → Has cs x → IsSpared t (at nodes j d) x ⊎ Has rest x))
 
     spared : (n : ℕ) → IsSpared t n c → (x : Change) → IsSpared t n x ⊎ Has left x → IsSpared t n x ⊎ Has rest x
@@ -204,10 +226,10 @@ lowering_one t nodes cs left rest c before a m b so step first second = record {
         now (inr h) = inr h
 
     all : (j : ℕ) (d : ClassedNode) (class : ℕ) → j < length nodes →
-        (bound b (j / 16) class ≡ Some 0) ⊎ (bound b (j / 16) class ≡ bound m (j / 16) class) →
-        (bound m (j / 16) class ≡ Some 0) ⊎ (bound m (j / 16) class ≡ bound a (j / 16) class) →
-        (bound a (j / 16) class ≡ Some 0)
-        ⊎ ((bound a (j / 16) class ≡ bound before (j / 16) class)
+        (bound b (j / BLOCK) class ≡ Some 0) ⊎ (bound b (j / BLOCK) class ≡ bound m (j / BLOCK) class) →
+        (bound m (j / BLOCK) class ≡ Some 0) ⊎ (bound m (j / BLOCK) class ≡ bound a (j / BLOCK) class) →
+        (bound a (j / BLOCK) class ≡ Some 0)
+        ⊎ ((bound a (j / BLOCK) class ≡ bound before (j / BLOCK) class)
         × ((x : Change) → Has cs x → IsSpared t (at nodes j d) x ⊎ Has left x)) →
         ((touched t c).0 ≡ Some (at nodes j d)) ⊎ ((touched t c).0 ≡ Some (at nodes j d) → ⊥) →
         ((touched t c).1 ≡ Some (at nodes j d)) ⊎ ((touched t c).1 ≡ Some (at nodes j d) → ⊥) → Goes j d class
@@ -223,10 +245,23 @@ pub no_more : {X : Type 0} (left : List X) → length left ≡ 0 → left ≡ []
 no_more [] e = refl
 no_more (x ∷ left) e = absurd (omega (arith, e))
 
-pub lowering_all : (t : Tables) (nodes : List ClassedNode) (cs left : List Change) (before after : Rows) →
-    AreLowering t nodes cs left before after → length left ≡ 0 → AreLowering t nodes cs [] before after
-lowering_all t nodes cs left before after so none =
-    subst (λ list. AreLowering t nodes cs list before after) (no_more left none) so
+-- none is left
+pub lowering_all : (t : Tables) (nodes : List ClassedNode) (cs left : List Change) (before after : Blocks) →
+    AreLowering t nodes cs left before after → length left ≡ 0 → AreLowered t nodes cs before after
+lowering_all t nodes cs left before after so none = record {
+  each = λ j d class lt.
+      elim (so.each j d class lt) [
+        | inl z ↦ inl z
+        | inr same ↦ inr (same.0, λ c h. spared (at nodes j d) c (same.1 c h))
+      ];
+}
+  where
+    never : (c : Change) (list : List Change) → list ≡ [] → Has list c → ⊥
+    never c list is h = subst (λ l. Has l c) is h
+
+    spared : (m : ℕ) (c : Change) → IsSpared t m c ⊎ Has left c → IsSpared t m c
+    spared m c (inl is) = is
+    spared m c (inr h) = absurd (never c left (no_more left none) h)
 
 pub ruleset each_steps = (lowering_none, lowering_one, lowering_all)
 
@@ -241,23 +276,24 @@ at-more o p n m same le is = subst (λ q. IsAtMost q m) (sym same) (go p is)
     go (Some k) fits = omega (arith, le, fits)
 
 -- what goes on, where each node's load is known not to fall or nothing is known of it
-goes-on : (t u : Tables) (nodes : List ClassedNode) (before after : Rows) → AreLeast t nodes before →
+goes-on : (t u : Tables) (nodes : List ClassedNode) (before after : Blocks) → AreLeast t nodes before →
     ((j : ℕ) (d : ClassedNode) → j < length nodes →
-    (bound after (j / 16) (get_or nodes j d).class ≡ Some 0)
-    ⊎ ((bound after (j / 16) (get_or nodes j d).class ≡ bound before (j / 16) (get_or nodes j d).class)
+    (bound after (j / BLOCK) (get_or nodes j d).class ≡ Some 0)
+    ⊎ ((bound after (j / BLOCK) (get_or nodes j d).class ≡ bound before (j / BLOCK) (get_or nodes j d).class)
     × (load t (at nodes j d) ≤ load u (at nodes j d)))) → AreLeast u nodes after
 goes-on t u nodes before after least each = record {
   each = λ j d lt.
       elim (each j d lt) [
-        | inl none ↦ at-zero (bound after (j / 16) (get_or nodes j d).class) (load u (at nodes j d)) none
+        | inl none ↦ at-zero (bound after (j / BLOCK) (get_or nodes j d).class) (load u (at nodes j d)) none
         | inr same ↦
-            at-more (bound after (j / 16) (get_or nodes j d).class) (bound before (j / 16) (get_or nodes j d).class)
-            (load t (at nodes j d)) (load u (at nodes j d)) same.0 same.1 (least.each j d lt)
+            at-more (bound after (j / BLOCK) (get_or nodes j d).class)
+            (bound before (j / BLOCK) (get_or nodes j d).class) (load t (at nodes j d)) (load u (at nodes j d)) same.0
+            same.1 (least.each j d lt)
       ];
 }
 
-pub each_stays : (t : Tables) (nodes : List ClassedNode) (cs : List Change) (before after : Rows) →
-    AreLowering t nodes cs [] before after → AreLeast t nodes before → AreLeast t nodes after
+pub each_stays : (t : Tables) (nodes : List ClassedNode) (cs : List Change) (before after : Blocks) →
+    AreLowered t nodes cs before after → AreLeast t nodes before → AreLeast t nodes after
 each_stays t nodes cs before after so least =
     goes-on t t nodes before after least
     (λ j d lt.
@@ -271,63 +307,52 @@ load-left t cs m usable spared =
     (sym (changes-leave (is_placed_on m) cs t (λ c h. spares-tasks t m c usable (spared c h))))
     ∙ load_is (apply_changes t cs) m
 
-pub each_goes_on : (t : Tables) (nodes : List ClassedNode) (cs : List Change) (before after : Rows) → IsUsable t →
-    AreLowering t nodes cs [] before after → AreLeast t nodes before → AreLeast (apply_changes t cs) nodes after
+pub each_goes_on : (t : Tables) (nodes : List ClassedNode) (cs : List Change) (before after : Blocks) → IsUsable t →
+    AreLowered t nodes cs before after → AreLeast t nodes before → AreLeast (apply_changes t cs) nodes after
 each_goes_on t nodes cs before after usable so least =
     goes-on t (apply_changes t cs) nodes before after least
-    (λ j d lt. at-one j d (so.each j d (get_or nodes j d).class lt))
-  where
-    only : (m : ℕ) (c : Change) → IsSpared t m c ⊎ Has [] c → IsSpared t m c
-    only m c (inl is) = is
-    only m c (inr h) = absurd h
-
-    at-one : (j : ℕ) (d : ClassedNode) →
-        (bound after (j / 16) (get_or nodes j d).class ≡ Some 0)
-        ⊎ ((bound after (j / 16) (get_or nodes j d).class ≡ bound before (j / 16) (get_or nodes j d).class)
-        × ((c : Change) → Has cs c → IsSpared t (at nodes j d) c ⊎ Has [] c)) →
-        (bound after (j / 16) (get_or nodes j d).class ≡ Some 0)
-        ⊎ ((bound after (j / 16) (get_or nodes j d).class ≡ bound before (j / 16) (get_or nodes j d).class)
-        × (load t (at nodes j d) ≤ load (apply_changes t cs) (at nodes j d)))
-    at-one j d (inl none) = inl none
-    at-one j d (inr same) =
-        inr (same.0, omega (arith, load-left t cs (at nodes j d) usable (λ c h. only (at nodes j d) c (same.1 c h))))
+    (λ j d lt.
+    elim (so.each j d (get_or nodes j d).class lt) [
+      | inl none ↦ inl none
+      | inr same ↦ inr (same.0, omega (arith, load-left t cs (at nodes j d) usable same.1))
+    ])
 
 -- One change alone.
 
-lowered-so : (t u : Tables) (nodes : List ClassedNode) (node : Option ℕ) (before after : Rows) →
-    IsLowered nodes node before after → ((m : ℕ) → (node ≡ Some m → ⊥) → load t m ≤ load u m) → AreLeast t nodes before →
-    AreLeast u nodes after
+lowered-so : (t u : Tables) (nodes : List ClassedNode) (node : Option ℕ) (before after : Blocks) →
+    IsLowered nodes node before after → ((m : ℕ) → (node ≡ Some m → ⊥) → load t m ≤ load u m) →
+    AreLeast t nodes before → AreLeast u nodes after
 lowered-so t u nodes node before after lowered others least =
     goes-on t u nodes before after least
     (λ j d lt.
-    go j d lt (lowered.others (j / 16) (get_or nodes j d).class) (decide-some node (at nodes j d)))
+    go j d lt (lowered.others (j / BLOCK) (get_or nodes j d).class) (decide-some node (at nodes j d)))
   where
     go : (j : ℕ) (d : ClassedNode) → j < length nodes →
-        (bound after (j / 16) (get_or nodes j d).class ≡ Some 0)
-        ⊎ (bound after (j / 16) (get_or nodes j d).class ≡ bound before (j / 16) (get_or nodes j d).class) →
+        (bound after (j / BLOCK) (get_or nodes j d).class ≡ Some 0)
+        ⊎ (bound after (j / BLOCK) (get_or nodes j d).class ≡ bound before (j / BLOCK) (get_or nodes j d).class) →
         (node ≡ Some (at nodes j d)) ⊎ (node ≡ Some (at nodes j d) → ⊥) →
-        (bound after (j / 16) (get_or nodes j d).class ≡ Some 0)
-        ⊎ ((bound after (j / 16) (get_or nodes j d).class ≡ bound before (j / 16) (get_or nodes j d).class)
+        (bound after (j / BLOCK) (get_or nodes j d).class ≡ Some 0)
+        ⊎ ((bound after (j / BLOCK) (get_or nodes j d).class ≡ bound before (j / BLOCK) (get_or nodes j d).class)
         × (load t (at nodes j d) ≤ load u (at nodes j d)))
     go j d lt (inl none) own = inl none
     go j d lt (inr same) (inl own) = inl (lowered.own j d (get_or nodes j d).class lt own)
     go j d lt (inr same) (inr other) = inr (same, others (at nodes j d) other)
 
-pub alone_stays : (t : Tables) (nodes : List ClassedNode) (node : Option ℕ) (before after : Rows) →
+pub alone_stays : (t : Tables) (nodes : List ClassedNode) (node : Option ℕ) (before after : Blocks) →
     IsLowered nodes node before after → AreLeast t nodes before → AreLeast t nodes after
 alone_stays t nodes node before after lowered least =
     lowered-so t t nodes node before after lowered (λ m other. omega arith) least
 
-pub alone_goes_on : (t : Tables) (nodes : List ClassedNode) (node : Option ℕ) (before after : Rows) (cs others : List Change)
-    (c : Change) → cs ≡ c ∷ others → others ≡ [] → IsOnly t c node → IsLowered nodes node before after →
-    AreLeast t nodes before → AreLeast (apply_changes t cs) nodes after
+pub alone_goes_on : (t : Tables) (nodes : List ClassedNode) (node : Option ℕ) (before after : Blocks)
+    (cs others : List Change) (c : Change) → cs ≡ c ∷ others → others ≡ [] → IsOnly t c node →
+    IsLowered nodes node before after → AreLeast t nodes before → AreLeast (apply_changes t cs) nodes after
 alone_goes_on t nodes node before after cs others c is none only lowered least =
     subst (λ list. AreLeast (apply_changes t list) nodes after) (ap (λ list. c ∷ list) (sym none) ∙ sym is)
     (lowered-so t (apply_change t c) nodes node before after lowered only least)
 
-pub no_changes : (t : Tables) (nodes : List ClassedNode) (rows : Rows) (cs : List Change) → cs ≡ [] →
-    AreLeast t nodes rows → AreLeast (apply_changes t cs) nodes rows
-no_changes t nodes rows cs none = subst (λ list. AreLeast (apply_changes t list) nodes rows) (sym none)
+pub no_changes : (t : Tables) (nodes : List ClassedNode) (blocks : Blocks) (cs : List Change) → cs ≡ [] →
+    AreLeast t nodes blocks → AreLeast (apply_changes t cs) nodes blocks
+no_changes t nodes blocks cs none = subst (λ list. AreLeast (apply_changes t list) nodes blocks) (sym none)
 
 pub ruleset changed_steps = (each_stays, each_goes_on, alone_stays, alone_goes_on, no_changes)
 
@@ -364,7 +389,9 @@ pub ruleset left_steps = (left_none, left_some, left_stays)
 pub only_put : (t : Tables) (x y : Task) (c : Change) (node : Option ℕ) → IsUsable t → c ≡ change.PutTask x →
     Some y ≡ row_at task_id x.id t.tasks →
     ((m : ℕ) → (node ≡ Some m → ⊥) → adds (one_if is_live) m y ≤ adds (one_if is_live) m x) → IsOnly t c node
-only_put t x y c node usable is row le = subst (λ d. IsOnly t d node) (sym is) (λ m other. go m (le m other) (has_row task_id x.id t.tasks) (ap is_some (sym row)))
+only_put t x y c node usable is row le =
+    subst (λ d. IsOnly t d node) (sym is)
+    (λ m other. go m (le m other) (has_row task_id x.id t.tasks) (ap is_some (sym row)))
   where
     go : (m : ℕ) → adds (one_if is_live) m y ≤ adds (one_if is_live) m x → (b : Bool) → b ≡ true →
         load t m ≤ load (cond b (record t { tasks = put_row task_id x t.tasks }) (with_task t x)) m
@@ -380,7 +407,9 @@ only_put t x y c node usable is row le = subst (λ d. IsOnly t d node) (sym is) 
 
 pub only_new : (t : Tables) (x : Task) (c : Change) (node : Option ℕ) → c ≡ change.PutTask x →
     None ≡ row_at task_id x.id t.tasks → IsOnly t c node
-only_new t x c node is row = subst (λ d. IsOnly t d node) (sym is) (λ m other. go m (has_row task_id x.id t.tasks) (ap is_some (sym row)))
+only_new t x c node is row =
+    subst (λ d. IsOnly t d node) (sym is)
+    (λ m other. go m (has_row task_id x.id t.tasks) (ap is_some (sym row)))
   where
     go : (m : ℕ) → (b : Bool) → b ≡ false →
         load t m ≤ load (cond b (record t { tasks = put_row task_id x t.tasks }) (with_task t x)) m
@@ -416,18 +445,18 @@ pub ruleset only_steps = (only_put, only_new, only_drop, only_node, only_service
 -- What the nodes of a block have.
 
 pub class_small : (nodes : List ClassedNode) (i : ℕ) (d : ClassedNode) → AreFew nodes → i < length nodes →
-    (get_or nodes i d).class < 16
+    (get_or nodes i d).class < CLASSES
 class_small nodes i d few lt = few (get_or nodes i d) (at_place nodes i d lt)
 
-pub measured_none : (t : Tables) (nodes : List ClassedNode) (from : ℕ) (row : List (Option ℕ)) →
-    AreAtMost t nodes from from row
-measured_none t nodes from row = record { each = λ j d ge lt. absurd (omega (arith, ge, lt)) }
+pub measured_none : (t : Tables) (nodes : List ClassedNode) (from : ℕ) (block : List (Option ℕ)) →
+    AreAtMost t nodes from from block
+measured_none t nodes from block = record { each = λ j d ge lt. absurd (omega (arith, ge, lt)) }
 
-pub measured_one : (t : Tables) (nodes : List ClassedNode) (from place n : ℕ) (row after : List (Option ℕ))
-    (c e : ClassedNode) (held : Option ℕ) → AreAtMost t nodes from place row → length row ≡ 16 → AreFew nodes →
-    place < length nodes → c ≡ get_or nodes place e → held ≡ get_or row c.class held → n ≤ load t c.id →
-    IfSome held (λ least. n ≤ least) → after ≡ set row c.class (Some n) → AreAtMost t nodes from (place + 1) after
-measured_one t nodes from place n row after c e held so long few there is was own other to =
+pub measured_one : (t : Tables) (nodes : List ClassedNode) (from place n : ℕ) (block after : List (Option ℕ))
+    (c e : ClassedNode) (held : Option ℕ) → AreAtMost t nodes from place block → length block ≡ CLASSES → AreFew nodes →
+    place < length nodes → c ≡ get_or nodes place e → held ≡ get_or block c.class held → n ≤ load t c.id →
+    IfSome held (λ least. n ≤ least) → after ≡ set block c.class (Some n) → AreAtMost t nodes from (place + 1) after
+measured_one t nodes from place n block after c e held so long few there is was own other to =
     subst (λ r. AreAtMost t nodes from (place + 1) r) (sym to) (record {
       each = λ j d ge lt. at-one j d ge lt (decide (get_or nodes j d).class c.class) (decide j place);
     })
@@ -435,46 +464,58 @@ measured_one t nodes from place n row after c e held so long few there is was ow
     entry : (d : ClassedNode) → get_or nodes place d ≡ c
     entry d = get_or_default nodes place d e there ∙ sym is
 
-    fits : c.class < length row
-    fits = omega (arith, long, subst (λ (k : ClassedNode). k.class < 16) (entry c) (few (get_or nodes place c) (at_place nodes place c there)))
+    fits : c.class < length block
+    fits =
+        let small : c.class < CLASSES =
+        subst (λ (k : ClassedNode). k.class < CLASSES) (entry c)
+        (few (get_or nodes place c) (at_place nodes place c there)) in
+        omega (arith, long, small)
 
-    held-is : get_or row c.class (Some 0) ≡ held
-    held-is = get_or_default row c.class (Some 0) held fits ∙ sym was
+    held-is : get_or block c.class (Some 0) ≡ held
+    held-is = get_or_default block c.class (Some 0) held fits ∙ sym was
 
     lesser : (o : Option ℕ) (m : ℕ) → IfSome o (λ least. n ≤ least) → IsAtMost o m → n ≤ m
     lesser None m le fits = absurd fits
     lesser (Some k) m le fits = omega (arith, le, fits)
 
     at-one : (j : ℕ) (d : ClassedNode) → from ≤ j → j < place + 1 →
-        ((get_or nodes j d).class ≡ c.class) ⊎ ((get_or nodes j d).class ≡ c.class → ⊥) → (j ≡ place) ⊎ (j ≡ place → ⊥) →
-        IsAtMost (get_or (set row c.class (Some n)) (get_or nodes j d).class (Some 0)) (load t (get_or nodes j d).id)
+        ((get_or nodes j d).class ≡ c.class) ⊎ ((get_or nodes j d).class ≡ c.class → ⊥) →
+        (j ≡ place) ⊎ (j ≡ place → ⊥) →
+        IsAtMost (get_or (set block c.class (Some n)) (get_or nodes j d).class (Some 0)) (load t (get_or nodes j d).id)
     at-one j d ge lt (inl same) (inl last) =
         subst (λ o. IsAtMost o (load t (get_or nodes j d).id))
-        (sym (ap (λ k. get_or (set row c.class (Some n)) k (Some 0)) same ∙ get_or-set_same row c.class (Some n) (Some 0) fits))
+        (sym (ap (λ k. get_or (set block c.class (Some n)) k (Some 0)) same
+        ∙ get_or-set_same block c.class (Some n) (Some 0) fits))
         (subst (λ (k : ClassedNode). n ≤ load t k.id) (sym (ap (λ i. get_or nodes i d) last ∙ entry d)) own)
     at-one j d ge lt (inl same) (inr before) =
         subst (λ o. IsAtMost o (load t (get_or nodes j d).id))
-        (sym (ap (λ k. get_or (set row c.class (Some n)) k (Some 0)) same ∙ get_or-set_same row c.class (Some n) (Some 0) fits))
+        (sym (ap (λ k. get_or (set block c.class (Some n)) k (Some 0)) same
+        ∙ get_or-set_same block c.class (Some n) (Some 0) fits))
         (lesser held (load t (get_or nodes j d).id) other
-        (subst (λ o. IsAtMost o (load t (get_or nodes j d).id)) (ap (λ k. get_or row k (Some 0)) same ∙ held-is)
+        (subst (λ o. IsAtMost o (load t (get_or nodes j d).id)) (ap (λ k. get_or block k (Some 0)) same ∙ held-is)
         (so.each j d ge (omega (arith, lt, before)))))
     at-one j d ge lt (inr differs) (inl last) =
         absurd (differs (ap (λ (k : ClassedNode). k.class) (ap (λ i. get_or nodes i d) last ∙ entry d)))
     at-one j d ge lt (inr differs) (inr before) =
         subst (λ o. IsAtMost o (load t (get_or nodes j d).id))
-        (sym (get_or-set_other row c.class (get_or nodes j d).class (Some n) (Some 0) differs))
+        (sym (get_or-set_other block c.class (get_or nodes j d).class (Some n) (Some 0) differs))
         (so.each j d ge (omega (arith, lt, before)))
 
 pub ruleset measure_steps = (measured_none, measured_one)
 
 -- All classes are among so many.
 
-pub below_none : (sorted : List ClassedNode) → AreCounted sorted 0 0
+-- up to this place they are
+pub record AreBelowUpTo (sorted : List ClassedNode) (i count : ℕ) : Type 0 where
+  pub few : count ≤ CLASSES
+  pub each : (j : ℕ) (d : ClassedNode) → j < i → (get_or sorted j d).class < count
+
+pub below_none : (sorted : List ClassedNode) → AreBelowUpTo sorted 0 0
 below_none sorted = record { few = omega arith; each = λ j d lt. absurd (omega (arith, lt)) }
 
-pub below_one : (sorted : List ClassedNode) (i count after : ℕ) (e : ClassedNode) → AreCounted sorted i count →
-    count ≤ after → (get_or sorted i e).class < after → after ≤ 16 → i < length sorted →
-    AreCounted sorted (i + 1) after
+pub below_one : (sorted : List ClassedNode) (i count after : ℕ) (e : ClassedNode) → AreBelowUpTo sorted i count →
+    count ≤ after → (get_or sorted i e).class < after → after ≤ CLASSES → i < length sorted →
+    AreBelowUpTo sorted (i + 1) after
 below_one sorted i count after e so more own few there = record {
   few = few;
   each = λ j d lt.
@@ -487,7 +528,8 @@ below_one sorted i count after e so more own few there = record {
 }
 
 pub greater_of : (a b r n : ℕ) → r ≡ ord_max nat_cmp a b → a ≤ n → b ≤ n → (a ≤ r) × (b ≤ r) × (r ≤ n)
-greater_of a b r n is one other = (grind (arith, nat_tests, is), grind (arith, nat_tests, is), grind (arith, nat_tests, is, one, other))
+greater_of a b r n is one other =
+    (grind (arith, nat_tests, is), grind (arith, nat_tests, is), grind (arith, nat_tests, is, one, other))
 
 -- where it stands
 place-of : (xs : List ClassedNode) (x : ClassedNode) → Has xs x → (i : ℕ) × ((i < length xs) × (get_or xs i x ≡ x))
@@ -496,7 +538,7 @@ place-of (y ∷ xs) x (inl e) = (0, (omega arith, e))
 place-of (y ∷ xs) x (inr h) =
     let at = place-of xs x h in (suc at.0, (omega (arith, at.1.0), at.1.1))
 
-pub below_all : (sorted : List ClassedNode) (i count : ℕ) → length sorted ≤ i → AreCounted sorted i count →
+pub below_all : (sorted : List ClassedNode) (i count : ℕ) → length sorted ≤ i → AreBelowUpTo sorted i count →
     HaveClasses count sorted
 below_all sorted i count all so = (all-below, so.few)
   where
@@ -509,9 +551,9 @@ pub ruleset count_steps = (below_none, below_one, below_all)
 
 -- What rules a block out.
 
-pub greater_leads : (best : Option Node) (b : Node) (held : NodeLoad) (o : Option Ordering) (least first : ℕ) →
+greater-leads : (best : Option Node) (b : Node) (held : NodeLoad) (o : Option Ordering) (least first : ℕ) →
     best ≡ Some b → o ≡ Some Greater → Leads best held o least first
-greater_leads best b held o least first some is =
+greater-leads best b held o least first some is =
     subst (λ n. Leads n held o least first) (sym some)
     (subst (λ q. Leads (Some b) held q least first) (sym is) (λ mine load id le fe. refl))
 
@@ -529,12 +571,13 @@ later-second : (mine load id most best : ℕ) → most ≤ load → best ≤ id 
     is_lt (ordering_then (nat_cmp mine 0) (ordering_then (nat_cmp load most) (nat_cmp id best))) ≡ false
 later-second mine load id most best le fe = grind (arith, nat_tests, le, fe)
 
-equal-leads : (best : ℕ) (held : NodeLoad) (least first : ℕ) → held.here ≡ 0 →
+equal-later : (best : ℕ) (held : NodeLoad) (least first : ℕ) → held.here ≡ 0 →
     (ordering_then (nat_cmp least held.load) (nat_cmp first best) ≡ Less → ⊥) → (mine load id : ℕ) → least ≤ load →
     first ≤ id →
     is_lt (ordering_then (nat_cmp mine held.here) (ordering_then (nat_cmp load held.load) (nat_cmp id best))) ≡ false
-equal-leads best held least first none out = λ mine load id le fe.
-    subst (λ h. is_lt (ordering_then (nat_cmp mine h) (ordering_then (nat_cmp load held.load) (nat_cmp id best))) ≡ false)
+equal-later best held least first none out = λ mine load id le fe.
+    subst
+    (λ h. is_lt (ordering_then (nat_cmp mine h) (ordering_then (nat_cmp load held.load) (nat_cmp id best))) ≡ false)
     (sym none) (go mine load id le fe (ltb least held.load) refl (ltb held.load least) refl (ltb first best) refl)
   where
     go : (mine load id : ℕ) → least ≤ load → first ≤ id → (x : Bool) → ltb least held.load ≡ x → (y : Bool) →
@@ -553,51 +596,82 @@ equal-leads best held least first none out = λ mine load id le fe.
         let late : best ≤ first = grind (arith, nat_tests, h) in
         later-second mine load id held.load best (omega (arith, same, le)) (omega (arith, late, fe))
 
-pub equal_leads : (best : Option Node) (b : Node) (held : NodeLoad) (o : Option Ordering) (least first : ℕ) →
+equal-leads : (best : Option Node) (b : Node) (held : NodeLoad) (o : Option Ordering) (least first : ℕ) →
     best ≡ Some b → o ≡ Some Equal → held.here ≡ 0 →
     (ordering_then (nat_cmp least held.load) (nat_cmp first b.id) ≡ Less → ⊥) → Leads best held o least first
-equal_leads best b held o least first some is none out =
+equal-leads best b held o least first some is none out =
     subst (λ n. Leads n held o least first) (sym some)
-    (subst (λ q. Leads (Some b) held q least first) (sym is) (equal-leads b.id held least first none out))
+    (subst (λ q. Leads (Some b) held q least first) (sym is) (equal-later b.id held least first none out))
 
-pub leads_all : (best : Option Node) (held : NodeLoad) (orders : List (Option Ordering)) (row : List (Option ℕ))
+-- a class that compares as greater, whatever its nodes have
+pub greater_class : (best : Option Node) (b : Node) (held : NodeLoad) (o : Option Ordering) (r : Option ℕ) (first : ℕ) →
+    best ≡ Some b → o ≡ Some Greater → IfSome r (λ least. Leads best held o least first)
+greater_class best b held o None first some is = tt
+greater_class best b held o (Some least) first some is = greater-leads best b held o least first some is
+
+-- one that compares as equal, by what its nodes have
+pub equal_class : (best : Option Node) (b : Node) (held : NodeLoad) (o : Option Ordering) (r : Option ℕ)
+    (least first : ℕ) → best ≡ Some b → o ≡ Some Equal → Some least ≡ r → held.here ≡ 0 →
+    (ordering_then (nat_cmp least held.load) (nat_cmp first b.id) ≡ Less → ⊥) →
+    IfSome r (λ n. Leads best held o n first)
+equal_class best b held o r least first some is bound none out =
+    subst (λ q. IfSome q (λ n. Leads best held o n first)) bound
+    (equal-leads best b held o least first some is none out)
+
+-- one of which no node is there
+pub none_class : (best : Option Node) (held : NodeLoad) (o : Option Ordering) (r : Option ℕ) (first : ℕ) → None ≡ r →
+    IfSome r (λ least. Leads best held o least first)
+none_class best held o r first none = subst (λ q. IfSome q (λ least. Leads best held o least first)) none tt
+
+pub unset_class : (best : Option Node) (held : NodeLoad) (o : Option Ordering) (r : Option ℕ) (first : ℕ) →
+    is_none r ≡ true → IfSome r (λ least. Leads best held o least first)
+unset_class best held o None first none = tt
+unset_class best held o (Some n) first none = let both : false ≡ true = none in absurd cc
+
+pub leads_all : (best : Option Node) (held : NodeLoad) (orders : List (Option Ordering)) (block : List (Option ℕ))
     (first count k : ℕ) → count ≤ k →
     ((class : ℕ) → class < k →
-    IfSome (get_or row class (Some 0)) (λ least. Leads best held (get_or orders class None) least first)) →
-    LeadsAll best held orders count row first
-leads_all best held orders row first count k all each = record { each = λ class lt. each class (omega (arith, all, lt)) }
+    IfSome (get_or block class (Some 0)) (λ least. Leads best held (get_or orders class None) least first)) →
+    LeadsAll best held orders count block first
+leads_all best held orders block first count k all each =
+    record { each = λ class lt. each class (omega (arith, all, lt)) }
 
-pub leads_one : (best : Option Node) (held : NodeLoad) (orders : List (Option Ordering)) (row : List (Option ℕ)) (first k : ℕ) →
+pub leads_one : (best : Option Node) (held : NodeLoad) (orders : List (Option Ordering)) (block : List (Option ℕ))
+    (first k : ℕ) →
     ((class : ℕ) → class < k →
-    IfSome (get_or row class (Some 0)) (λ least. Leads best held (get_or orders class None) least first)) →
-    IfSome (get_or row k (Some 0)) (λ least. Leads best held (get_or orders k None) least first) →
+    IfSome (get_or block class (Some 0)) (λ least. Leads best held (get_or orders class None) least first)) →
+    IfSome (get_or block k (Some 0)) (λ least. Leads best held (get_or orders k None) least first) →
     (class : ℕ) → class < k + 1 →
-    IfSome (get_or row class (Some 0)) (λ least. Leads best held (get_or orders class None) least first)
-leads_one best held orders row first k each own class lt = elim (decide class k) [
+    IfSome (get_or block class (Some 0)) (λ least. Leads best held (get_or orders class None) least first)
+leads_one best held orders block first k each own class lt = elim (decide class k) [
   | inl same ↦
-      subst (λ c. IfSome (get_or row c (Some 0)) (λ least. Leads best held (get_or orders c None) least first)) (sym same) own
+      subst (λ c. IfSome (get_or block c (Some 0)) (λ least. Leads best held (get_or orders c None) least first))
+      (sym same) own
   | inr other ↦ each class (omega (arith, lt, other))
 ]
 
-pub ruleset lead_steps = (greater_leads, equal_leads, leads_all, leads_one)
+pub ruleset lead_steps = (greater_class, equal_class, none_class, unset_class, leads_all, leads_one)
 
-pub behind_all : (t : Tables) (service : ℕ) (nodes : List ClassedNode) (orders : List (Option Ordering)) (best : Option Node)
-    (held : NodeLoad) (row : List (Option ℕ)) (count first place end : ℕ) (d : ClassedNode) → IfSome best (λ b. IsNodeLoad t b.id service held) →
-    LeadsAll best held orders count row first → AreAtMost t nodes place end row → AreBelow count nodes → RisesFrom entry_id 0 nodes →
+pub behind_all : (t : Tables) (service : ℕ) (nodes : List ClassedNode) (orders : List (Option Ordering))
+    (best : Option Node) (held : NodeLoad) (block : List (Option ℕ)) (count first place end : ℕ) (d : ClassedNode) →
+    IfSome best (λ b. IsNodeLoad t b.id service held) → LeadsAll best held orders count block first →
+    AreAtMost t nodes place end block → AreBelow count nodes → RisesFrom entry_id 0 nodes →
     end ≤ length nodes → first ≡ (get_or nodes place d).id → AreBehind t service nodes orders best place end
-behind_all t service nodes orders best held row count first place end d own leads least few rises fits is = record {
+behind_all t service nodes orders best held block count first place end d own leads least few rises fits is = record {
   each = λ j e ge lt.
       let class = (get_or nodes j e).class in
       let there : j < length nodes = omega (arith, lt, fits) in
-      go best own (get_or nodes j e).id (get_or row class (Some 0)) (get_or orders class None)
-      (leads.each class (few (get_or nodes j e) (at_place nodes j e there))) (least.each j e ge lt) (above j e ge there);
+      go best own (get_or nodes j e).id (get_or block class (Some 0)) (get_or orders class None)
+      (leads.each class (few (get_or nodes j e) (at_place nodes j e there))) (least.each j e ge lt)
+      (above j e ge there);
 }
   where
     above : (j : ℕ) (e : ClassedNode) → place ≤ j → j < length nodes → first ≤ (get_or nodes j e).id
     above j e ge there =
         let from : (get_or nodes place e).id ≤ (get_or nodes j e).id =
         any_start entry_id nodes (from_any entry_id 0 nodes rises) place j e ge there in
-        let same : get_or nodes place d ≡ get_or nodes place e = get_or_default nodes place d e (omega (arith, ge, there)) in
+        let same : get_or nodes place d ≡ get_or nodes place e =
+        get_or_default nodes place d e (omega (arith, ge, there)) in
         omega (arith, from, is ∙ ap (λ (c : ClassedNode). c.id) same)
 
     go : (b : Option Node) → IfSome b (λ n. IsNodeLoad t n.id service held) → (id : ℕ) (r : Option ℕ)
@@ -621,45 +695,50 @@ pub held_copied : (t : Tables) (service : ℕ) (held : NodeLoad) (o : Option (Bo
 held_copied t service held None own = tt
 held_copied t service held (Some b) own = own
 
-in-block : (nodes : List ClassedNode) (place j : ℕ) → place % 16 ≡ 0 → place ≤ j → j < block_end nodes place →
-    j / 16 ≡ place / 16
+in-block : (nodes : List ClassedNode) (place j : ℕ) → place % BLOCK ≡ 0 → place ≤ j → j < block_end nodes place →
+    j / BLOCK ≡ place / BLOCK
 in-block nodes place j begins ge lt = omega (arith, begins, ge, lt)
 
-of-block : (nodes : List ClassedNode) (place j : ℕ) → place % 16 ≡ 0 → j / 16 ≡ place / 16 → j < length nodes →
+of-block : (nodes : List ClassedNode) (place j : ℕ) → place % BLOCK ≡ 0 → j / BLOCK ≡ place / BLOCK → j < length nodes →
     (place ≤ j) × (j < block_end nodes place)
 of-block nodes place j begins same lt = (omega (arith, begins, same), omega (arith, begins, same, lt))
 
 -- what is kept of the block that begins there
-pub kept_least : (t : Tables) (nodes : List ClassedNode) (rows : Rows) (row : List (Option ℕ)) (place block : ℕ) →
-    AreLeast t nodes rows → place % 16 ≡ 0 → place < length nodes → block ≡ place / 16 → row ≡ get_or rows block [] →
-    AreAtMost t nodes place (block_end nodes place) row
-kept_least t nodes rows row place block least begins there is own = record {
+pub kept_least : (t : Tables) (nodes : List ClassedNode) (blocks : Blocks) (block : List (Option ℕ))
+    (place number : ℕ) → AreLeast t nodes blocks → place % BLOCK ≡ 0 → place < length nodes →
+    number ≡ place / BLOCK → block ≡ get_or blocks number [] →
+    AreAtMost t nodes place (block_end nodes place) block
+kept_least t nodes blocks block place number least begins there is own = record {
   each = λ j d ge lt.
-      subst (λ (r : List (Option ℕ)). IsAtMost (get_or r (get_or nodes j d).class (Some 0)) (load t (get_or nodes j d).id))
-      (ap (λ k. get_or rows k []) (in-block nodes place j begins ge lt ∙ sym is) ∙ sym own)
+      subst
+      (λ (r : List (Option ℕ)). IsAtMost (get_or r (get_or nodes j d).class (Some 0)) (load t (get_or nodes j d).id))
+      (ap (λ k. get_or blocks k []) (in-block nodes place j begins ge lt ∙ sym is) ∙ sym own)
       (least.each j d (omega (arith, lt, there)));
 }
 
 -- what was found of it
-pub noted_least : (t : Tables) (nodes : List ClassedNode) (before after : Rows) (row : List (Option ℕ)) (place block : ℕ) →
-    AreLeast t nodes before → place % 16 ≡ 0 → block ≡ place / 16 → IsNoted block row before after →
-    AreAtMost t nodes place (block_end nodes place) row → AreLeast t nodes after
-noted_least t nodes before after row place block least begins is noted found = record {
-  each = λ j d lt. at-one j d lt (decide (j / 16) block) noted.own;
+pub noted_least : (t : Tables) (nodes : List ClassedNode) (before after : Blocks) (block : List (Option ℕ))
+    (place number : ℕ) → AreLeast t nodes before → place % BLOCK ≡ 0 → number ≡ place / BLOCK →
+    IsNoted number block before after → AreAtMost t nodes place (block_end nodes place) block → AreLeast t nodes after
+noted_least t nodes before after block place number least begins is noted found = record {
+  each = λ j d lt. at-one j d lt (decide (j / BLOCK) number) noted.own;
 }
   where
-    at-one : (j : ℕ) (d : ClassedNode) → j < length nodes → (j / 16 ≡ block) ⊎ (j / 16 ≡ block → ⊥) →
-        (get_or after block [] ≡ row) ⊎ (get_or after block [] ≡ []) →
-        IsAtMost (bound after (j / 16) (get_or nodes j d).class) (load t (get_or nodes j d).id)
+    at-one : (j : ℕ) (d : ClassedNode) → j < length nodes → (j / BLOCK ≡ number) ⊎ (j / BLOCK ≡ number → ⊥) →
+        (get_or after number [] ≡ block) ⊎ (get_or after number [] ≡ []) →
+        IsAtMost (bound after (j / BLOCK) (get_or nodes j d).class) (load t (get_or nodes j d).id)
     at-one j d lt (inl same) (inl own) =
         let within = of-block nodes place j begins (same ∙ is) lt in
-        subst (λ (r : List (Option ℕ)). IsAtMost (get_or r (get_or nodes j d).class (Some 0)) (load t (get_or nodes j d).id))
+        subst
+        (λ (r : List (Option ℕ)). IsAtMost (get_or r (get_or nodes j d).class (Some 0)) (load t (get_or nodes j d).id))
         (sym (ap (λ k. get_or after k []) same ∙ own)) (found.each j d within.0 within.1)
     at-one j d lt (inl same) (inr none) =
-        at-zero (bound after (j / 16) (get_or nodes j d).class) (load t (get_or nodes j d).id)
-        (ap (λ (r : List (Option ℕ)). get_or r (get_or nodes j d).class (Some 0)) (ap (λ k. get_or after k []) same ∙ none))
+        at-zero (bound after (j / BLOCK) (get_or nodes j d).class) (load t (get_or nodes j d).id)
+        (ap (λ (r : List (Option ℕ)). get_or r (get_or nodes j d).class (Some 0))
+        (ap (λ k. get_or after k []) same ∙ none))
     at-one j d lt (inr other) own =
-        subst (λ (r : List (Option ℕ)). IsAtMost (get_or r (get_or nodes j d).class (Some 0)) (load t (get_or nodes j d).id))
-        (sym (noted.others (j / 16) other)) (least.each j d lt)
+        subst
+        (λ (r : List (Option ℕ)). IsAtMost (get_or r (get_or nodes j d).class (Some 0)) (load t (get_or nodes j d).id))
+        (sym (noted.others (j / BLOCK) other)) (least.each j d lt)
 
 pub ruleset block_steps = (behind_all, kept_least, noted_least)

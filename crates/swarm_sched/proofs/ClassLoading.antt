@@ -1,11 +1,12 @@
 -- Tasks counted class by class: task by task, and that a class is a branch.
-use Rattle.std.proofs.Common.{◌≡◌, ◌∙◌, ◌+◌, ◌<◌, ◌≤◌, ◌∷◌, ◌⊎◌, ℕ, Bool, List, None, Option, Some, [], ap, arith, cond, eqb, false, get_or, inl, inr, length, map, refl, replicate, set, subst, sym, true}
+use Rattle.std.proofs.Common.{◌≡◌, ◌∙◌, ◌+◌, ◌<◌, ◌≤◌, ◌∷◌, ◌⊎◌, ℕ, Bool, List, None, Option, Some, [], ap, arith}
+use Rattle.std.proofs.Common.{cond, eqb, false, get_or, inl, inr, length, map, refl, replicate, set, subst, sym, true}
 use Rattle.std.proofs.lemmas.Bool.Decides.{nat_tests}
 use Rattle.std.proofs.lemmas.List.Sums.{count_by-le-length, sum_by-cons}
 use Rattle.std.proofs.lemmas.List.{get_or-replicate, get_or-set_other, get_or-set_same, length-set}
 use Rattle.std.specs.List.{list_any}
 use Rattle.std.specs.Option.{option_eq}
-use Rattle.std.specs.Prelude.{IsTrue, count_by, filter, is_some, ◌&&◌, ◌^◌, ◌||◌}
+use Rattle.std.specs.Prelude.{IfSome, IsTrue, count_by, filter, is_some, ◌&&◌, ◌^◌, ◌||◌}
 use Rattle.swarm_objects.proofs.Few.{few_among}
 use Rattle.swarm_objects.proofs.RowLemmas.{Has-from_row_at, row_at-Some}
 use Rattle.swarm_objects.proofs.Tests.{both_are, same_test}
@@ -23,24 +24,26 @@ use Rattle.swarm_objects.specs.declared.tasks.Task.{Task}
 use Rattle.swarm_objects.specs.declared.templates.Key.{Key}
 use Rattle.swarm_sched.proofs.Branching.{at_place, branch_is}
 use Rattle.swarm_sched.proofs.Halving.{entries_rise}
-use Rattle.swarm_sched.specs.Inside.Branches.{Preferences, is_of_branch}
-use Rattle.swarm_sched.specs.Inside.ClassLoads.{AreCounting, AreLoads, AreMost, class_of_node, class_or_none, is_of_class, task_class}
+use Rattle.swarm_sched.specs.Inside.Branches.{IsBranchOf, Preferences, is_of_branch, preferences}
+use Rattle.swarm_sched.specs.Inside.ClassLoads.{AreCounting, AreLoads, AreMost, class_of_node, class_or_none}
+use Rattle.swarm_sched.specs.Inside.ClassLoads.{is_of_class, task_class}
 use Rattle.swarm_sched.specs.Inside.Classes.{AreFew, AreSorted, IsEntry, entry_id}
 use Rattle.swarm_sched.specs.declared.classes.ClassedNode.{ClassedNode}
+use Rattle.swarm_sched.specs.declared.classes.TheConstants.{CLASSES}
 
 -- A task's class is one of so many.
 
 pub entry_few : (sorted : List ClassedNode) (node : ℕ) (c : ClassedNode) → AreFew sorted →
-    Some c ≡ row_at entry_id node sorted → c.class < 16
+    Some c ≡ row_at entry_id node sorted → c.class < CLASSES
 entry_few sorted node c few is = few c (Has-from_row_at entry_id node sorted c (sym is)).0
 
 -- Task by task.
 
 pub counting_none : (sorted : List ClassedNode) (tasks left : List Task) → left ≡ tasks →
-    AreCounting sorted tasks left (replicate 16 0)
+    AreCounting sorted tasks left (replicate CLASSES 0)
 counting_none sorted tasks left all = record {
-  each = λ k lt. omega (arith, get_or-replicate {A = ℕ} 16 k 0 0 lt, ap (count_by (is_of_class sorted k)) all);
-  fits = λ k lt. omega (arith, get_or-replicate {A = ℕ} 16 k 0 0 lt, ap length all);
+  each = λ k lt. omega (arith, get_or-replicate {A = ℕ} CLASSES k 0 0 lt, ap (count_by (is_of_class sorted k)) all);
+  fits = λ k lt. omega (arith, get_or-replicate {A = ℕ} CLASSES k 0 0 lt, ap length all);
   all = refl;
 }
 
@@ -68,7 +71,7 @@ decide a b = go (eqb a b) refl
     go false is = inr (λ e. grind (arith, nat_tests, is, e))
 
 pub counting_one : (sorted : List ClassedNode) (tasks from left : List Task) (loads : List ℕ) (x : Task) (class : ℕ) →
-    AreCounting sorted tasks from loads → from ≡ x ∷ left → Some class ≡ task_class sorted x → class < 16 →
+    AreCounting sorted tasks from loads → from ≡ x ∷ left → Some class ≡ task_class sorted x → class < CLASSES →
     AreCounting sorted tasks left (set loads class (get_or loads class 0 + 1))
 counting_one sorted tasks from left loads x class so step is small =
     let at : AreCounting sorted tasks (x ∷ left) loads = subst (λ l. AreCounting sorted tasks l loads) step so in
@@ -94,7 +97,7 @@ counting_one sorted tasks from left loads x class so step is small =
     test : (k : ℕ) → is_of_class sorted k x ≡ eqb class k
     test k = ap (λ o. option_eq same_number o (Some k)) (sym is)
 
-    each : AreCounting sorted tasks (x ∷ left) loads → (k : ℕ) → k < 16 → (k ≡ class) ⊎ (k ≡ class → ⊥) →
+    each : AreCounting sorted tasks (x ∷ left) loads → (k : ℕ) → k < CLASSES → (k ≡ class) ⊎ (k ≡ class → ⊥) →
         get_or after k 0 + count_by (is_of_class sorted k) left ≡ count_by (is_of_class sorted k) tasks
     each at k lt (inl same) =
         let counts : eqb class k ≡ true = grind (arith, nat_tests, same) in
@@ -107,7 +110,7 @@ counting_one sorted tasks from left loads x class so step is small =
         apart true e = let same : k ≡ class = grind (arith, nat_tests, e) in absurd (differs same)
         apart false e = refl
 
-    fits : AreCounting sorted tasks (x ∷ left) loads → (k : ℕ) → k < 16 → (k ≡ class) ⊎ (k ≡ class → ⊥) →
+    fits : AreCounting sorted tasks (x ∷ left) loads → (k : ℕ) → k < CLASSES → (k ≡ class) ⊎ (k ≡ class → ⊥) →
         get_or after k 0 + length left ≤ length tasks
     fits at k lt (inl same) = omega (arith, at.fits k lt, own at k same)
     fits at k lt (inr differs) = omega (arith, at.fits k lt, other k differs)
@@ -115,7 +118,7 @@ counting_one sorted tasks from left loads x class so step is small =
 pub counting_fits : (t : Tables) (service : ℕ) (sorted : List ClassedNode) (from left : List Task) (loads : List ℕ)
     (x : Task)
     (class : ℕ) → IsUsable t → AreCounting sorted (filter (is_of service) t.tasks) from loads → from ≡ x ∷ left →
-    class < 16 → get_or loads class 0 + 1 < 2 ^ 64
+    class < CLASSES → get_or loads class 0 + 1 < 2 ^ 64
 counting_fits t service sorted from left loads x class usable so step small =
     omega (arith, so.fits class small, ap length step, few_among t (is_of service) usable)
 
@@ -191,8 +194,21 @@ told_at t p sorted loads i d n usable same are some so lt row =
     (record { there = at_place sorted i d lt; row = at.0; same = at.1 })
     ∙ ap (λ u. branch_load u p.service p.keys n) (sym same)
 
+-- the same for the task's preferences, where there is a row
+pub own_at : (t : Tables) (x : Task) (sorted : List ClassedNode) (loads : List ℕ) (i : ℕ) (d : ClassedNode) →
+    IsUsable t → AreSorted t.nodes x.template.spread sorted →
+    ((x.template.spread ≡ [] → ⊥) → AreLoads sorted (filter (is_of x.service) t.tasks) loads) → i < length sorted →
+    IfSome (row_at node_id (get_or sorted i d).id t.nodes)
+    (IsBranchOf (preferences t x) (get_or loads (get_or sorted i d).class 0))
+own_at t x sorted loads i d usable are so lt = go (row_at node_id (get_or sorted i d).id t.nodes) refl
+  where
+    go : (o : Option Node) → row_at node_id (get_or sorted i d).id t.nodes ≡ o →
+        IfSome o (IsBranchOf (preferences t x) (get_or loads (get_or sorted i d).class 0))
+    go None is = tt
+    go (Some n) is = λ some. told_at t (preferences t x) sorted loads i d n usable refl are some (so some) lt is
+
 pub place_few : (nodes : List Node) (keys : List Key) (sorted : List ClassedNode) (i : ℕ) (d : ClassedNode) →
-    AreSorted nodes keys sorted → i < length sorted → (get_or sorted i d).class < 16
+    AreSorted nodes keys sorted → i < length sorted → (get_or sorted i d).class < CLASSES
 place_few nodes keys sorted i d are lt = are.few (get_or sorted i d) (at_place sorted i d lt)
 
 -- Where none of the service's tasks counts in a class, none is on its nodes.
@@ -212,7 +228,7 @@ count-among p q r (x ∷ xs) each = go (p x) refl (r x) refl (count-among p q r 
     go false e false f rest = omega (arith, count_by_no p x xs e, rest)
 
 pub most_all : (t : Tables) (service : ℕ) (sorted : List ClassedNode) (n : ℕ) → IsUsable t → 2 ^ 60 ≤ n →
-    AreMost sorted (filter (is_of service) t.tasks) (replicate 16 n)
+    AreMost sorted (filter (is_of service) t.tasks) (replicate CLASSES n)
 most_all t service sorted n usable many = record {
   each = λ k lt.
       omega (
@@ -220,7 +236,7 @@ most_all t service sorted n usable many = record {
         many,
         few_among t (is_of service) usable,
         count_by-le-length (is_of_class sorted k) (filter (is_of service) t.tasks),
-        get_or-replicate {A = ℕ} 16 k n 0 lt,
+        get_or-replicate {A = ℕ} CLASSES k n 0 lt,
       );
   all = refl;
 }

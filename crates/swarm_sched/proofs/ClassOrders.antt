@@ -1,5 +1,7 @@
 -- How the nodes of a class compare with the best one so far, and the loop over the sorted nodes.
-use Rattle.std.proofs.Common.{◌≡◌, ◌∙◌, ◌+◌, ◌-◌, ◌<◌, ◌≤◌, ◌∷◌, ◌⊎◌, ℕ, Bool, List, None, Option, Some, [], ap, arith, cond, drop, eqb, false, get_or, inl, inr, length, map, refl, replicate, set, subst, suc, sym, true, zero}
+use Rattle.std.proofs.Common.{◌≡◌, ◌∙◌, ◌+◌, ◌-◌, ◌<◌, ◌≤◌, ◌∷◌, ◌⊎◌, ℕ, Bool, List, None, Option, Some, [], ap, arith}
+use Rattle.std.proofs.Common.{cond, drop, eqb, false, get_or, inl, inr, length, map, refl}
+use Rattle.std.proofs.Common.{replicate, set, subst, suc, sym, true, zero}
 use Rattle.std.proofs.lemmas.Bool.Decides.{nat_tests}
 use Rattle.std.proofs.lemmas.List.Folds.{list_all-append}
 use Rattle.std.proofs.lemmas.List.{length-set}
@@ -30,6 +32,7 @@ use Rattle.swarm_sched.specs.Inside.Branches.{Preferences, preferences}
 use Rattle.swarm_sched.specs.Inside.Classes.{AreOrders, AreSorted, IsEntry, IsOrder, entry_id}
 use Rattle.swarm_sched.specs.Inside.Placing.{AreBehind, IsNodeLoad, IsSearched, comes_first}
 use Rattle.swarm_sched.specs.declared.classes.ClassedNode.{ClassedNode}
+use Rattle.swarm_sched.specs.declared.classes.TheConstants.{CLASSES}
 use Rattle.swarm_sched.specs.declared.placing.NodeLoad.{NodeLoad}
 
 -- Nodes of one class compare so with any other.
@@ -256,10 +259,10 @@ pub record AtEntry (t : Tables) (x : Task) (sorted : List ClassedNode) (orders :
   pub rest : drop i t.nodes ≡ node ∷ drop (i + 1) t.nodes
   pub order : IsOrder (preferences t x) o node best
   pub known : AreOrders (preferences t x) sorted orders best
-  pub all : length orders ≡ 16
+  pub all : length orders ≡ CLASSES
 
 pub entry_fits : (nodes : List Node) (keys : List Key) (sorted : List ClassedNode) (n i : ℕ) (d : ClassedNode) →
-    AreSorted nodes keys sorted → i < length sorted → n ≡ 16 → (get_or sorted i d).class < n
+    AreSorted nodes keys sorted → i < length sorted → n ≡ CLASSES → (get_or sorted i d).class < n
 entry_fits nodes keys sorted n i d are lt long =
     omega (arith, are.few (get_or sorted i d) (at_place sorted i d lt), long)
 
@@ -314,8 +317,9 @@ row_id nodes id n is = sym (Has-from_row_at node_id id nodes n is).1
 -- at the first entry
 pub searched_none : (t : Tables) (x : Task) (sorted : List ClassedNode) →
     least_by (node_cmp t x) None (filter (is_open t x) t.nodes) ≡ best_node t x →
-    IsSearched t x sorted (replicate 16 None) None 0
-searched_none t x sorted best = record { left = best; known = orders_none (preferences t x) sorted 16 None; all = refl }
+    IsSearched t x sorted (replicate CLASSES None) None 0
+searched_none t x sorted best =
+    record { left = best; known = orders_none (preferences t x) sorted CLASSES None; all = refl }
 
 -- behind an entry that doesn't come first
 pub searched_past : (t : Tables) (x : Task) (sorted : List ClassedNode) (orders more : List (Option Ordering))
@@ -353,7 +357,7 @@ pub searched_best : (t : Tables) (x : Task) (sorted : List ClassedNode) (orders 
     (i : ℕ) (c : ClassedNode) (o : Ordering) (m : Node) → AtEntry t x sorted more best i c o →
     IsSearched t x sorted orders best i → row_at node_id c.id t.nodes ≡ Some m →
     (is_open t x m && comes_first t x.service o m.id best) ≡ true →
-    (after ≡ replicate 16 None) ⊎ ((o ≡ Equal) × (after ≡ more)) →
+    (after ≡ replicate CLASSES None) ⊎ ((o ≡ Equal) × (after ≡ more)) →
     IsSearched t x sorted after (Some m) (i + 1)
 searched_best t x sorted orders more after best i c o m at so row better left = record {
   left =
@@ -374,15 +378,15 @@ searched_best t x sorted orders more after best i c o m at so row better left = 
     parts : (is_open t x m ≡ true) × (comes_first t x.service o m.id best ≡ true)
     parts = both_are (is_open t x m) (comes_first t x.service o m.id best) better
 
-    known : (after ≡ replicate 16 None) ⊎ ((o ≡ Equal) × (after ≡ more)) → AreOrders p sorted after (Some m)
+    known : (after ≡ replicate CLASSES None) ⊎ ((o ≡ Equal) × (after ≡ more)) → AreOrders p sorted after (Some m)
     known (inl none) =
-        subst (λ list. AreOrders p sorted list (Some m)) (sym none) (orders_none p sorted 16 (Some m))
+        subst (λ list. AreOrders p sorted list (Some m)) (sym none) (orders_none p sorted CLASSES (Some m))
     known (inr kept) =
         subst (λ list. AreOrders p sorted list (Some m)) (sym kept.1)
         (orders-equal p sorted more best m
         (subst (λ r. IsOrder p r m best) kept.0 (subst (λ n. IsOrder p o n best) node at.order)) at.known)
 
-    all : (after ≡ replicate 16 None) ⊎ ((o ≡ Equal) × (after ≡ more)) → length after ≡ 16
+    all : (after ≡ replicate CLASSES None) ⊎ ((o ≡ Equal) × (after ≡ more)) → length after ≡ CLASSES
     all (inl none) = ap length none
     all (inr kept) = ap length kept.1 ∙ at.all
 
@@ -437,8 +441,8 @@ some-behind t x sorted orders best (suc n) i end d are behind all fits so =
     (past-known t x sorted orders best i d own.0 are so (omega (arith, all, fits)) own.1 own.2)
 
 -- behind entries of which none comes first
-pub searched_behind : (t : Tables) (x : Task) (sorted : List ClassedNode) (orders : List (Option Ordering)) (best : Option Node)
-    (i end : ℕ) (d : ClassedNode) → AreSorted t.nodes x.template.spread sorted →
+pub searched_behind : (t : Tables) (x : Task) (sorted : List ClassedNode) (orders : List (Option Ordering))
+    (best : Option Node) (i end : ℕ) (d : ClassedNode) → AreSorted t.nodes x.template.spread sorted →
     AreBehind t x.service sorted orders best i end → i ≤ end → end ≤ length sorted →
     IsSearched t x sorted orders best i → IsSearched t x sorted orders best end
 searched_behind t x sorted orders best i end d are behind le fits so =

@@ -2,7 +2,8 @@
 use Rattle.std.proofs.lemmas.Bool.Decides.{nat_tests}
 use Rattle.std.proofs.lemmas.List.Sums.{fails_before_first}
 use Rattle.std.specs.List.{position_or_len}
-use Rattle.std.proofs.Common.{None, ltb, ◌≡◌, ◌∙◌, ◌<◌, ◌≤◌, ◌∷◌, ◌⊎◌, ℕ, Bool, List, Option, Some, [], ap, arith, cond, false, get_or, inl, inr, length, length-append, map, refl, subst, sym, true}
+use Rattle.std.proofs.Common.{None, ltb, ◌≡◌, ◌∙◌, ◌<◌, ◌≤◌, ◌∷◌, ◌⊎◌, ℕ, Bool, List, Option, Some, [], ap, arith}
+use Rattle.std.proofs.Common.{cond, false, get_or, inl, inr, length, length-append, map, refl, subst, sym, true}
 use Rattle.std.proofs.lemmas.List.Quantifiers.{position-Some}
 use Rattle.std.proofs.lemmas.List.{append-nil, get_or_append_left}
 use Rattle.std.proofs.Math.Seq.{get_or-append_seam}
@@ -25,11 +26,13 @@ use Rattle.swarm_objects.specs.declared.rows.Change.{Change}
 use Rattle.swarm_objects.specs.declared.templates.Key.{Key}
 use Rattle.swarm_sched.proofs.Branching.{agree-alike}
 use Rattle.swarm_sched.specs.Inside.Bounds.{AreLeast}
-use Rattle.swarm_sched.specs.Inside.Classes.{AreClasses, AreSorted, AreSorting, HaveClasses, IsEntry, IsMore, IsOf, entry_id, puts_node, sorted_by}
+use Rattle.swarm_sched.specs.Inside.Classes.{AreClasses, AreSorted, AreSorting, HaveClasses, IsEntry, IsMore, IsOf}
+use Rattle.swarm_sched.specs.Inside.Classes.{entry_id, puts_node, sorted_by}
 use Rattle.swarm_sched.specs.declared.classes.ClassedNode.{ClassedNode}
 use Rattle.swarm_sched.specs.declared.classes.SortedNodes.{SortedNodes}
 use Rattle.swarm_sched.specs.declared.classes.Sorting.TheVariants as sorting
 use Rattle.swarm_sched.specs.declared.classes.Sorting.{Sorting}
+use Rattle.swarm_sched.specs.declared.classes.TheConstants.{CLASSES}
 
 -- What changes leave.
 
@@ -62,13 +65,15 @@ pub classes_left : (t : Tables) (cs : List Change) (keys : List Key) (nodes : Li
     (before after : List (List (Option ℕ))) → list_any puts_node cs ≡ false →
     AreSorted t.nodes keys nodes × AreLeast t nodes before × HaveClasses count nodes →
     AreLeast (apply_changes t cs) nodes after →
-    AreSorted (apply_changes t cs).nodes keys nodes × AreLeast (apply_changes t cs) nodes after × HaveClasses count nodes
+    AreSorted (apply_changes t cs).nodes keys nodes × AreLeast (apply_changes t cs) nodes after
+    × HaveClasses count nodes
 classes_left t cs keys nodes count before after none =
     classes_alike t (apply_changes t cs) keys nodes count before after (nodes-left cs t none)
 
 -- what is kept is of the sorted nodes
 pub sorted_done : (t : Tables) (keys : List Key) (s : Sorting) (n : SortedNodes) → s ≡ sorting.Done n →
-    AreClasses t (sorted_by keys s) → AreSorted t.nodes keys n.nodes × AreLeast t n.nodes n.bounds × HaveClasses n.count n.nodes
+    AreClasses t (sorted_by keys s) →
+    AreSorted t.nodes keys n.nodes × AreLeast t n.nodes n.bounds × HaveClasses n.count n.nodes
 sorted_done t keys s n is = subst (λ r. AreClasses t (sorted_by keys r)) is
 
 -- A class among its heads.
@@ -177,7 +182,7 @@ one-node nodes n m rising one other same =
 sorting_one : (t : Tables) (keys : List Key) (heads more : List (Bor Node)) (sorted : List ClassedNode)
     (from left : List Node)
     (n : Node) (c : ClassedNode) → IsUsable t → AreSorting t.nodes keys heads sorted from → from ≡ n ∷ left →
-    IsMore keys heads more → length more ≤ 16 → IsOf keys more c.class n → c.id ≡ n.id →
+    IsMore keys heads more → length more ≤ CLASSES → IsOf keys more c.class n → c.id ≡ n.id →
     AreSorting t.nodes keys more (sorted ++ c ∷ []) left
 sorting_one t keys heads more sorted from left n c usable so step grown few own id =
     let all : map entry_id sorted ++ n.id ∷ map node_id left ≡ map node_id t.nodes =
@@ -193,9 +198,9 @@ sorting_one t keys heads more sorted from left n c usable so step grown few own 
     there : Has t.nodes n
     there = so.among n (subst (λ l. Has l n) (sym step) (inl refl))
 
-    tiny : (d : ClassedNode) → Has sorted d ⊎ (c ≡ d) → d.class < 16
+    tiny : (d : ClassedNode) → Has sorted d ⊎ (c ≡ d) → d.class < CLASSES
     tiny d (inl old) = so.small d old
-    tiny d (inr new) = subst (λ (k : ClassedNode). k.class < 16) new (omega (arith, own.there, few))
+    tiny d (inr new) = subst (λ (k : ClassedNode). k.class < CLASSES) new (omega (arith, own.there, few))
 
     at : (d : ClassedNode) (m : Node) → IsEntry t.nodes (sorted ++ c ∷ []) d m → Has sorted d ⊎ (c ≡ d) →
         IsOf keys more d.class m
@@ -210,7 +215,7 @@ sorting_one t keys heads more sorted from left n c usable so step grown few own 
 pub sorting_goes : (t : Tables) (keys : List Key) (heads more : List (Bor Node)) (sorted after : List ClassedNode)
     (from left : List Node)
     (n : Node) (class : ℕ) → IsUsable t → AreSorting t.nodes keys heads sorted from → from ≡ n ∷ left →
-    IsMore keys heads more → length more ≤ 16 → IsOf keys more class n →
+    IsMore keys heads more → length more ≤ CLASSES → IsOf keys more class n →
     after ≡ sorted ++ record { id = n.id; class = class } ∷ [] → AreSorting t.nodes keys more after left
 sorting_goes t keys heads more sorted after from left n class usable so step grown few own is =
     subst (λ list. AreSorting t.nodes keys more list left) (sym is)

@@ -11,6 +11,7 @@ use Rattle.swarm_sched.specs.Inside.Bounds.{AreLeast, IsAtMost, bound}
 use Rattle.swarm_sched.specs.Inside.Classes.{AreClasses, Classes}
 use Rattle.swarm_sched.specs.Inside.Known.{AreCounted, Knows, recalled}
 use Rattle.swarm_sched.specs.Inside.KnownNodes.{KnowsNodes}
+use Rattle.swarm_sched.specs.declared.bounds.TheConstants.{BLOCK}
 use Rattle.swarm_sched.specs.declared.classes.ClassedNode.{ClassedNode}
 use Rattle.swarm_sched.specs.declared.known.NodeTotals.{NodeTotals}
 use Rattle.swarm_sched.specs.declared.known_nodes.KnownNodes.{KnownNodes}
@@ -23,15 +24,16 @@ totals-so t u all same knows = record { each = λ node. so node (recalled all no
     so node None is = tt
     so node (Some k) is = counted-alike t u node k (ap (filter (is_placed_on node)) same) is
 
-least-so : (t u : Tables) (nodes : List ClassedNode) (rows : List (List (Option ℕ))) → u.tasks ≡ t.tasks →
-    AreLeast t nodes rows → AreLeast u nodes rows
-least-so t u nodes rows same least = record {
+least-so : (t u : Tables) (nodes : List ClassedNode) (blocks : List (List (Option ℕ))) → u.tasks ≡ t.tasks →
+    AreLeast t nodes blocks → AreLeast u nodes blocks
+least-so t u nodes blocks same least = record {
   each = λ j d lt.
-      subst (λ n. IsAtMost (bound rows (j / 16) (get_or nodes j d).class) n)
+      subst (λ n. IsAtMost (bound blocks (j / BLOCK) (get_or nodes j d).class) n)
       (ap (count_by (λ x. is_live x && is_placed_on (get_or nodes j d).id x)) (sym same)) (least.each j d lt);
 }
 
-classes-so : (t u : Tables) (o : Option Classes) → u.tasks ≡ t.tasks → u.nodes ≡ t.nodes → AreClasses t o → AreClasses u o
+classes-so : (t u : Tables) (o : Option Classes) → u.tasks ≡ t.tasks → u.nodes ≡ t.nodes → AreClasses t o →
+    AreClasses u o
 classes-so t u None tasks nodes are = tt
 classes-so t u (Some k) tasks nodes are =
     classes_alike t u k.keys k.nodes k.count k.bounds k.bounds nodes are (least-so t u k.nodes k.bounds tasks are.1)

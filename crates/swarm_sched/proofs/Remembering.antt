@@ -1,6 +1,7 @@
 -- What is remembered of nodes that refused waiting tasks: a slot that is filled or emptied, and what changes of rows
 -- leave true.
-use Rattle.std.proofs.Common.{◌≡◌, ◌∙◌, ◌∷◌, ◌<◌, ◌⊎◌, ℕ, Bool, List, None, Option, Some, Vec, [], ap, append-nil, arith, cond, drop, drop_of_length-le, eqb, false, get_or, inl, inr, length, map, not, refl, replicate, set, subst, suc, sym, take, true, zero}
+use Rattle.std.proofs.Common.{◌≡◌, ◌∙◌, ◌∷◌, ◌<◌, ◌⊎◌, ℕ, Bool, List, None, Option, Some, Vec, [], ap, append-nil}
+use Rattle.std.proofs.Common.{arith, cond, drop, drop_of_length-le, eqb, false, get_or, inl, inr, length, map, not, refl, replicate, set, subst, suc, sym, take, true, zero}
 use Rattle.std.proofs.lemmas.Bool.Decides.{nat_tests}
 use Rattle.std.proofs.lemmas.List.{get_or-set_other, get_or-set_same, length-map, length-set, take_all}
 use Rattle.std.proofs.lemmas.Nat.{mod_below}
@@ -24,7 +25,9 @@ use Rattle.swarm_objects.specs.declared.tasks.Task.{Task}
 use Rattle.swarm_objects.specs.declared.templates.Template.{Template}
 use Rattle.swarm_sched.proofs.Classing.{change-left}
 use Rattle.swarm_sched.proofs.Knowing.{Misses, changes-leave, decide, on-is}
-use Rattle.swarm_sched.specs.Inside.KnownRefusals.{IsIn, IsRefusal, IsSpared, KnowsGroup, KnowsRefusals, Refusals, filter_of, forget, forget_each, former_node, put, recalled, refused_later, shown, touched, without}
+use Rattle.swarm_sched.specs.Inside.KnownRefusals.{IsIn, IsRefusal, KnowsGroup, KnowsRefusals, Refusals, filter_of}
+use Rattle.swarm_sched.specs.Inside.KnownRefusals.{forget, forget_each, put, recalled, refused_later, shown, without}
+use Rattle.swarm_sched.specs.Inside.Touching.{IsSpared, former_node, touched}
 use Rattle.swarm_sched.specs.declared.known_refusals.Refusal.{Refusal}
 
 -- What the later filters read.

@@ -9,3 +9,4 @@ pub mod KnownRefusals
 pub mod Nearing
 pub mod Placing
 pub mod Totals
+pub mod Touching

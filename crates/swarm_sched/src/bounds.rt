@@ -5,13 +5,15 @@ ghost use Rattle.swarm_objects.specs.Rows.{RisesFrom};
 ghost use Rattle.swarm_objects.specs.Tasks.Words.{is_live};
 ghost use Rattle.swarm_objects.specs.Usable.{IsUsable};
 ghost use Rattle.swarm_objects.specs.World.{Tables};
-ghost use Rattle.swarm_sched.specs.Inside.Bounds.{AreAtMost, AreLeast, AreLowering, IsLowered, IsNoted, IsOnly, IsPlaceOf};
+ghost use Rattle.swarm_sched.specs.Inside.Bounds.{AreAtMost, AreLeast, AreLowered};
+ghost use Rattle.swarm_sched.specs.Inside.Bounds.{IsLowered, IsNoted, IsOnly, IsPlaceOf};
 ghost use Rattle.swarm_sched.specs.Inside.Classes.{AreFew, entry_id};
 ghost use Rattle.swarm_sched.specs.Inside.Known.{Knows, adds, one_if};
+ghost use Rattle.swarm_sched.specs.declared.classes.TheConstants.{CLASSES};
 
 use crate::classes::{CLASSES, ClassedNode};
 use crate::known::{KnownTotals, added_load};
-use crate::known_refusals::{former_node, touched};
+use crate::touching::{former_node, touched};
 use std::alloc::Global;
 use std::marker::Model;
 use swarm_objects::{Change, Id, Rows, Task};
@@ -19,13 +21,13 @@ use swarm_objects::{Change, Id, Rows, Task};
 /// How many nodes a block has: some of them are looked at one by one, and so many blocks are passed.
 pub const BLOCK: usize = 16;
 
-/// For each block of sorted nodes, and each class, how many live tasks a node of it has at least, and None where no node
-/// of the class is in the block. A lower bound is enough: where it rules all nodes out, so do their tasks. It stays one
-/// where tasks come to a node, so it's made anew only where a block is looked at, and is 0 where tasks may have left.
-/// Of a block that isn't there, for want of memory, it is 0.
+/// For each block of sorted nodes, and each class, how many live tasks a node of it has at least, and None where no
+/// node of the class is in the block. A lower bound is enough: where it rules all nodes out, so do their tasks. It
+/// stays one where tasks come to a node, so it's made anew only where a block is looked at, and is 0 where tasks may
+/// have left. Of a block that isn't there, for want of memory, it is 0.
 #[derive(Drop)]
 pub struct Bounds {
-    rows: Vec<[Option<u64>; CLASSES]>,
+    blocks: Vec<[Option<u64>; CLASSES]>,
 }
 
 impl Model for Bounds {
@@ -33,7 +35,7 @@ impl Model for Bounds {
 
     ghost Value = { Seq (Seq (Option ℕ)) };
 
-    ghost view = { λ b. b.rows.items };
+    ghost view = { λ b. b.blocks.items };
 }
 
 // The lesser of the two, where the first one is there.
@@ -47,12 +49,12 @@ fn lesser(least: Option<u64>, load: u64) -> u64
     }
 }
 
-/// What the row says of the class.
-pub fn bound_in(row: &[Option<u64>], class: usize) -> Option<u64>
-    ensures { result ≡ get_or row.now class (Some 0) }
+/// What the block says of the class.
+pub fn bound_in(block: &[Option<u64>], class: usize) -> Option<u64>
+    ensures { result ≡ get_or block.now class (Some 0) }
 {
-    if class < row.len() {
-        return row[class];
+    if class < block.len() {
+        return block[class];
     }
     Some(0)
 }
@@ -72,16 +74,16 @@ pub fn measured<R: Rows>(
     requires few { AreFew nodes.now }
     requires fits { end ≤ length nodes.now }
     ensures least { AreAtMost (R.tables rows.now) nodes.now from end result }
-    ensures long { length result ≡ 16 }
+    ensures long { length result ≡ CLASSES }
     ensures knows { Knows (R.tables rows.now) known.new }
 {
-    let mut row = [None; CLASSES];
+    let mut block = [None; CLASSES];
     for place in from..end {
         let entry = nodes[place];
         let load = known.totals(rows, entry.id, service).load;
-        row[entry.class] = Some(lesser(row[entry.class], load));
+        block[entry.class] = Some(lesser(block[entry.class], load));
     }
-    row
+    block
 }
 
 // Where the node stands.
@@ -132,31 +134,31 @@ impl Bounds {
     pub fn new(alloc: Global, count: usize) -> Bounds
         ensures { (t : Tables) (nodes : Seq ClassedNode) → AreLeast t nodes result }
     {
-        let mut rows = Vec::new(alloc);
-        for _block in 0..count / BLOCK + 1 {
-            let Ok(()) = rows.push([Some(0); CLASSES]) else {
+        let mut blocks = Vec::new(alloc);
+        for _number in 0..count / BLOCK + 1 {
+            let Ok(()) = blocks.push([Some(0); CLASSES]) else {
                 break;
             };
         }
-        Bounds { rows }
+        Bounds { blocks }
     }
 
-    /// What is kept of the block.
-    pub fn row(&self, block: usize) -> Option<&[Option<u64>; CLASSES]>
-        ensures { IfSome result (λ row. row.now ≡ get_or self.now block []) }
+    /// What is kept of the block with this number.
+    pub fn block(&self, number: usize) -> Option<&[Option<u64>; CLASSES]>
+        ensures { IfSome result (λ block. block.now ≡ get_or self.now number []) }
     {
-        if block < self.rows.len() {
-            return Some(&self.rows[block]);
+        if number < self.blocks.len() {
+            return Some(&self.blocks[number]);
         }
         None
     }
 
-    /// This is so of the block's nodes.
-    pub fn note(&mut self, block: usize, row: [Option<u64>; CLASSES])
-        ensures { IsNoted block row self.old self.new }
+    /// This is so of the nodes of the block with this number.
+    pub fn note(&mut self, number: usize, block: [Option<u64>; CLASSES])
+        ensures { IsNoted number block self.old self.new }
     {
-        if block < self.rows.len() {
-            self.rows[block] = row;
+        if number < self.blocks.len() {
+            self.blocks[number] = block;
         }
     }
 
@@ -178,7 +180,7 @@ impl Bounds {
     #[tactic(auto, using(crate::proofs::Bounding::each_steps))]
     fn lower_each<R: Rows>(&mut self, nodes: &[ClassedNode], rows: &R, changes: &[Change])
         requires { RisesFrom entry_id 0 nodes.now }
-        ensures { AreLowering (R.tables rows.now) nodes.now changes.now [] self.old self.new }
+        ensures { AreLowered (R.tables rows.now) nodes.now changes.now self.old self.new }
     {
         let mut left = changes;
         while let Some((change, others)) = left.split_first() {
@@ -189,7 +191,8 @@ impl Bounds {
         }
     }
 
-    /// Nothing is known of the nodes that may have fewer live tasks after the changes. It is asked before they are made.
+    /// Nothing is known of the nodes that may have fewer live tasks after the changes. It is asked before they are
+    /// made.
     #[tactic(auto, using(crate::proofs::Bounding::changed_steps))]
     pub fn lower_changed<R: Rows>(&mut self, nodes: &[ClassedNode], rows: &R, changes: &[Change])
         requires usable { IsUsable (R.tables rows.now) }

@@ -7,6 +7,7 @@ ghost use Rattle.swarm_objects.specs.Usable.{IsUsable};
 ghost use Rattle.swarm_sched.specs.Inside.Branches.{preferences};
 ghost use Rattle.swarm_sched.specs.Inside.ClassLoads.{AreLoads, AreMost, task_class};
 ghost use Rattle.swarm_sched.specs.Inside.Classes.{AreFew, AreSorted, entry_id};
+ghost use Rattle.swarm_sched.specs.declared.classes.TheConstants.{CLASSES};
 
 use crate::branches::Branches;
 use crate::classes::{CLASSES, ClassedNode};
@@ -29,7 +30,7 @@ fn task_class(sorted: &[ClassedNode], task: &Task) -> Option<usize>
     requires rises { RisesFrom entry_id 0 sorted.now }
     requires few { AreFew sorted.now }
     ensures class { result ≡ task_class sorted.now task.now }
-    ensures few { IfSome result (λ class. class < 16) }
+    ensures few { IfSome result (λ class. class < CLASSES) }
 {
     if !task.is_live() || !task.is_placed() {
         return None;
@@ -59,24 +60,22 @@ fn class_loads<R: Rows>(rows: &R, service: Id, sorted: &[ClassedNode]) -> [u64; 
     loads
 }
 
-// Counts the service's tasks for each class of nodes, which is their branch by all preferences, and gives how many they
-// are. The nodes are gone over until so many classes were met.
-fn count_classes<'a, R: Rows>(
+// Tells how many of the service's tasks count in each class of nodes, which is their branch by all preferences. The
+// nodes are gone over until so many classes were met.
+fn tell_classes<'a, R: Rows>(
     branches: &mut Branches<'a, R>,
     rows: &'a R,
-    service: Id,
+    loads: &[u64],
     sorted: &[ClassedNode],
     count: usize,
-) -> [u64; CLASSES]
+)
     requires usable { IsUsable (R.tables rows.now) }
     requires same { branches.old.tables ≡ R.tables rows.now }
-    requires own { branches.old.service ≡ service }
     requires some { branches.old.keys ≡ [] → ⊥ }
     requires sorted { AreSorted (R.tables rows.now).nodes branches.old.keys sorted.now }
+    requires loads { AreLoads sorted.now (filter (is_of branches.old.service) (R.tables rows.now).tasks) loads.now }
     ensures same { branches.new ≡ branches.old }
-    ensures loads { AreLoads sorted.now (filter (is_of service) (R.tables rows.now).tasks) result }
 {
-    let loads = class_loads(rows, service, sorted);
     let mut is_told = [false; CLASSES];
     let mut left = count;
     for entry in sorted {
@@ -92,11 +91,11 @@ fn count_classes<'a, R: Rows>(
             branches.tell(node, loads[entry.class]);
         }
     }
-    loads
 }
 
 /// The branches of the task's service, and how many of its tasks count in each class at most. Where there are
-/// preferences, by which the nodes are sorted, both are counted at once; else nothing is.
+/// preferences, by which the nodes are sorted, so many do: one walk counts them. By more than one preference the
+/// branches are told of them.
 pub fn branches_of<'a, R: Rows>(
     rows: &'a R,
     task: &'a Task,
@@ -107,12 +106,17 @@ pub fn branches_of<'a, R: Rows>(
     requires sorted { AreSorted (R.tables rows.now).nodes task.now.template.spread sorted.now }
     ensures branches { result.0 ≡ preferences (R.tables rows.now) task.now }
     ensures most { AreMost sorted.now (filter (is_of task.now.service) (R.tables rows.now).tasks) result.1 }
+    ensures loads { (task.now.template.spread ≡ [] → ⊥) →
+        AreLoads sorted.now (filter (is_of task.now.service) (R.tables rows.now).tasks) result.1 }
 {
     let keys = &task.template.spread;
     let mut branches = Branches::new(rows, task.service, keys.as_slice());
-    let mut most = [u64::MAX; CLASSES];
-    if !keys.is_empty() {
-        most = count_classes(&mut branches, rows, task.service, sorted, count);
+    if keys.is_empty() {
+        return (branches, [u64::MAX; CLASSES]);
     }
-    (branches, most)
+    let loads = class_loads(rows, task.service, sorted);
+    if keys.len() > 1 {
+        tell_classes(&mut branches, rows, &loads, sorted, count);
+    }
+    (branches, loads)
 }

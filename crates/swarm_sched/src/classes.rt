@@ -1,12 +1,14 @@
 // The nodes by their values for placement preferences, as far as they are remembered from one placement to the next.
 ghost use Rattle.std.specs.List.{list_any, position};
 ghost use Rattle.std.specs.Option.{option_copied};
-ghost use Rattle.std.specs.Prelude.{◌≡◌, ◌≤◌, IfSome, IsTrue, None, [], false, length};
+ghost use Rattle.std.specs.Prelude.{◌≡◌, ◌≤◌, IfSome, IsTrue, None, false, length};
 ghost use Rattle.swarm_objects.specs.ChangeLists.{apply_changes};
 ghost use Rattle.swarm_objects.specs.Nodes.BestNode.{agrees, best_node};
 ghost use Rattle.swarm_objects.specs.Usable.{IsUsable};
-ghost use Rattle.swarm_sched.specs.Inside.Classes.{AreClasses, AreFew, AreSorted, HaveClasses, IsMore, IsOf, IsServed, classes, puts_node};
+ghost use Rattle.swarm_sched.specs.Inside.Classes.{AreClasses, AreFew, AreSorted, HaveClasses, IsMore, IsOf, IsServed};
+ghost use Rattle.swarm_sched.specs.Inside.Classes.{classes, puts_node};
 ghost use Rattle.swarm_sched.specs.Inside.Known.{Knows};
+ghost use Rattle.swarm_sched.specs.declared.classes.TheConstants.{CLASSES};
 
 use crate::bounds::Bounds;
 use crate::keys::agrees;
@@ -80,10 +82,10 @@ fn class_among(keys: &[Key], heads: &[&Node], node: &Node) -> Option<usize>
 // The class of the node, by the first node of each. Where it is of none, one more begins with it, unless there are too
 // many or memory is wanting.
 fn class_of<'a>(keys: &[Key], heads: &mut List<&'a Node>, node: &'a Node) -> Option<usize>
-    requires { length heads.old ≤ 16 }
+    requires { length heads.old ≤ CLASSES }
     ensures class { IfSome result (λ class. IsOf keys.now heads.new class node.now) }
     ensures more { IsMore keys.now heads.old heads.new }
-    ensures few { length heads.new ≤ 16 }
+    ensures few { length heads.new ≤ CLASSES }
 {
     if let Some(class) = class_among(keys, heads.as_slice(), node) {
         return Some(class);
@@ -252,7 +254,8 @@ impl NodeClasses {
         self.asked = None;
     }
 
-    /// Forgets what these changes of the rows make untrue: all, where they put a node. It is asked before they are made.
+    /// Forgets what these changes of the rows make untrue: all, where they put a node. It is asked before they are
+    /// made.
     pub fn forget_changed<R: Rows>(&mut self, rows: &R, changes: &[Change])
         requires usable { IsUsable (R.tables rows.now) }
         requires knows { AreClasses (R.tables rows.now) self.old }

@@ -8,7 +8,8 @@ ghost use Rattle.swarm_objects.specs.declared.rows.Change.TheVariants as change;
 ghost use Rattle.swarm_objects.specs.Rows.{row_at, task_id};
 ghost use Rattle.swarm_objects.specs.Usable.{IsUsable};
 ghost use Rattle.swarm_objects.specs.World.{Tables};
-ghost use Rattle.swarm_sched.specs.Inside.Known.{AreCounted, AreFewer, AreMoved, Forgets, ForgetsAll, ForgetsChange, IsExchanged, Knows, adds, if_of, one_if, recalled};
+ghost use Rattle.swarm_sched.specs.Inside.Known.{AreCounted, AreFewer, AreMoved, Forgets, ForgetsAll, ForgetsChange};
+ghost use Rattle.swarm_sched.specs.Inside.Known.{IsExchanged, Knows, adds, if_of, one_if, recalled};
 ghost use Rattle.swarm_sched.specs.Inside.Totals.{AreTotals};
 
 use crate::totals::{Totals, count_up};

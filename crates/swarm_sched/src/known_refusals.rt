@@ -4,9 +4,9 @@ ghost use Rattle.swarm_objects.specs.ChangeLists.{apply_changes};
 ghost use Rattle.swarm_objects.specs.Usable.{IsUsable};
 ghost use Rattle.swarm_objects.specs.World.{Tables};
 ghost use Rattle.swarm_sched.specs.Inside.KnownRefusals.{IsIn, IsRefusal, KnowsGroup, KnowsOwn, KnowsRefusals};
-ghost use Rattle.swarm_sched.specs.Inside.KnownRefusals.{filter_of, forget, forget_each, former_node, put, recalled};
-ghost use Rattle.swarm_sched.specs.Inside.KnownRefusals.{touched, without};
+ghost use Rattle.swarm_sched.specs.Inside.KnownRefusals.{filter_of, forget, forget_each, put, recalled, without};
 
+use crate::touching::touched;
 use std::alloc::Global;
 use std::marker::Model;
 use std::mem;
@@ -44,8 +44,9 @@ impl Model for Group {
     ghost view = { λ g. record { service = g.service; template = g.template; slots = g.slots.items } };
 }
 
-/// The groups that were asked for last, as many as there were at once: what is forgotten is looked for in these alone.
-/// Contracts see their slots, or none before the first group.
+/// The groups of tasks that were asked for, one a service and GROUPS at most: a service's group stays until one by
+/// another template, or another service's, takes its slot, or until all is forgotten. What is forgotten of a node is
+/// looked for in these alone. Contracts see their slots, or none before the first group.
 #[derive(Drop)]
 pub struct KnownRefusals {
     // None where nothing will be remembered
@@ -186,28 +187,6 @@ fn forget_node(groups: &mut [Option<Group>], node: Id)
     }
 }
 
-/// The node of the task with this id.
-pub fn former_node<R: Rows>(rows: &R, id: Id) -> Option<Id>
-    ensures { result ≡ former_node (R.tables rows.now) id }
-{
-    match rows.task(id) {
-        Some(task) => task.node,
-        None => None,
-    }
-}
-
-/// The node that the change puts, or those of the task that it puts or drops, as it will be and as it was.
-pub fn touched<R: Rows>(rows: &R, change: &Change) -> (Option<Id>, Option<Id>)
-    ensures { result ≡ touched (R.tables rows.now) change.now }
-{
-    match change {
-        Change::PutNode(node) => (Some(node.id), None),
-        Change::PutTask(task) => (task.node, former_node(rows, task.id)),
-        Change::DropTask(id) => (None, former_node(rows, *id)),
-        Change::PutService(_) | Change::Keep(_) => (None, None),
-    }
-}
-
 // Forgets both nodes, one after the other unless they are the same.
 #[tactic(auto, using(crate::proofs::Remembering::same_steps))]
 fn forget_both(groups: &mut [Option<Group>], node: Option<Id>, former: Option<Id>)
@@ -321,7 +300,8 @@ impl KnownRefusals {
     /// Puts the group in a slot, where there is memory.
     #[tactic(auto, using(crate::proofs::Remembering::group_steps))]
     pub fn put(&mut self, group: Option<Group>)
-        ensures { (t : Tables) → KnowsRefusals t self.old → IfSome group (KnowsGroup t) → KnowsRefusals t self.new }
+        ensures { (t : Tables) → KnowsRefusals t self.old → IfSome group (KnowsGroup t)
+            → KnowsRefusals t self.new }
     {
         let Some(group) = group else {
             return;

@@ -17,6 +17,7 @@ mod near;
 mod placing;
 mod refused;
 mod totals;
+mod touching;
 
 ghost use Rattle.std.specs.Prelude.{◌≡◌};
 ghost use Rattle.swarm_objects.specs.Loops.Scheduler.{is_to_drop, is_to_place, schedule, scheduler};

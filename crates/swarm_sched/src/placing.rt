@@ -1,7 +1,8 @@
 // The best node for a task.
 ghost use Rattle.std.specs.Option.{option_copied, option_map};
 ghost use Rattle.std.specs.Ordering.{nat_cmp, ordering_then};
-ghost use Rattle.std.specs.Prelude.{◌≡◌, ◌↔◌, ◌⊎◌, ◌<◌, ◌&&◌, ◌≤◌, ◌%◌, IfSome, IsTrue, None, Some, false, get_or, is_some, length, set};
+ghost use Rattle.std.specs.Prelude.{◌≡◌, ◌↔◌, ◌⊎◌, ◌<◌, ◌&&◌, ◌≤◌, ◌%◌, IfSome, IsTrue, None, Some, false};
+ghost use Rattle.std.specs.Prelude.{get_or, is_some, length, set};
 ghost use Rattle.std.specs.declared.cmp.Ordering.TheVariants.{Less};
 ghost use Rattle.swarm_filters.specs.Tested.{is_open};
 ghost use Rattle.swarm_objects.specs.Nodes.BestNode.{best_node};
@@ -9,6 +10,7 @@ ghost use Rattle.swarm_objects.specs.Nodes.Filters.{here};
 ghost use Rattle.swarm_objects.specs.Rows.{RisesFrom, node_id, row_at};
 ghost use Rattle.swarm_objects.specs.Usable.{IsUsable};
 ghost use Rattle.swarm_sched.specs.Inside.Bounds.{AreLeast};
+ghost use Rattle.swarm_sched.specs.Inside.Branches.{IsBranchOf};
 ghost use Rattle.swarm_sched.specs.Inside.Classes.{AreBelow, AreFew, AreSorted, HaveClasses, IsOrder, entry_id};
 ghost use Rattle.swarm_sched.specs.Inside.Known.{Knows};
 ghost use Rattle.swarm_sched.specs.Inside.KnownNodes.{KnowsNodes};
@@ -107,6 +109,24 @@ fn spread_order<'a, R: Rows>(
     }
 }
 
+// The same, where it is known how many of the service's tasks are in the branches of the node and of the best one.
+fn spread_order_by<'a, R: Rows>(
+    branches: &mut Branches<'a, R>,
+    best: Option<&'a Node>,
+    node: &'a Node,
+    loads: (u64, u64),
+) -> Ordering
+    requires own { IsBranchOf branches.old loads.0 node.now }
+    requires best { IfSome best (λ b. IsBranchOf branches.old loads.1 b.now) }
+    ensures order { IsOrder branches.old result node.now (option_copied best.entry) }
+    ensures same { branches.new ≡ branches.old }
+{
+    match best {
+        Some(best) => branches.spread_cmp_by(node, best, loads.0, loads.1),
+        None => Ordering::Less,
+    }
+}
+
 // The same, remembered for the node's class.
 fn class_order<'a, R: Rows>(
     branches: &mut Branches<'a, R>,
@@ -114,8 +134,11 @@ fn class_order<'a, R: Rows>(
     rows: &'a R,
     best: Option<&'a Node>,
     entry: ClassedNode,
+    loads: (u64, u64),
 ) -> Ordering
-    requires { entry.class < length orders.old }
+    requires class { entry.class < length orders.old }
+    requires own { IfSome (row_at node_id entry.id (R.tables rows.now).nodes) (IsBranchOf branches.old loads.0) }
+    requires best { IfSome best (λ b. IsBranchOf branches.old loads.1 b.now) }
     ensures order { (get_or orders.old entry.class None ≡ Some result)
         ⊎ IfSome (row_at node_id entry.id (R.tables rows.now).nodes)
         (λ n. IsOrder branches.old result n (option_copied best.entry)) }
@@ -126,7 +149,7 @@ fn class_order<'a, R: Rows>(
         return order;
     }
     let order = match rows.node(entry.id) {
-        Some(node) => spread_order(branches, best, node),
+        Some(node) => spread_order_by(branches, best, node, loads),
         None => Ordering::Less,
     };
     orders[entry.class] = Some(order);
@@ -246,36 +269,39 @@ impl<'a> Leader<'a> {
         }
     }
 
-    // No node of the class comes first that has so many live tasks at least, and no lesser id than this.
+    // No node of the class in the block comes first, where none has a lesser id than this. How the class compares is
+    // asked before what its nodes have: it may tell alone.
     #[tactic(auto, using(crate::proofs::Bounding::lead_steps))]
-    fn leads_class(self, class: usize, least: u64, first: Id) -> bool
+    fn leads_class(self, block: &[Option<u64>], class: usize, first: Id) -> bool
         requires { class < length self.orders.now }
-        ensures { IsTrue result →
-            Leads (option_copied self.entry.best) self.entry.held (get_or self.entry.orders.now class None) least first }
+        ensures { IsTrue result → IfSome (get_or block.now class (Some 0)) (λ least.
+            Leads (option_copied self.entry.best) self.entry.held (get_or self.entry.orders.now class None) least
+            first) }
     {
         let Some(best) = self.best else {
             return false;
         };
         match self.orders[class] {
             Some(Ordering::Greater) => true,
-            Some(Ordering::Equal) => {
-                self.held.here == 0 && !may_come_first(least, first, best.id, self.held)
-            }
-            Some(Ordering::Less) | None => false,
+            Some(Ordering::Equal) => match bound_in(block, class) {
+                Some(least) => {
+                    self.held.here == 0 && !may_come_first(least, first, best.id, self.held)
+                }
+                None => true,
+            },
+            Some(Ordering::Less) | None => bound_in(block, class).is_none(),
         }
     }
 
-    // None of the nodes does that have so many by their classes.
+    // So it is for each class.
     #[tactic(auto, using(crate::proofs::Bounding::lead_steps))]
-    fn leads(self, row: &[Option<u64>], first: Id) -> bool
+    fn leads(self, block: &[Option<u64>], first: Id) -> bool
         requires { self.count ≤ length self.orders.now }
         ensures { IsTrue result → LeadsAll (option_copied self.entry.best) self.entry.held
-            self.entry.orders.now self.entry.count row.now first }
+            self.entry.orders.now self.entry.count block.now first }
     {
         for class in 0..self.count {
-            if let Some(least) = bound_in(row, class)
-                && !self.leads_class(class, least, first)
-            {
+            if !self.leads_class(block, class, first) {
                 return false;
             }
         }
@@ -283,11 +309,11 @@ impl<'a> Leader<'a> {
     }
 
     // How each class there compares is known, and none comes before the best one's: so counts may tell.
-    fn is_told_by_counts(self, row: &[Option<u64>]) -> bool
+    fn is_told_by_counts(self, block: &[Option<u64>]) -> bool
         requires { self.count ≤ length self.orders.now }
     {
         for class in 0..self.count {
-            if bound_in(row, class).is_none() {
+            if bound_in(block, class).is_none() {
                 continue;
             }
             match self.orders[class] {
@@ -298,8 +324,8 @@ impl<'a> Leader<'a> {
         true
     }
 
-    // Where a block begins at this place, none of its nodes comes first. What is kept of it may tell so, or else what is
-    // found now. It isn't asked where the best one has tasks of the service's own: others may have fewer of these.
+    // Where a block begins at this place, none of its nodes comes first. What is kept of it may tell so, or else what
+    // is found now. It isn't asked where the best one has tasks of the service's own: others may have fewer of these.
     #[tactic(auto, using(crate::proofs::Bounding::block_steps))]
     fn leads_block<R: Rows>(
         self,
@@ -328,19 +354,19 @@ impl<'a> Leader<'a> {
         if place % BLOCK != 0 || self.best.is_none() || self.held.here > 0 {
             return false;
         }
-        let block = place / BLOCK;
+        let number = place / BLOCK;
         let first = nodes[place].id;
-        if let Some(row) = bounds.row(block) {
-            if self.leads(&row[..], first) {
+        if let Some(block) = bounds.block(number) {
+            if self.leads(&block[..], first) {
                 return true;
             }
-            if !self.is_told_by_counts(&row[..]) {
+            if !self.is_told_by_counts(&block[..]) {
                 return false;
             }
         }
-        let row = measured(rows, known, service, nodes, place, block_end(nodes, place));
-        bounds.note(block, row);
-        self.leads(&row[..], first)
+        let block = measured(rows, known, service, nodes, place, block_end(nodes, place));
+        bounds.note(number, block);
+        self.leads(&block[..], first)
     }
 }
 
@@ -377,6 +403,7 @@ pub fn best_of_classes<'a, R: Rows>(
     let (mut branches, most) = branches_of(rows, task, nodes, count);
     let mut orders = [None; CLASSES];
     let mut best = None;
+    let mut branch = 0;
     let mut held = NodeLoad::NONE;
     let mut place = 0;
     while place < nodes.len() {
@@ -387,7 +414,8 @@ pub fn best_of_classes<'a, R: Rows>(
         }
         let entry = nodes[place];
         place += 1;
-        let spread = class_order(&mut branches, &mut orders, rows, best, entry);
+        let own = most[entry.class];
+        let spread = class_order(&mut branches, &mut orders, rows, best, entry, (own, branch));
         if !is_rival(known, rows, task.service, spread, best, held, entry.id) {
             continue;
         }
@@ -396,11 +424,12 @@ pub fn best_of_classes<'a, R: Rows>(
         };
         let standing = Standing {
             spread,
-            has_none: most[entry.class] == 0,
+            has_none: own == 0,
         };
-        if let Some(own) = if_better(known, rows, task, standing, best, held, node) {
+        if let Some(load) = if_better(known, rows, task, standing, best, held, node) {
             best = Some(node);
-            held = own;
+            branch = own;
+            held = load;
             if spread != Ordering::Equal {
                 orders = [None; CLASSES];
             }

@@ -1,12 +1,14 @@
 -- A service's tasks on the nodes of each class.
 use Rattle.std.specs.Option.{option_eq}
-use Rattle.std.specs.Prelude.{Bool, List, None, Option, Some, count_by, get_or, if◌then◌else◌, length, ℕ, ◌&&◌, ◌+◌, ◌<◌, ◌≡◌, ◌≤◌}
+use Rattle.std.specs.Prelude.{Bool, List, None, Option, Some, count_by, get_or, if◌then◌else◌, length, ℕ}
+use Rattle.std.specs.Prelude.{◌&&◌, ◌+◌, ◌<◌, ◌≡◌, ◌≤◌}
 use Rattle.swarm_objects.specs.Rows.{row_at}
 use Rattle.swarm_objects.specs.Same.{same_number}
 use Rattle.swarm_objects.specs.Tasks.Words.{is_live, is_placed}
 use Rattle.swarm_objects.specs.declared.tasks.Task.{Task}
 use Rattle.swarm_sched.specs.Inside.Classes.{entry_id}
 use Rattle.swarm_sched.specs.declared.classes.ClassedNode.{ClassedNode}
+use Rattle.swarm_sched.specs.declared.classes.TheConstants.{CLASSES}
 
 abbrev pub class_or_none : Option ClassedNode → Option ℕ
 class_or_none None = None
@@ -25,17 +27,17 @@ is_of_class sorted class x = option_eq same_number (task_class sorted x) (Some c
 
 -- so many of the tasks count in each class
 pub record AreLoads (sorted : List ClassedNode) (tasks : List Task) (loads : List ℕ) : Type 0 where
-  pub each : (class : ℕ) → class < 16 → get_or loads class 0 ≡ count_by (is_of_class sorted class) tasks
-  pub all : length loads ≡ 16
+  pub each : (class : ℕ) → class < CLASSES → get_or loads class 0 ≡ count_by (is_of_class sorted class) tasks
+  pub all : length loads ≡ CLASSES
 
 -- no more than so many do
 pub record AreMost (sorted : List ClassedNode) (tasks : List Task) (most : List ℕ) : Type 0 where
-  pub each : (class : ℕ) → class < 16 → count_by (is_of_class sorted class) tasks ≤ get_or most class 0
-  pub all : length most ≡ 16
+  pub each : (class : ℕ) → class < CLASSES → count_by (is_of_class sorted class) tasks ≤ get_or most class 0
+  pub all : length most ≡ CLASSES
 
 -- so far, where these tasks are left
 pub record AreCounting (sorted : List ClassedNode) (tasks left : List Task) (loads : List ℕ) : Type 0 where
-  pub each : (class : ℕ) → class < 16 →
+  pub each : (class : ℕ) → class < CLASSES →
       get_or loads class 0 + count_by (is_of_class sorted class) left ≡ count_by (is_of_class sorted class) tasks
-  pub fits : (class : ℕ) → class < 16 → get_or loads class 0 + length left ≤ length tasks
-  pub all : length loads ≡ 16
+  pub fits : (class : ℕ) → class < CLASSES → get_or loads class 0 + length left ≤ length tasks
+  pub all : length loads ≡ CLASSES

@@ -1,6 +1,7 @@
 -- Nodes sorted by their values for placement preferences.
 use Rattle.std.specs.Borrow.{Bor}
-use Rattle.std.specs.Prelude.{Bool, IfSome, List, None, Option, Some, [], false, get_or, length, map, true, ℕ, ◌++◌, ◌<◌, ◌≡◌, ◌≤◌, ◌⊎◌}
+use Rattle.std.specs.Prelude.{Bool, IfSome, List, None, Option, Some, [], false, get_or, length, map, true, ℕ}
+use Rattle.std.specs.Prelude.{◌++◌, ◌<◌, ◌≡◌, ◌≤◌, ◌⊎◌}
 use Rattle.std.specs.declared.cmp.Ordering.TheVariants.{Less}
 use Rattle.std.specs.declared.cmp.Ordering.{Ordering}
 use Rattle.swarm_objects.specs.Nodes.BestNode.{agrees, spread_cmp}
@@ -16,6 +17,7 @@ use Rattle.swarm_sched.specs.declared.classes.Asked.{Asked}
 use Rattle.swarm_sched.specs.declared.classes.ClassedNode.{ClassedNode}
 use Rattle.swarm_sched.specs.declared.classes.Sorting.TheVariants as sorting
 use Rattle.swarm_sched.specs.declared.classes.Sorting.{Sorting}
+use Rattle.swarm_sched.specs.declared.classes.TheConstants.{CLASSES}
 
 -- preferences, the nodes sorted by them, into so many classes, and how many live tasks they have at least
 pub record Classes : Type 0 where
@@ -50,16 +52,11 @@ abbrev pub AreBelow : ℕ → List ClassedNode → Type 0
 AreBelow count sorted = (c : ClassedNode) → Has sorted c → c.class < count
 
 abbrev pub AreFew : List ClassedNode → Type 0
-AreFew = AreBelow 16
+AreFew = AreBelow CLASSES
 
 -- they are of so many, which aren't too many
 abbrev pub HaveClasses : ℕ → List ClassedNode → Type 0
-HaveClasses count sorted = AreBelow count sorted × (count ≤ 16)
-
--- so far, up to this place
-pub record AreCounted (sorted : List ClassedNode) (i count : ℕ) : Type 0 where
-  pub few : count ≤ 16
-  pub each : (j : ℕ) (d : ClassedNode) → j < i → (get_or sorted j d).class < count
+HaveClasses count sorted = AreBelow count sorted × (count ≤ CLASSES)
 
 -- these are the nodes, in order, and those of one class have the same values for the keys; where there are keys, no
 -- others have them
@@ -95,7 +92,7 @@ pub record AreSorting (nodes : List Node) (keys : List Key) (heads : List (Bor N
     (left : List Node) : Type 0 where
   pub ids : map entry_id sorted ++ map node_id left ≡ map node_id nodes
   pub among : (n : Node) → Has left n → Has nodes n
-  pub few : length heads ≤ 16
+  pub few : length heads ≤ CLASSES
   pub small : AreFew sorted
   pub each : (c : ClassedNode) (n : Node) → IsEntry nodes sorted c n → IsOf keys heads c.class n
 

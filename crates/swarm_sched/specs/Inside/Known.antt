@@ -1,5 +1,6 @@
 -- What is remembered of the tasks on nodes.
-use Rattle.std.specs.Prelude.{Bool, IfSome, List, None, Option, Some, Vec, [], false, get_or, if◌then◌else◌, length, true, ℕ, ◌%◌, ◌==◌, ◌≡◌, ◌⊎◌, ◌+◌, ◌&&◌}
+use Rattle.std.specs.Prelude.{Bool, IfSome, List, None, Option, Some, Vec, [], false, get_or, if◌then◌else◌, length}
+use Rattle.std.specs.Prelude.{true, ℕ, ◌%◌, ◌==◌, ◌≡◌, ◌⊎◌, ◌+◌, ◌&&◌}
 use Rattle.swarm_objects.specs.Nodes.Filters.{here}
 use Rattle.swarm_objects.specs.Nodes.Holdings.{is_placed_on, task_cpu, task_mem}
 use Rattle.swarm_objects.specs.Rows.{Has, row_at, task_id}

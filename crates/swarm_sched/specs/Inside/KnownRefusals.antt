@@ -1,13 +1,14 @@
 -- What is remembered of nodes that refused waiting tasks.
-use Rattle.std.specs.Prelude.{IfSome, List, None, Option, Some, Vec, [], find, get_or, if◌then◌else◌, length, map, not, set, ℕ, ◌%◌, ◌==◌, ◌≡◌, ◌∷◌}
+use Rattle.std.specs.Prelude.{IfSome, List, None, Option, Some, Vec, [], find, get_or, if◌then◌else◌, length, map, not}
+use Rattle.std.specs.Prelude.{set, ℕ, ◌%◌, ◌==◌, ◌≡◌, ◌∷◌}
 use Rattle.swarm_objects.specs.Nodes.Filters.{passes}
-use Rattle.swarm_objects.specs.Rows.{Has, on_row, row_at, task_id}
+use Rattle.swarm_objects.specs.Rows.{Has}
 use Rattle.swarm_objects.specs.World.{Tables}
 use Rattle.swarm_objects.specs.declared.nodes.Node.{Node}
-use Rattle.swarm_objects.specs.declared.rows.Change.TheVariants as change
 use Rattle.swarm_objects.specs.declared.rows.Change.{Change}
 use Rattle.swarm_objects.specs.declared.tasks.Task.{Task}
 use Rattle.swarm_objects.specs.declared.templates.Template.{Template}
+use Rattle.swarm_sched.specs.Inside.Touching.{touched}
 use Rattle.swarm_sched.specs.declared.known_refusals.Refusal.{Refusal}
 
 -- the first filter to refuse the task the node, of those that read the node's row and its tasks alone
@@ -67,22 +68,6 @@ without node (Some g) = Some (put g node None)
 abbrev pub forget : Option ℕ → List (Option Refusals) → List (Option Refusals)
 forget None all = all
 forget (Some node) all = map (without node) all
-
--- the node of the task with this id
-abbrev pub former_node : Tables → ℕ → Option ℕ
-former_node t id = on_row None (λ x. x.node) (row_at task_id id t.tasks)
-
--- the node that the change puts, or those of the task that it puts or drops, as it will be and as it was
-abbrev pub touched : Tables → Change → Option ℕ × Option ℕ
-touched t (change.PutNode n) = (Some n.id, None)
-touched t (change.PutService s) = (None, None)
-touched t (change.PutTask x) = (x.node, former_node t x.id)
-touched t (change.DropTask id) = (None, former_node t id)
-touched t (change.Keep a) = (None, None)
-
--- the change touches other nodes
-abbrev pub IsSpared : Tables → ℕ → Change → Type 0
-IsSpared t m c = ((touched t c).0 ≡ Some m → ⊥) × ((touched t c).1 ≡ Some m → ⊥)
 
 -- the nodes that these changes touch are forgotten
 abbrev pub forget_each : Tables → List Change → List (Option Refusals) → List (Option Refusals)

@@ -1,6 +1,7 @@
 -- How what is kept for the scheduler's first duty is built and read.
 use Rattle.std.specs.Option.{option_map, option_or}
-use Rattle.std.specs.Prelude.{Err, List, None, Ok, Result, Some, [], drop, filter, get_or, if◌then◌else◌, length, map, take, ℕ, ◌++◌, ◌<◌, ◌∷◌, ◌≡◌, ◌≤◌}
+use Rattle.std.specs.Prelude.{Err, List, None, Ok, Result, Some, [], drop, filter, get_or, if◌then◌else◌, length}
+use Rattle.std.specs.Prelude.{map, take, ℕ, ◌++◌, ◌<◌, ◌∷◌, ◌≡◌, ◌≤◌}
 use Rattle.swarm_objects.specs.Loops.Scheduler.{schedule}
 use Rattle.swarm_objects.specs.Rows.{IsRising, has_row, on_row, row_at, task_id, with_row}
 use Rattle.swarm_objects.specs.Tasks.Words.{is_below_assigned}

@@ -1,6 +1,7 @@
 -- Which nodes come before the best one so far, and how far the sorted ones are gone through.
 use Rattle.std.specs.Ordering.{is_lt, nat_cmp, ordering_then}
-use Rattle.std.specs.Prelude.{Bool, IfSome, List, None, Option, Some, drop, false, filter, get_or, length, min, true, ℕ, ◌+◌, ◌-◌, ◌<◌, ◌≡◌, ◌≤◌}
+use Rattle.std.specs.Prelude.{Bool, IfSome, List, None, Option, Some, drop, false, filter, get_or, length, min, true, ℕ}
+use Rattle.std.specs.Prelude.{◌+◌, ◌-◌, ◌<◌, ◌≡◌, ◌≤◌}
 use Rattle.std.specs.declared.cmp.Ordering.{Ordering}
 use Rattle.swarm_filters.specs.Tested.{is_open}
 use Rattle.swarm_objects.specs.Nodes.BestNode.{best_node, load, node_cmp}
@@ -11,7 +12,9 @@ use Rattle.swarm_objects.specs.declared.nodes.Node.{Node}
 use Rattle.swarm_objects.specs.declared.tasks.Task.{Task}
 use Rattle.swarm_sched.specs.Inside.Branches.{preferences}
 use Rattle.swarm_sched.specs.Inside.Classes.{AreOrders}
+use Rattle.swarm_sched.specs.declared.bounds.TheConstants.{BLOCK}
 use Rattle.swarm_sched.specs.declared.classes.ClassedNode.{ClassedNode}
+use Rattle.swarm_sched.specs.declared.classes.TheConstants.{CLASSES}
 use Rattle.swarm_sched.specs.declared.placing.NodeLoad.{NodeLoad}
 
 -- the node has so many live tasks, and so many of the service's
@@ -30,10 +33,10 @@ pub record IsSearched (t : Tables) (x : Task) (sorted : List ClassedNode) (order
     (best : Option Node) (i : ℕ) : Type 0 where
   pub left : least_by (node_cmp t x) best (filter (is_open t x) (drop i t.nodes)) ≡ best_node t x
   pub known : AreOrders (preferences t x) sorted orders best
-  pub all : length orders ≡ 16
+  pub all : length orders ≡ CLASSES
 
--- no node comes first that compares so by the preferences with the best one, and has so many live tasks and such an id at
--- least
+-- no node comes first that compares so by the preferences with the best one, and has so many live tasks and such an
+-- id at least
 abbrev pub Leads : Option Node → NodeLoad → Option Ordering → ℕ → ℕ → Type 0
 Leads None held o least first = ⊥
 Leads (Some b) held None least first = ⊥
@@ -41,15 +44,15 @@ Leads (Some b) held (Some o) least first = (here load id : ℕ) → least ≤ lo
     is_lt (ordering_then o (ordering_then (nat_cmp here held.here)
     (ordering_then (nat_cmp load held.load) (nat_cmp id b.id)))) ≡ false
 
--- so it is for each of so many classes by what its nodes have at least
+-- so it is for each of so many classes by what its nodes in the block have at least, where there are any
 pub record LeadsAll (best : Option Node) (held : NodeLoad) (orders : List (Option Ordering)) (count : ℕ)
-    (row : List (Option ℕ)) (first : ℕ) : Type 0 where
+    (block : List (Option ℕ)) (first : ℕ) : Type 0 where
   pub each : (class : ℕ) → class < count →
-      IfSome (get_or row class (Some 0)) (λ least. Leads best held (get_or orders class None) least first)
+      IfSome (get_or block class (Some 0)) (λ least. Leads best held (get_or orders class None) least first)
 
 -- where the block ends that begins at this place
 abbrev pub block_end : List ClassedNode → ℕ → ℕ
-block_end nodes from = from + min (length nodes - from) 16
+block_end nodes from = from + min (length nodes - from) BLOCK
 
 -- none of the nodes from this place to that one comes before the best one, by how their classes compare
 pub record AreBehind (t : Tables) (service : ℕ) (nodes : List ClassedNode) (orders : List (Option Ordering))

@@ -1,20 +1,14 @@
-use Rattle.std.proofs.Common.{arith, subst, sym}
-use Rattle.std.specs.Prelude.{filter}
-use Rattle.swarm_objects.specs.Tasks.Words.{is_of}
-use Rattle.swarm_sched.proofs.ClassLoading.{most_all, most_of}
+use Rattle.std.proofs.Common.{arith}
+use Rattle.swarm_sched.proofs.ClassLoading.{most_all}
+use Rattle.swarm_sched.proofs.Halving.{entries_rise}
 use Rattle.swarm_sched.proofs.class_loads.branches_of.Goals as goal
-use Rattle.swarm_sched.proofs.class_loads.branches_of.Goals.{else-not-is_empty, then-not-is_empty}
-use Rattle.swarm_sched.specs.Inside.ClassLoads.{AreMost}
 
-pub returns-clause-most : goal.returns-clause-most
-returns-clause-most g c =
-    let t = g.R.Rows.tables c.args.rows.now in
-    let service = c.args.task.now.service in
-    let sorted = c.args.sorted.now in
-    let tasks = filter (is_of service) t.tasks in
-    elim c.if-not-is_empty.branch [
-      | then-not-is_empty w ↦ subst (AreMost sorted tasks) (sym w.most-is)
-          (most_of sorted tasks w.count_classes-most.result w.count_classes-most.ensures.loads)
-      | else-not-is_empty w ↦ subst (AreMost sorted tasks) (sym w.most-is)
-          (most_all t service sorted 18446744073709551615 c.requires.usable (omega arith))
-    ]
+pub class_loads-loads-requires-clause-rises : goal.class_loads-loads-requires-clause-rises
+class_loads-loads-requires-clause-rises g c =
+    entries_rise 0 c.args.sorted.now (g.R.Rows.tables c.args.rows.now).nodes c.requires.sorted.ids
+    c.requires.usable.sound.ordered.nodes
+
+pub returns-then-is_empty-clause-most : goal.returns-then-is_empty-clause-most
+returns-then-is_empty-clause-most g c =
+    most_all (g.R.Rows.tables c.args.rows.now) c.args.task.now.service c.args.sorted.now 18446744073709551615
+    c.requires.usable (omega arith)

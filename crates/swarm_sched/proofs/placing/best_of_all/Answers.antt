@@ -18,5 +18,6 @@ loop-node-init g c =
           ∙ best_is t x;
       held = tt;
       knows = c.requires.knows;
-      own = c.new-branches.ensures ∙ ap (λ (keys : List Key). record { tables = t; service = x.service; keys = keys }) c.as_slice.ensures;
+      own = c.new-branches.ensures
+          ∙ ap (λ (keys : List Key). record { tables = t; service = x.service; keys = keys }) c.as_slice.ensures;
     }

@@ -1,14 +1,18 @@
 use Rattle.std.proofs.Common.{None, ap, arith, get_or, inl, inr, length, refl, replicate, subst, sym, ◌∙◌}
 use Rattle.std.specs.Option.{option_copied}
-use Rattle.std.specs.Prelude.{is_some}
+use Rattle.std.specs.Prelude.{IfSome, is_some}
+use Rattle.swarm_objects.specs.Rows.{node_id, row_at}
 use Rattle.swarm_filters.proofs.Filtering.{best_is}
-use Rattle.swarm_sched.proofs.ClassLoading.{none_here, place_few}
-use Rattle.swarm_sched.proofs.ClassOrders.{at_entry, entry_fits, none_there, searched_behind, searched_best, searched_none, searched_past, searched_worse}
+use Rattle.swarm_sched.proofs.ClassLoading.{none_here, own_at, place_few}
+use Rattle.swarm_sched.proofs.ClassOrders.{at_entry, entry_fits, none_there, searched_behind, searched_best}
+use Rattle.swarm_sched.proofs.ClassOrders.{searched_none, searched_past, searched_worse}
 use Rattle.swarm_sched.proofs.Halving.{entries_rise}
 use Rattle.swarm_sched.proofs.Preferring.{is_equal}
 use Rattle.swarm_sched.proofs.placing.best_of_classes.Goals as goal
+use Rattle.swarm_sched.specs.Inside.Branches.{IsBranchOf, Preferences, preferences}
 use Rattle.swarm_sched.specs.Inside.Placing.{AreBehind, block_end}
 use Rattle.swarm_sched.specs.declared.classes.ClassedNode.{ClassedNode}
+use Rattle.swarm_sched.specs.declared.classes.TheConstants.{CLASSES}
 use Rattle.swarm_sched.specs.declared.placing.Leader.{Leader}
 
 pub loop-place-init : goal.loop-place-init
@@ -18,6 +22,7 @@ loop-place-init g c =
     record {
       searched = searched_none t x c.args.nodes.now (best_is t x);
       held = tt;
+      branch = tt;
       knows = c.requires.knows;
       own = c.branches_of-branches.ensures.branches;
       least = c.requires.least;
@@ -45,13 +50,31 @@ loop-place-preserved-then-leads_block g c =
           (omega (arith, c.block_end-place.ensures.more)) c.block_end-place.ensures.fits
           c.loop-place.invariant.searched;
       held = c.loop-place.invariant.held;
+      branch = c.loop-place.invariant.branch;
       knows = c.leads_block.ensures.knows;
       own = c.loop-place.invariant.own;
       least = c.leads_block.ensures.least;
     }
 
-pub class_order-spread-requires : goal.class_order-spread-requires
-class_order-spread-requires g c =
+pub class_order-spread-requires-clause-own : goal.class_order-spread-requires-clause-own
+class_order-spread-requires-clause-own g c =
+    let t = g.R.Rows.tables c.args.rows.now in
+    let x = c.args.task.now in
+    let d : ClassedNode = record { id = 0; class = 0 } in
+    let e : ClassedNode = get_or c.args.nodes.now c.loop-place.place d in
+    let most = c.branches_of-branches.result.1 in
+    subst (λ (p : Preferences). IfSome (row_at node_id e.id t.nodes) (IsBranchOf p (get_or most e.class 0)))
+    (sym c.loop-place.invariant.own)
+    (own_at t x c.args.nodes.now most c.loop-place.place d c.requires.usable c.requires.sorted
+    c.branches_of-branches.ensures.loads c.loop-place-test.true)
+
+pub class_order-spread-requires-clause-best : goal.class_order-spread-requires-clause-best
+class_order-spread-requires-clause-best g c =
+    subst (λ (p : Preferences). IfSome c.loop-place.best (λ b. IsBranchOf p c.loop-place.branch b.now))
+    (sym c.loop-place.invariant.own) c.loop-place.invariant.branch
+
+pub class_order-spread-requires-clause-class : goal.class_order-spread-requires-clause-class
+class_order-spread-requires-clause-class g c =
     entry_fits (g.R.Rows.tables c.args.rows.now).nodes c.args.task.now.template.spread c.args.nodes.now
     (length c.loop-place.orders) c.loop-place.place (record { id = 0; class = 0 }) c.requires.sorted
     c.loop-place-test.true
@@ -74,6 +97,7 @@ loop-place-preserved-then-not-is_rival g c =
           c.loop-place.place e c.class_order-spread.result at c.loop-place.invariant.searched
           (c.is_rival.ensures.ruled_out c.if-not-is_rival.true);
       held = c.loop-place.invariant.held;
+      branch = c.loop-place.invariant.branch;
       knows = c.is_rival.ensures.knows;
       own = c.class_order-spread.ensures.same ∙ c.loop-place.invariant.own;
       least = c.leads_block.ensures.least;
@@ -105,12 +129,17 @@ loop-place-preserved-then-ne g c =
     c.class_order-spread.ensures.order c.class_order-spread.ensures.orders in
     record {
       searched =
-          searched_best t x c.args.nodes.now c.loop-place.orders c.class_order-spread.new.orders (replicate 16 None)
-          (option_copied c.loop-place.best)
+          searched_best t x c.args.nodes.now c.loop-place.orders c.class_order-spread.new.orders
+          (replicate CLASSES None) (option_copied c.loop-place.best)
           c.loop-place.place e c.class_order-spread.result c.in-Some.node.now at c.loop-place.invariant.searched
           (sym c.node.ensures ∙ ap option_copied c.in-Some.is)
           (sym c.if_better.ensures.better ∙ ap is_some c.in-Some-if_better.is) (inl refl);
       held = c.in-Some-if_better.ensures.load;
+      branch =
+          subst (λ o. IfSome o (IsBranchOf (preferences t x) (get_or c.branches_of-branches.result.1 e.class 0)))
+          (sym c.node.ensures ∙ ap option_copied c.in-Some.is)
+          (own_at t x c.args.nodes.now c.branches_of-branches.result.1 c.loop-place.place d c.requires.usable
+          c.requires.sorted c.branches_of-branches.ensures.loads c.loop-place-test.true);
       knows = c.if_better.ensures.knows;
       own = c.class_order-spread.ensures.same ∙ c.loop-place.invariant.own;
       least = c.leads_block.ensures.least;
@@ -135,6 +164,11 @@ loop-place-preserved-else-ne g c =
           (sym c.if_better.ensures.better ∙ ap is_some c.in-Some-if_better.is)
           (inr (is_equal c.class_order-spread.result c.ne.result c.ne.ensures c.if-ne.false, refl));
       held = c.in-Some-if_better.ensures.load;
+      branch =
+          subst (λ o. IfSome o (IsBranchOf (preferences t x) (get_or c.branches_of-branches.result.1 e.class 0)))
+          (sym c.node.ensures ∙ ap option_copied c.in-Some.is)
+          (own_at t x c.args.nodes.now c.branches_of-branches.result.1 c.loop-place.place d c.requires.usable
+          c.requires.sorted c.branches_of-branches.ensures.loads c.loop-place-test.true);
       knows = c.if_better.ensures.knows;
       own = c.class_order-spread.ensures.same ∙ c.loop-place.invariant.own;
       least = c.leads_block.ensures.least;
@@ -158,6 +192,7 @@ loop-place-preserved g c =
           (sym c.node.ensures ∙ ap option_copied c.in-Some.is)
           (sym c.if_better.ensures.better ∙ ap is_some c.in_default-if_better.is);
       held = c.loop-place.invariant.held;
+      branch = c.loop-place.invariant.branch;
       knows = c.if_better.ensures.knows;
       own = c.class_order-spread.ensures.same ∙ c.loop-place.invariant.own;
       least = c.leads_block.ensures.least;

@@ -3,7 +3,7 @@ use Rattle.std.specs.Option.{option_copied}
 use Rattle.std.specs.Prelude.{IfSome}
 use Rattle.swarm_sched.proofs.placing.best_of_classes.Given as goal
 use Rattle.swarm_sched.specs.Inside.Bounds.{AreLeast}
-use Rattle.swarm_sched.specs.Inside.Branches.{preferences}
+use Rattle.swarm_sched.specs.Inside.Branches.{IsBranchOf, preferences}
 use Rattle.swarm_sched.specs.Inside.Known.{Knows}
 use Rattle.swarm_sched.specs.Inside.Placing.{IsNodeLoad, IsSearched}
 
@@ -13,6 +13,7 @@ invariant-loop-place g l =
     record {
       searched : IsSearched t l.task l.nodes l.orders (option_copied l.best) l.place;
       held : IfSome l.best (λ b. IsNodeLoad t b.now.id l.task.service l.held);
+      branch : IfSome l.best (λ b. IsBranchOf (preferences t l.task) l.branch b.now);
       knows : Knows t l.known;
       own : l.branches ≡ preferences t l.task;
       least : AreLeast t l.nodes l.bounds;

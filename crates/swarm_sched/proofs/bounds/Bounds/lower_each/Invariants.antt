@@ -1,6 +1,6 @@
 use Rattle.std.proofs.Common.{length}
+use Rattle.swarm_sched.proofs.Bounding.{AreLowering}
 use Rattle.swarm_sched.proofs.bounds.Bounds.lower_each.Given as goal
-use Rattle.swarm_sched.specs.Inside.Bounds.{AreLowering}
 
 abbrev pub invariant-loop-change : goal.invariant-loop-change
 invariant-loop-change g l =

@@ -7,5 +7,5 @@ use Rattle.swarm_sched.specs.Inside.Placing.{Leads}
 abbrev pub invariant-loop-class : goal.invariant-loop-class
 invariant-loop-class l =
     (class : ℕ) → class < l.class →
-    IfSome (get_or l.row class (Some 0))
+    IfSome (get_or l.block class (Some 0))
     (λ least. Leads (option_copied l.self.best) l.self.held (get_or l.self.orders.now class None) least l.first)
