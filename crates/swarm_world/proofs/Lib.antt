@@ -16,9 +16,11 @@ pub mod Choosing
 pub mod Coming
 pub mod Committing
 pub mod Dropping
+pub mod Ends
 pub mod Entering
 pub mod Faulting
 pub mod Heard
+pub mod Idle
 pub mod KnownSteps
 pub mod Lawful
 pub mod Looking

@@ -2,7 +2,7 @@
 ghost use Rattle.std.specs.Prelude.{◌≡◌};
 ghost use Rattle.swarm_spans.specs.Spans.{empty, full};
 ghost use Rattle.swarm_world.specs.Inside.Looks.{before_on, no_steps};
-ghost use Rattle.swarm_world.specs.Inside.Spanned.{AreWiderFrom, lowered, news_by, steps_by};
+ghost use Rattle.swarm_world.specs.Inside.Spanned.{AreEnded, AreWiderFrom, IsEnded, lowered, news_by, steps_by};
 
 use swarm_objects::{Duty, Id};
 use swarm_spans::Span;
@@ -49,6 +49,16 @@ impl Steps {
             Duty::Exec(node, task) => self.lower(node, task),
             _ => {}
         }
+    }
+}
+
+// What the span has up to this number.
+fn end(span: Span, last: Id) -> Span
+    ensures { IsEnded last span result }
+{
+    Span {
+        high: span.high.min(last),
+        ..span
     }
 }
 
@@ -115,6 +125,15 @@ impl AgentSpans {
             news,
             steps: Steps::none(),
         }
+    }
+
+    /// The nodes above this one leave the spans: there are none.
+    pub fn end_at(&mut self, last: Id)
+        ensures { AreEnded last self.old self.new }
+    {
+        self.duties = end(self.duties, last);
+        self.tells = end(self.tells, last);
+        self.news = end(self.news, last);
     }
 
     /// The agent that does the duty may owe a report then, or have an executor that goes or has a step.

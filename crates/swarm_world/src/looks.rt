@@ -8,10 +8,11 @@ ghost use Rattle.swarm_objects.specs.Loops.Words.{duty_where};
 ghost use Rattle.swarm_objects.specs.Nodes.Sessions.{is_session_live, session_of};
 ghost use Rattle.swarm_objects.specs.Rows.{RisesFrom, agent_node, executor_task, first_of, has_row, is_some_and, task_id};
 ghost use Rattle.swarm_objects.specs.Usable.{IsUsable};
+ghost use Rattle.swarm_objects.specs.World.{World};
 ghost use Rattle.swarm_spans.specs.Spans.{is_in};
 ghost use Rattle.swarm_world.specs.Inside.Looks.{AreSpanned, EachRises, HasNoStep, IsAsked, IsHeard, IsPassed, MayBeTold, MayHaveNews, is_told, is_unsaid, looked_at, wants_message};
 ghost use Rattle.swarm_world.specs.Inside.Records.{tables_of};
-ghost use Rattle.swarm_world.specs.Inside.Spanned.{AgentsSpanLaw};
+ghost use Rattle.swarm_world.specs.Inside.Spanned.{AgentsSpanLaw, IsLast};
 
 use crate::agent_spans::{AgentSpans, Steps};
 use crate::records::Records;
@@ -381,6 +382,29 @@ fn next_agent_in<'a>(agents: &'a Agents, span: &Span) -> Option<(&'a Id, &'a Age
     None
 }
 
+// The node of the last agent; 0 where there is none.
+fn last_node(agents: &Agents) -> Id
+    requires { RisesFrom agent_node 0 agents.now }
+    ensures { IsLast agents.now result }
+{
+    match agents.iter().next_back() {
+        Some((node, _)) => *node,
+        None => 0,
+    }
+}
+
+// Where the first span has no end, as after a tick, all of them end with the last agent. A number that is passed leaves
+// a span for good only where the end is near; before that its bit stays, and the agent is looked at again.
+#[tactic(auto, using(crate::proofs::Ends::end_steps))]
+fn end_spans(agents: &Agents, spans: &mut AgentSpans)
+    requires { RisesFrom agent_node 0 agents.now }
+    ensures { (w : World) → AreSpanned w spans.old agents.now → AreSpanned w spans.new agents.now }
+{
+    if spans.duties.is_endless() {
+        spans.end_at(last_node(agents));
+    }
+}
+
 /// The first duty of the agents' loop, where the spans have each node whose agent has one. Nodes before it leave them.
 #[tactic(auto, using(crate::proofs::AsksIn::asks_steps))]
 pub fn agents_first_in(
@@ -400,6 +424,7 @@ pub fn agents_first_in(
     if spans.duties.is_over() {
         return None;
     }
+    end_spans(agents, spans);
     times_that_no_step_looks_at();
     while let Some((node, agent)) = next_agent_in(agents, &spans.duties) {
         match agent_first(

@@ -20,7 +20,7 @@ ghost use Rattle.swarm_spans.specs.TasksCovered.{NodesLaw, ServicesLaw, SessionL
 ghost use Rattle.swarm_world.specs.Inside.Kept.{IsFirst};
 ghost use Rattle.swarm_world.specs.Inside.Known.{AreForeseen, ForgetsServices, KnowsAll};
 ghost use Rattle.swarm_world.specs.Inside.Looks.{no_steps};
-ghost use Rattle.swarm_world.specs.Inside.Marks.{AreMarked, IsAfterCall, IsMarked, makes_node, makes_service};
+ghost use Rattle.swarm_world.specs.Inside.Marks.{AreMarked, IsAfterCall, IsMarked, is_idle, makes_node, makes_service};
 ghost use Rattle.swarm_world.specs.Inside.Parts.{HasHistory, StandsFor};
 ghost use Rattle.swarm_world.specs.Inside.Records.{tables_of};
 ghost use Rattle.swarm_world.specs.Inside.Spanned.{AreWiderFrom, news_by, steps_by};
@@ -494,6 +494,31 @@ impl Marks {
         }
     }
 
+    // No row is in a span of the loop, so it has no duty.
+    fn is_idle(&self, role: Role) -> bool
+        ensures { result ≡ is_idle role self.now }
+    {
+        let tasks = &self.tasks;
+        let services = &self.services;
+        match role {
+            Role::Dispatcher => tasks.expires.is_over() && tasks.orphans.is_over(),
+            Role::Enforcer => tasks.rejects.is_over(),
+            Role::Restart => tasks.restarts.is_over() && tasks.raises.is_over(),
+            Role::Update => services.updates.is_over(),
+            Role::Replicated => {
+                tasks.goes.is_over() && services.downs.is_over() && services.creates.is_over()
+            }
+            Role::Global => services.leaves.is_over() && services.comes.is_over(),
+            Role::Job => tasks.olds.is_over() && services.job_creates.is_over(),
+            Role::Allocator => {
+                services.ports.is_over() && tasks.addresses.is_over() && tasks.notes.is_over()
+            }
+            Role::Scheduler => tasks.schedules.is_over(),
+            Role::Reaper => tasks.deletes.is_over() && services.trims.is_over(),
+            Role::Agents => self.agents.duties.is_over(),
+        }
+    }
+
     /// The first duty of the control loop. Rows before it, which have none, leave their spans. Memory is taken only for
     /// what is remembered; where it is wanting, less is remembered, and the answer is the same.
     pub fn find(&mut self, parts: &Parts, role: Role) -> Option<Duty>
@@ -505,6 +530,9 @@ impl Marks {
         times_that_no_step_looks_at();
         if is_agents(role) {
             return agents_first_in(&parts.records, &parts.sent, &parts.agents, &mut self.agents);
+        }
+        if self.is_idle(role) {
+            return None;
         }
         self.first(&parts.records, role)
     }

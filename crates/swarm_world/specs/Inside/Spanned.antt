@@ -5,13 +5,15 @@ use Rattle.swarm_objects.specs.ChangeLists.{Makes}
 use Rattle.swarm_objects.specs.Duties.{is_due}
 use Rattle.swarm_objects.specs.Effects.{after_duty, is_agents}
 use Rattle.swarm_objects.specs.Kinds.{role_of}
+use Rattle.swarm_objects.specs.Rows.{Has}
+use Rattle.swarm_objects.specs.declared.agents.NodeAgent.{NodeAgent}
 use Rattle.swarm_objects.specs.declared.calls.Entry.{Entry}
 use Rattle.swarm_objects.specs.declared.calls.What.TheVariants as what
 use Rattle.swarm_objects.specs.declared.duties.Duty.TheVariants as duty
 use Rattle.swarm_objects.specs.declared.duties.Duty.{Duty}
 use Rattle.swarm_objects.specs.declared.loops.Role.TheVariants as role
 use Rattle.swarm_objects.specs.declared.rows.Change.{Change}
-use Rattle.swarm_spans.specs.Spans.{IsWider, onwards, with_id}
+use Rattle.swarm_spans.specs.Spans.{IsWider, is_in, onwards, with_id}
 use Rattle.swarm_spans.specs.declared.span.Span.{Span}
 use Rattle.swarm_world.specs.Inside.Looks.{AreSpanned, before_on, looked_at, no_steps}
 use Rattle.swarm_world.specs.Inside.Parts.{IsAt, StandsFor}
@@ -38,6 +40,21 @@ pub record AreWiderFrom (first : ℕ) (wide spans : AgentSpans) : Type 0 where
   pub tells : IsWider wide.tells (onwards first)
   pub news : IsWider wide.news (onwards first)
   pub steps : wide.steps ≡ no_steps
+
+-- it has what it had up to this number
+pub record IsEnded (last : ℕ) (span ended : Span) : Type 0 where
+  pub has : (id : ℕ) → id ≤ last → is_in span id ≡ true → is_in ended id ≡ true
+
+-- so do all three, and what is known of steps stays
+pub record AreEnded (last : ℕ) (spans ended : AgentSpans) : Type 0 where
+  pub duties : IsEnded last spans.duties ended.duties
+  pub tells : IsEnded last spans.tells ended.tells
+  pub news : IsEnded last spans.news ended.news
+  pub steps : ended.steps ≡ spans.steps
+
+-- no agent is of a node above this one
+pub record IsLast (agents : List NodeAgent) (last : ℕ) : Type 0 where
+  pub each : (a : NodeAgent) → Has agents a → a.node ≤ last
 
 -- a node that registers is sent all that is due; no other duty of the agents' loop makes a message due
 abbrev pub told_by : Duty → Span → Span

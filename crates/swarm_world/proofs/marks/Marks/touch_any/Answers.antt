@@ -15,3 +15,6 @@ returns-then-make_nodes c =
     nodes_marked c.args.self.now c.touch_nodes.new.self c.args.ops.now c.args.parts.now c.next_id-first.result
     c.next_id-first.ensures (sym c.if-make_nodes.true ∙ c.make_nodes.ensures) c.touch_nodes.ensures.tasks
     c.touch_nodes.ensures.services c.touch_nodes.ensures.agents c.touch_nodes.ensures.known
+
+pub returns-else-make_nodes : goal.returns-else-make_nodes
+returns-else-make_nodes c = λ h q legal stands marked has after. c.touch_all.ensures q has

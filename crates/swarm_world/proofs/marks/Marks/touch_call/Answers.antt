@@ -20,3 +20,6 @@ returns-in-Txn c = λ h q legal stands marked is after.
     c.touch_ops.ensures h q legal stands marked is
     (subst (λ ops. IsAfterCall h (call.Txn ops) q) (sym c.as_slice.ensures)
     (subst (λ call. IsAfterCall h call q) c.in-Txn.is after))
+
+pub returns-in_default : goal.returns-in_default
+returns-in_default c = λ h q legal stands marked has after. c.touch_all.ensures q has
