@@ -10,7 +10,7 @@ use std::alloc::Global;
 use swarm_objects::{
     Availability, Constraint, Draft, Duplicate, End, FailureAction, Key, List, Mode, Name,
     NoMemory, NodeDraft, NodeRole, Platform, Port, RestartCondition, RestartPolicy, ServiceSpec,
-    Settings, Template, UpdateConfig, UpdateOrder, Workload, add,
+    Settings, Shared, Template, UpdateConfig, UpdateOrder, Workload, add,
 };
 
 // The number in the field, if it is this one.
@@ -281,7 +281,7 @@ pub fn draft_of(alloc: Global, fields: &[Field]) -> Result<Draft, NoMemory>
     Ok(Draft {
         spec: ServiceSpec {
             mode: mode_named(fields),
-            template: template_named(alloc, fields)?,
+            template: Shared::new(alloc, template_named(alloc, fields)?)?,
             ports,
             update: update_named(fields),
         },

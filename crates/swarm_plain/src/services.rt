@@ -20,7 +20,7 @@ use swarm_objects::limits::MOST_SERVICES;
 use swarm_objects::ports::is_other_holder;
 use swarm_objects::{
     Attempt, Draft, Duplicate, Id, Kind, List, Name, NoMemory, Op, Port, Refusal, Same, Service,
-    ServiceSpec, Version, add, drop_row, put_row,
+    ServiceSpec, Shared, Template, Version, add, drop_row, put_row,
 };
 
 // The attempts of the service are forgotten.
@@ -71,7 +71,9 @@ impl Plain {
         ensures { IfOk result (λ spec. spec ≡ filled (tables_of self.now) draft.now) }
     {
         let mut spec = draft.spec.duplicate(self.alloc)?;
-        spec.template.networks = self.network_ids(draft.networks.as_slice())?;
+        let mut template = Template::duplicate(&draft.spec.template, self.alloc)?;
+        template.networks = self.network_ids(draft.networks.as_slice())?;
+        spec.template = Shared::new(self.alloc, template)?;
         Ok(spec)
     }
 

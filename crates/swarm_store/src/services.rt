@@ -20,7 +20,7 @@ use swarm_objects::limits::MOST_SERVICES;
 use swarm_objects::ports::is_other_holder;
 use swarm_objects::{
     Draft, Duplicate, Id, Kind, List, Name, NoMemory, Op, Port, Refusal, Rows, Same, Service,
-    ServiceSpec, Version, add,
+    ServiceSpec, Shared, Template, Version, add,
 };
 
 impl State {
@@ -66,7 +66,9 @@ impl State {
         ensures { IfOk result (λ spec. spec ≡ filled (tables_now self.now) draft.now) }
     {
         let mut spec = draft.spec.duplicate(self.alloc)?;
-        spec.template.networks = self.network_ids(draft.networks.as_slice())?;
+        let mut template = Template::duplicate(&draft.spec.template, self.alloc)?;
+        template.networks = self.network_ids(draft.networks.as_slice())?;
+        spec.template = Shared::new(self.alloc, template)?;
         Ok(spec)
     }
 

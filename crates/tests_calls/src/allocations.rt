@@ -11,22 +11,22 @@ use std::alloc::Global;
 use std::test::Fail;
 use swarm_objects::{
     Change, Desired, Duty, Id, List, Mode, Name, NoMemory, Note, Port, Service, ServiceSpec,
-    Settings, Task, TaskState, Template, UpdateConfig, list_of,
+    Settings, Shared, Task, TaskState, Template, UpdateConfig, list_of,
 };
 use swarm_plain::Plain;
 
 /// A service with id 7 and these ports.
-pub fn service(alloc: Global, name: Name, ports: List<Port>) -> Service
-    ensures id { result.id ≡ 7 }
-    ensures near { is_near_service result ≡ true }
+pub fn service(alloc: Global, name: Name, ports: List<Port>) -> Result<Service, NoMemory>
+    ensures id { IfOk result (λ service. service.id ≡ 7) }
+    ensures near { IfOk result (λ service. is_near_service service ≡ true) }
 {
-    Service {
+    Ok(Service {
         id: 7,
         version: 1,
         name,
         spec: ServiceSpec {
             mode: Mode::usual(),
-            template: Template::usual(alloc),
+            template: Shared::new(alloc, Template::usual(alloc))?,
             ports,
             update: UpdateConfig::usual(),
         },
@@ -36,17 +36,20 @@ pub fn service(alloc: Global, name: Name, ports: List<Port>) -> Service
         iteration: 0,
         numbers: List::new(alloc),
         run: None,
-    }
+    })
 }
 
 // Its new task, on these networks.
-fn new_task(alloc: Global, networks: List<Id>) -> Task
-    ensures id { result.id ≡ 1 }
-    ensures near { is_near_task result ≡ true }
+fn new_task(alloc: Global, networks: List<Id>) -> Result<Task, NoMemory>
+    ensures id { IfOk result (λ task. task.id ≡ 1) }
+    ensures near { IfOk result (λ task. is_near_task task ≡ true) }
 {
-    let mut task = task(alloc, TaskState::New, Desired::Running);
-    task.template.networks = networks;
-    task
+    let mut template = Template::usual(alloc);
+    template.networks = networks;
+    let template = Shared::new(alloc, template)?;
+    let mut task = task(alloc, TaskState::New, Desired::Running)?;
+    task.template = template;
+    Ok(task)
 }
 
 // The world with both alone.
@@ -54,9 +57,9 @@ fn new_task(alloc: Global, networks: List<Id>) -> Task
 fn world(alloc: Global, ports: List<Port>, networks: List<Id>) -> Result<Plain, NoMemory>
     ensures { IfOk result (λ plain. IsUsable (tables_of plain)) }
 {
-    let service = service(alloc, Name::new(alloc, "web")?, ports);
+    let service = service(alloc, Name::new(alloc, "web")?, ports)?;
     let services = list_of(alloc, service)?;
-    let tasks = list_of(alloc, new_task(alloc, networks))?;
+    let tasks = list_of(alloc, new_task(alloc, networks)?)?;
     Ok(Plain {
         alloc,
         entries: 1,

@@ -112,14 +112,14 @@ impl<'a, R: Rows> Rows for Counting<'a, R> {
 }
 
 // A task of service 7 that runs on node 1.
-fn running(alloc: Global, id: Id) -> Task
-    ensures id { result.id ≡ id }
-    ensures near { is_near_task result ≡ true }
+fn running(alloc: Global, id: Id) -> Result<Task, NoMemory>
+    ensures id { IfOk result (λ task. task.id ≡ id) }
+    ensures near { IfOk result (λ task. is_near_task task ≡ true) }
 {
-    let mut task = task(alloc, Some(1), TaskState::Running, Desired::Running);
+    let mut task = task(alloc, Some(1), TaskState::Running, Desired::Running)?;
     task.id = id;
     task.place = Place::Slot(id);
-    task
+    Ok(task)
 }
 
 // Tasks 8 to 1,007.
@@ -128,7 +128,8 @@ fn many_running(alloc: Global) -> Result<List<Task>, NoMemory>
 {
     let mut tasks = List::new(alloc);
     for id in 8..1_008 {
-        add(&mut tasks, running(alloc, id))?;
+        let task = running(alloc, id)?;
+        add(&mut tasks, task)?;
     }
     Ok(tasks)
 }
@@ -138,7 +139,7 @@ fn crowd(alloc: Global) -> Result<Plain, NoMemory>
     ensures { IfOk result (λ plain. IsUsable (tables_of plain)) }
 {
     let nodes = one_node(alloc, NodeState::Ready)?;
-    let service = service(alloc, Name::new(alloc, "web")?, List::new(alloc));
+    let service = service(alloc, Name::new(alloc, "web")?, List::new(alloc))?;
     let services = list_of(alloc, service)?;
     let tasks = many_running(alloc)?;
     Ok(Plain {

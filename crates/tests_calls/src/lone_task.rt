@@ -7,23 +7,23 @@ ghost use Rattle.swarm_objects.specs.Usable.{IsUsable};
 use std::alloc::Global;
 use std::test::Fail;
 use swarm_objects::{
-    Change, Desired, Duty, List, NoMemory, Note, Place, Settings, Task, TaskState, Template,
-    list_of,
+    Change, Desired, Duty, List, NoMemory, Note, Place, Settings, Shared, Task, TaskState,
+    Template, list_of,
 };
 use swarm_plain::Plain;
 
 // A task with id 1.
-pub fn task(alloc: Global, state: TaskState, desired: Desired) -> Task
-    ensures id { result.id ≡ 1 }
-    ensures near { is_near_task result ≡ true }
+pub fn task(alloc: Global, state: TaskState, desired: Desired) -> Result<Task, NoMemory>
+    ensures id { IfOk result (λ task. task.id ≡ 1) }
+    ensures near { IfOk result (λ task. is_near_task task ≡ true) }
 {
-    Task {
+    Ok(Task {
         id: 1,
         version: 1,
         service: 7,
         place: Place::Slot(1),
         iteration: 0,
-        template: Template::usual(alloc),
+        template: Shared::new(alloc, Template::usual(alloc))?,
         born: 1,
         goal: Desired::Running,
         node: None,
@@ -35,7 +35,7 @@ pub fn task(alloc: Global, state: TaskState, desired: Desired) -> Task
         addresses: List::new(alloc),
         note: Note::Empty,
         closed: None,
-    }
+    })
 }
 
 // The world with this task alone.
@@ -72,7 +72,7 @@ fn firsts(
     state: TaskState,
     desired: Desired,
 ) -> Result<(Option<Duty>, Option<Duty>, Option<Duty>), NoMemory> {
-    let plain = world(alloc, task(alloc, state, desired))?;
+    let plain = world(alloc, task(alloc, state, desired)?)?;
     let reaper = swarm_upkeep::least_reaper(&plain);
     let replicated = swarm_replicated::least(&plain);
     let scheduler = swarm_sched::least(&plain);
@@ -93,7 +93,7 @@ fn all_others_rest(plain: &Plain) -> bool
 
 // Whether no other loop has anything to do.
 fn others_rest(alloc: Global, state: TaskState, desired: Desired) -> Result<bool, NoMemory> {
-    let plain = world(alloc, task(alloc, state, desired))?;
+    let plain = world(alloc, task(alloc, state, desired)?)?;
     let rest = all_others_rest(&plain);
     drop(plain);
     Ok(rest)
@@ -126,7 +126,7 @@ fn is_drop_of(changes: &Result<List<Change>, NoMemory>, id: u64) -> Result<bool,
 }
 
 fn is_deleted(alloc: Global) -> Result<bool, NoMemory> {
-    let plain = world(alloc, task(alloc, TaskState::Pending, Desired::Remove))?;
+    let plain = world(alloc, task(alloc, TaskState::Pending, Desired::Remove)?)?;
     let changes = swarm_upkeep::changes(alloc, &plain, 2, Duty::Delete(1));
     drop(plain);
     let is_dropped = is_drop_of(&changes, 1);

@@ -217,30 +217,37 @@ fn what_the_duties_change(rt: HostRuntime) -> Result<(), Fail> {
 
 // Reports.
 
-fn reported(alloc: Global, node: Id, seen: TaskState, state: TaskState) -> (u64, u64) {
-    let task = task(alloc, Some(1), seen, Desired::Running);
+fn reported(
+    alloc: Global,
+    node: Id,
+    seen: TaskState,
+    state: TaskState,
+) -> Result<(u64, u64), NoMemory> {
+    let task = task(alloc, Some(1), seen, Desired::Running)?;
     let checked = status_check(&task, node, state);
     drop(task);
     match checked {
-        Ok(()) => (0, 0),
-        Err(refusal) => number_of(&refusal),
+        Ok(()) => Ok((0, 0)),
+        Err(refusal) => Ok(number_of(&refusal)),
     }
 }
 
 #[test]
-fn reports_of_a_node(rt: HostRuntime) {
+fn reports_of_a_node(rt: HostRuntime) -> Result<(), Fail> {
     let alloc = rt.alloc();
     let running = TaskState::Running;
-    assert_eq!(rt; reported(alloc, 1, running, TaskState::Accepted), (0, 0));
-    assert_eq!(rt; reported(alloc, 1, running, TaskState::Rejected), (0, 0));
-    assert_eq!(rt; reported(alloc, 1, running, TaskState::Assigned), (15, 0));
-    assert_eq!(rt; reported(alloc, 1, running, TaskState::Remove), (15, 0));
+    assert_eq!(rt; reported(alloc, 1, running, TaskState::Accepted)?, (0, 0));
+    assert_eq!(rt; reported(alloc, 1, running, TaskState::Rejected)?, (0, 0));
+    assert_eq!(rt; reported(alloc, 1, running, TaskState::Assigned)?, (15, 0));
+    assert_eq!(rt; reported(alloc, 1, running, TaskState::Remove)?, (15, 0));
+    Ok(())
 }
 
 #[test]
-fn reports_of_another_node(rt: HostRuntime) {
+fn reports_of_another_node(rt: HostRuntime) -> Result<(), Fail> {
     let alloc = rt.alloc();
     let running = TaskState::Running;
-    assert_eq!(rt; reported(alloc, 4, running, running), (14, 2));
-    assert_eq!(rt; reported(alloc, 1, TaskState::Pending, running), (14, 2));
+    assert_eq!(rt; reported(alloc, 4, running, running)?, (14, 2));
+    assert_eq!(rt; reported(alloc, 1, TaskState::Pending, running)?, (14, 2));
+    Ok(())
 }

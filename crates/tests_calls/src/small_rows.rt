@@ -7,7 +7,7 @@ ghost use Rattle.tests_calls.specs.Small.{AreNodes, small_tables};
 use std::alloc::Global;
 use swarm_objects::{
     Availability, Desired, Id, List, Ms, Name, Network, NoMemory, Node, NodeRole, NodeState, Note,
-    Place, Rows, Service, Settings, Task, TaskState, Template, Version, add, list_of,
+    Place, Rows, Service, Settings, Shared, Task, TaskState, Template, Version, add, list_of,
 };
 
 /// Some nodes, and a task.
@@ -135,17 +135,22 @@ fn node(alloc: Global, id: Id, zone: &str, state: NodeState) -> Result<Node, NoM
 }
 
 /// Task 2 of service 7.
-pub fn task(alloc: Global, node: Option<Id>, state: TaskState, desired: Desired) -> Task
-    ensures id { result.id ≡ 2 }
-    ensures near { is_near_task result ≡ true }
+pub fn task(
+    alloc: Global,
+    node: Option<Id>,
+    state: TaskState,
+    desired: Desired,
+) -> Result<Task, NoMemory>
+    ensures id { IfOk result (λ task. task.id ≡ 2) }
+    ensures near { IfOk result (λ task. is_near_task task ≡ true) }
 {
-    Task {
+    Ok(Task {
         id: 2,
         version: 1,
         service: 7,
         place: Place::Slot(1),
         iteration: 0,
-        template: Template::usual(alloc),
+        template: Shared::new(alloc, Template::usual(alloc))?,
         born: 1,
         goal: Desired::Running,
         node,
@@ -157,7 +162,7 @@ pub fn task(alloc: Global, node: Option<Id>, state: TaskState, desired: Desired)
         addresses: List::new(alloc),
         note: Note::Empty,
         closed: None,
-    }
+    })
 }
 
 /// Node 1.
@@ -203,7 +208,7 @@ pub fn pair(
     ensures { IfOk result (λ small. IsUsable (small_tables small.now small.nodes small.task)) }
 {
     let nodes = one_node(alloc, up)?;
-    let task = task(alloc, Some(1), state, desired);
+    let task = task(alloc, Some(1), state, desired)?;
     Ok(Small { now, nodes, task })
 }
 
@@ -213,7 +218,7 @@ pub fn zones(alloc: Global) -> Result<Small, NoMemory>
     ensures { IfOk result (λ small. IsUsable (small_tables small.now small.nodes small.task)) }
 {
     let nodes = three_nodes(alloc)?;
-    let task = task(alloc, None, TaskState::Pending, Desired::Running);
+    let task = task(alloc, None, TaskState::Pending, Desired::Running)?;
     Ok(Small {
         now: 0,
         nodes,

@@ -4,7 +4,9 @@ ghost use Rattle.swarm_objects.specs.Usable.{IsUsable};
 use crate::small_rows::{task, zones};
 use std::alloc::Global;
 use std::test::Fail;
-use swarm_objects::{Desired, Id, Key, Name, NoMemory, Node, Rows, Task, TaskState, add, list_of};
+use swarm_objects::{
+    Desired, Id, Key, Name, NoMemory, Node, Rows, Shared, Task, TaskState, Template, add, list_of,
+};
 use swarm_spread::{Admits, SpreadTree};
 
 // Every node will do.
@@ -37,16 +39,22 @@ fn best_after<R: Rows>(
     Ok(found)
 }
 
+// A template whose tasks are spread over zones.
+fn over_zones(alloc: Global) -> Result<Template, NoMemory> {
+    let zone = Key::Label(Name::new(alloc, "zone")?);
+    let mut template = Template::usual(alloc);
+    add(&mut template.spread, zone)?;
+    Ok(template)
+}
+
 // The best node for a task that waits for one, of a service that is spread over zones.
 fn best_of_rows<R: Rows>(alloc: Global, rows: &R) -> Result<Option<Id>, NoMemory>
     requires { IsUsable (R.tables rows.now) }
 {
-    let zone = Key::Label(Name::new(alloc, "zone")?);
-    let mut waiting = task(alloc, None, TaskState::Pending, Desired::Running);
-    let best = match add(&mut waiting.template.spread, zone) {
-        Ok(()) => best_after(alloc, rows, &waiting, 1),
-        Err(NoMemory) => Err(NoMemory),
-    };
+    let template = Shared::new(alloc, over_zones(alloc)?)?;
+    let mut waiting = task(alloc, None, TaskState::Pending, Desired::Running)?;
+    waiting.template = template;
+    let best = best_after(alloc, rows, &waiting, 1);
     drop(waiting);
     best
 }

@@ -3,7 +3,9 @@
 use std::alloc::Global;
 use std::test::Fail;
 use swarm_check::check_service;
-use swarm_objects::{Call, Draft, List, NoMemory, Port, Query, Refusal, Reply, add};
+use swarm_objects::{
+    Call, Draft, List, NoMemory, Port, Query, Refusal, Reply, Shared, Template, add,
+};
 use swarm_plain::Plain;
 
 // How many ids the reply has, or whether it is that of a halt.
@@ -111,11 +113,13 @@ fn add_open(ports: &mut List<Port>) -> Result<(), NoMemory> {
 
 // Whether a service may have the same host port twice, where it has no number. In a line each host port has one.
 fn may_stay_open(alloc: Global) -> Result<bool, NoMemory> {
-    let mut draft = Draft::usual(alloc);
-    let added = add_open(&mut draft.spec.template.host_ports);
+    let mut template = Template::usual(alloc);
+    add_open(&mut template.host_ports)?;
+    let template = Shared::new(alloc, template)?;
+    let mut draft = Draft::usual(alloc)?;
+    draft.spec.template = template;
     let checked = check_service(&draft);
     drop(draft);
-    added?;
     Ok(checked.is_ok())
 }
 

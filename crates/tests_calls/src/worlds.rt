@@ -18,7 +18,7 @@ fn join(alloc: Global, name: &str) -> Result<Op, NoMemory> {
 
 // The service of these tests is created.
 fn create(alloc: Global) -> Result<Op, NoMemory> {
-    Ok(Op::CreateService(Name::new(alloc, "web")?, Draft::usual(alloc)))
+    Ok(Op::CreateService(Name::new(alloc, "web")?, Draft::usual(alloc)?))
 }
 
 fn add_ops(alloc: Global, ops: &mut List<Op>, nodes: &[&str]) -> Result<(), NoMemory> {

@@ -31,7 +31,7 @@ fn service(alloc: Global) -> Result<Service, NoMemory> {
         id: 1,
         version: 1,
         name: Name::new(alloc, "web")?,
-        spec: Draft::usual(alloc).spec,
+        spec: Draft::usual(alloc)?.spec,
         previous: None,
         template_version: 1,
         rolling_back: false,

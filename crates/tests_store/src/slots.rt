@@ -2,7 +2,7 @@ use role_words::tally_of;
 use std::alloc::Global;
 use std::test::Fail;
 use swarm_objects::{
-    Closed, Desired, List, Mode, Name, NoMemory, Note, Place, Service, ServiceSpec, Task,
+    Closed, Desired, List, Mode, Name, NoMemory, Note, Place, Service, ServiceSpec, Shared, Task,
     TaskState, Template, UpdateConfig, add,
 };
 
@@ -14,7 +14,7 @@ fn service(alloc: Global) -> Result<Service, NoMemory> {
         name: Name::new(alloc, "web")?,
         spec: ServiceSpec {
             mode: Mode::usual(),
-            template: Template::usual(alloc),
+            template: Shared::new(alloc, Template::usual(alloc))?,
             ports: List::new(alloc),
             update: UpdateConfig::usual(),
         },
@@ -37,14 +37,14 @@ const CLOSING: Stand = (Desired::Shutdown, Some(Closed::Condition));
 const ENDED: Stand = (Desired::Shutdown, None);
 
 // A task of it in this slot.
-fn task(alloc: Global, slot: u64, (desired, closed): Stand) -> Task {
-    Task {
+fn task(alloc: Global, slot: u64, (desired, closed): Stand) -> Result<Task, NoMemory> {
+    Ok(Task {
         id: 1,
         version: 1,
         service: 7,
         place: Place::Slot(slot),
         iteration: 0,
-        template: Template::usual(alloc),
+        template: Shared::new(alloc, Template::usual(alloc))?,
         born: 1,
         goal: Desired::Running,
         node: None,
@@ -56,7 +56,7 @@ fn task(alloc: Global, slot: u64, (desired, closed): Stand) -> Task {
         addresses: List::new(alloc),
         note: Note::Empty,
         closed,
-    }
+    })
 }
 
 // Adds a task for each of these slots, from the first to the last.
@@ -68,7 +68,7 @@ fn fill(
     stand: Stand,
 ) -> Result<(), NoMemory> {
     for slot in first..=last {
-        add(tasks, task(alloc, slot, stand))?;
+        add(tasks, task(alloc, slot, stand)?)?;
     }
     Ok(())
 }

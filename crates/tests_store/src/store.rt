@@ -46,7 +46,7 @@ fn txn(store: &mut Store, version: Version, ops: &[Op]) -> Told {
 }
 
 fn service(alloc: Global, name: &str) -> Result<Op, NoMemory> {
-    Ok(Op::CreateService(Name::new(alloc, name)?, Draft::usual(alloc)))
+    Ok(Op::CreateService(Name::new(alloc, name)?, Draft::usual(alloc)?))
 }
 
 fn node(alloc: Global, name: &str) -> Result<Op, NoMemory> {

@@ -34,7 +34,7 @@ fn add_node(alloc: Global, ops: &mut List<Op>) -> Result<(), NoMemory> {
 // A service of two tasks is created.
 fn add_service(alloc: Global, ops: &mut List<Op>) -> Result<(), NoMemory> {
     let name = Name::new(alloc, "web")?;
-    let mut draft = Draft::usual(alloc);
+    let mut draft = Draft::usual(alloc)?;
     draft.spec.mode = Mode::Replicated(2);
     add(ops, Op::CreateService(name, draft))
 }

@@ -16,7 +16,7 @@ use swarm_store::Store;
 // The one operation that creates a service of this name.
 fn creation(alloc: Global, name: &str) -> Result<List<Op>, NoMemory> {
     let name = Name::new(alloc, name)?;
-    list_of(alloc, Op::CreateService(name, Draft::usual(alloc)))
+    list_of(alloc, Op::CreateService(name, Draft::usual(alloc)?))
 }
 
 /// Creates a service of this name as the entry with this number, and gives the ids of what was made. A store that

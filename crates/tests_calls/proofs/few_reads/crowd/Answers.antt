@@ -3,8 +3,8 @@ use Rattle.tests_calls.proofs.few_reads.crowd.Goals as goal
 
 pub returns : goal.returns
 returns c =
-    usable_many _ c.in_ok-nodes.nodes c.service-service.result c.in_ok-tasks.tasks c.in_ok-nodes.ensures
-    c.service-service.ensures.id c.service-service.ensures.near c.in_ok-tasks.ensures
+    usable_many _ c.in_ok-nodes.nodes c.in_ok-service.service c.in_ok-tasks.tasks c.in_ok-nodes.ensures
+    c.in_ok-service.ensures.id c.in_ok-service.ensures.near c.in_ok-tasks.ensures
     (λ i. record {
       clock = 0;
       next_id = 1008;
