@@ -29,7 +29,7 @@ struct Counted {
 // How many services are remembered.
 const SLOTS: usize = 8;
 
-// How many numbers behind the gap are asked for one by one, before one pass tells the next gap.
+// How many numbers behind the gap are asked for one by one, before passes over the service's tasks tell the next gap.
 const ASKED: u64 = 8;
 
 /// What is remembered of services. Each has one slot, by the rest of its id; of services with the same slot the last
@@ -46,7 +46,8 @@ fn slot_of(service: Id) -> usize
     service as usize % SLOTS
 }
 
-// The least number from this one on that isn't held, by one pass over the service's tasks.
+// The least number from this one on that isn't held, by a pass over the service's tasks for each 1,024 numbers. None
+// where it would begin above those that a place can have.
 fn gap_from<R: Rows>(rows: &R, service: &Service, from: u64) -> Option<u64>
     requires { IsUsable (R.tables rows.now) }
     ensures { IfSome result (λ gap. gap ≡ first_gap from (held_places (R.tables rows.now) service.now)) }

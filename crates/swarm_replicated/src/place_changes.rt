@@ -65,7 +65,7 @@ fn places_put<R: Rows>(rows: &R, service: &Service, task: &Task) -> Reach
     if is_alike(service, task, former) {
         return Reach::Nothing;
     }
-    place_of(service, task).and(place_of(service, former))
+    place_of(service, task).joined(place_of(service, former))
 }
 
 // The place of the task with this id, if it is there.
@@ -103,7 +103,7 @@ pub fn places_together<R: Rows>(rows: &R, service: &Service, changes: &[Change])
 {
     let mut together = Reach::Nothing;
     for change in changes {
-        together = together.and(places_changed(rows, service, change));
+        together = together.joined(places_changed(rows, service, change));
         if let Reach::More = together {
             return Reach::More;
         }

@@ -29,7 +29,7 @@ impl Reach {
     }
 
     /// To what either of them reaches.
-    pub fn and(self, other: Reach) -> Reach
+    pub fn joined(self, other: Reach) -> Reach
         ensures { result ≡ joined self other }
     {
         match self {

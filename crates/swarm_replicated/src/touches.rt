@@ -29,7 +29,7 @@ fn touched_by_put<R: Rows>(rows: &R, task: &Task) -> Reach
     if is_same_standing(task, former) {
         return Reach::Nothing;
     }
-    Reach::One(task.service).and(Reach::One(former.service))
+    Reach::One(task.service).joined(Reach::One(former.service))
 }
 
 // The service of the task with this id, if it is there.
@@ -56,13 +56,13 @@ fn touched<R: Rows>(rows: &R, change: &Change) -> Reach
     }
 }
 
-/// The services that all of them touch.
+/// The services that any of them touches.
 pub fn touched_together<R: Rows>(rows: &R, changes: &[Change]) -> Reach
     ensures { reach_only (touches_only (R.tables rows.now)) result changes.now ≡ true }
 {
     let mut together = Reach::Nothing;
     for change in changes {
-        together = together.and(touched(rows, change));
+        together = together.joined(touched(rows, change));
         if let Reach::More = together {
             return Reach::More;
         }

@@ -9,5 +9,5 @@ returns-in-More g c =
 pub loop-change-preserved : goal.loop-change-preserved
 loop-change-preserved g c =
     place-next (g.R.Rows.tables c.args.rows.now) c.args.service.now c.loop-change.together c.places_changed.result
-    c.and-together.result c.args.changes.now c.loop-change.change-index c.change-item.result c.loop-change-test.true
-    c.change-item.is c.places_changed.ensures c.and-together.ensures c.loop-change.invariant
+    c.joined-together.result c.args.changes.now c.loop-change.change-index c.change-item.result c.loop-change-test.true
+    c.change-item.is c.places_changed.ensures c.joined-together.ensures c.loop-change.invariant
