@@ -130,7 +130,7 @@ abbrev pub AllStayClean : Tables → ℕ → List Change → Type 0
 AllStayClean t id [] = ⊤
 AllStayClean t id (c ∷ cs) = StaysClean t id c × AllStayClean t id cs
 
--- the one service of which the change may be
+-- the one service to which the change may give such a task
 abbrev pub service_of : Change → Option ℕ
 service_of (change.PutNode n) = None
 service_of (change.PutService s) = Some s.id

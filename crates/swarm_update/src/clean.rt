@@ -5,7 +5,8 @@ ghost use Rattle.swarm_objects.specs.ChangeLists.{apply_changes};
 ghost use Rattle.swarm_objects.specs.Tasks.Words.{is_of};
 ghost use Rattle.swarm_objects.specs.Usable.{IsUsable};
 ghost use Rattle.swarm_objects.specs.World.{Tables};
-ghost use Rattle.swarm_update.specs.KnownSurvey.{AreClean, SlotsAreLeft, HasNoSuspect, StaysClean, has_service, is_suspect, is_suspect_of, service_of};
+ghost use Rattle.swarm_update.specs.KnownSurvey.{AreClean, HasNoSuspect, SlotsAreLeft, StaysClean};
+ghost use Rattle.swarm_update.specs.KnownSurvey.{has_service, is_suspect, is_suspect_of, service_of};
 
 use crate::known_survey::has_alike;
 use swarm_objects::walks::tasks_of;

@@ -11,7 +11,8 @@ ghost use Rattle.swarm_objects.specs.Tasks.Places.{has_dirty_place};
 ghost use Rattle.swarm_objects.specs.Tasks.Words.{is_of};
 ghost use Rattle.swarm_objects.specs.Usable.{IsUsable};
 ghost use Rattle.swarm_objects.specs.World.{Tables};
-ghost use Rattle.swarm_update.specs.KnownSurvey.{AreStale, HasAlike, IsLess, IsSo, Knows, KnowsKept, LeaveAll, Leaves, is_suspect, leaves_out, may_fail, touches};
+ghost use Rattle.swarm_update.specs.KnownSurvey.{AreStale, HasAlike, IsLess, IsSo, Knows, KnowsKept, LeaveAll, Leaves};
+ghost use Rattle.swarm_update.specs.KnownSurvey.{is_suspect, leaves_out, may_fail, touches};
 ghost use Rattle.swarm_update.specs.StalePlaces.{is_stale};
 ghost use Rattle.swarm_update.specs.Surveys.{Tells};
 
@@ -144,7 +145,7 @@ impl Subject {
 
     // The place with this number is stale, too.
     fn make_stale(&mut self, number: u64)
-        requires { number < 1024 }
+        requires { number < WIDTH }
         ensures less { IsLess self.old self.new }
         ensures stale { is_stale self.new.stale number ≡ true }
     {

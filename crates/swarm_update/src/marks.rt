@@ -114,7 +114,7 @@ impl Places {
 
     // Notes the task, whose place has this number.
     fn note_at<R: Rows>(&mut self, index: usize, rows: &R, service: &Service, task: &Task)
-        requires { index < 1024 }
+        requires { index < WIDTH }
         ensures { self.new ≡ noted_at (R.tables rows.now) service.now task.now index self.old }
     {
         self.reach = self.reach.max(index + 1);
@@ -137,7 +137,7 @@ impl Places {
 
     // Sets what is said of the place with this number.
     fn set_mark(&mut self, index: usize, mark: Mark)
-        requires { index < 1024 }
+        requires { index < WIDTH }
         ensures { self.new ≡ with_mark index mark self.old }
     {
         self.reach = self.reach.max(index + 1);
@@ -147,7 +147,7 @@ impl Places {
     // Notes all tasks of the place with this number anew.
     fn renote<R: Rows>(&mut self, rows: &R, service: &Service, number: u64)
         requires usable { IsUsable (R.tables rows.now) }
-        requires number { number < 1024 }
+        requires number { number < WIDTH }
         ensures { let t = R.tables rows.now in
             self.new ≡ with_mark number (mark_of t service.now (tasks_at service.now t.tasks number)) self.old }
     {
@@ -193,7 +193,7 @@ impl Places {
 
     /// What is said of the place with this number.
     pub fn mark_at(&self, index: usize) -> Mark
-        requires { index < 1024 }
+        requires { index < WIDTH }
         ensures { result ≡ mark_at self.now index }
     {
         self.marks[index]

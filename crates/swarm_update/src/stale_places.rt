@@ -8,7 +8,7 @@ use crate::marks::WIDTH;
 pub const WORD: u64 = 64;
 
 /// How many words there are.
-pub const WORDS: u64 = 16;
+pub const WORDS: u64 = WIDTH as u64 / WORD;
 
 /// The numbers of the places whose tasks changed. Those from the width on are none of them.
 #[derive(Clone, Copy, Drop)]
