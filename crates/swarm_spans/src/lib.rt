@@ -14,9 +14,10 @@
 // a line of its own. Afterwards the lines' laws (`tasks_go_on`, `waiting_go_on`) say that each span covers in the
 // tables that the changes made.
 // `ServiceSpans` and `TaskSpans` have the spans of all lines, and do so for each of them (`touch`). Time and a node's
-// session are no rows: `with_time` and `with_session` say what they touch. What else changes (settings, networks, rows
-// that calls make or remove) makes all spans full. Where only a step's events are known, `events_tell_all` says that
-// what they don't name is as it was.
+// session are no rows: `touch_time` and `touch_session` say what they touch, and `touch_new_services` and
+// `touch_new_nodes` what rows touch that a call makes. What else changes (settings, networks, rows that calls remove)
+// makes all spans full. Where only a step's events are known, `events_tell_all` says that what they don't name is as it
+// was.
 #![tactic(auto)]
 
 mod adding;

@@ -49,16 +49,6 @@ fn put_nodes(changes: &[Change]) -> bool
     changes.iter().any(puts_node)
 }
 
-// The numbers of both.
-#[tactic(auto, using(crate::proofs::Services::Spans::joined))]
-fn joined(span: Span, more: Span) -> Span
-    ensures { Joins result span more }
-{
-    let mut both = span;
-    both.join(more);
-    both
-}
-
 // With the numbers of the other, which mostly has none.
 #[tactic(auto, using(crate::proofs::Services::Spans::widen_steps))]
 fn widen(span: &mut Span, more: &Span)
@@ -154,42 +144,34 @@ impl ServiceSpans {
 
     /// With what may have a duty as time goes by, and nothing else changes: updates that are under way, which wait for
     /// the ends of delays and monitors.
-    pub fn with_time<R: Rows>(self, rows: &R) -> ServiceSpans
+    pub fn touch_time<R: Rows>(&mut self, rows: &R)
         requires { IsUsable (R.tables rows.now) }
-        ensures goes_on { ServiceTimeLaw (R.tables rows.now) self result }
+        ensures goes_on { ServiceTimeLaw (R.tables rows.now) self.old self.new }
     {
-        ServiceSpans {
-            updates: joined(self.updates, services_updated(rows)),
-            ..self
-        }
+        let updated = services_updated(rows);
+        widen(&mut self.updates, &updated);
     }
 
     /// With services that come from this id on, and nothing else changes. Their ports may leave others fewer numbers.
-    pub fn with_services(self, first: Id) -> ServiceSpans
-        ensures goes_on { NewServicesLaw first self result }
+    pub fn touch_new_services(&mut self, first: Id)
+        ensures goes_on { NewServicesLaw first self.old self.new }
     {
         let new = Span::onwards(first);
-        ServiceSpans {
-            downs: joined(self.downs, new),
-            creates: joined(self.creates, new),
-            leaves: joined(self.leaves, new),
-            comes: joined(self.comes, new),
-            job_creates: joined(self.job_creates, new),
-            ports: Span::full(),
-            updates: joined(self.updates, new),
-            trims: self.trims,
-        }
+        widen(&mut self.downs, &new);
+        widen(&mut self.creates, &new);
+        widen(&mut self.leaves, &new);
+        widen(&mut self.comes, &new);
+        widen(&mut self.job_creates, &new);
+        self.ports = Span::full();
+        widen(&mut self.updates, &new);
     }
 
     /// With what may have a duty as nodes come, and nothing else changes: global services, which go by the nodes.
-    pub fn with_nodes(self) -> ServiceSpans
-        ensures goes_on { ServiceNodesLaw self result }
+    pub fn touch_new_nodes(&mut self)
+        ensures goes_on { ServiceNodesLaw self.old self.new }
     {
         let every = Span::full();
-        ServiceSpans {
-            leaves: every,
-            comes: every,
-            ..self
-        }
+        self.leaves = every;
+        self.comes = every;
     }
 }

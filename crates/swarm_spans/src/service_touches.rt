@@ -20,7 +20,9 @@ ghost use Rattle.swarm_spans.specs.Services.Touches.{HasPut, HasTouched};
 ghost use Rattle.swarm_spans.specs.Spans.{IsWider};
 
 use crate::span::Span;
-use swarm_objects::{Change, Id, Rows, RunStatus, Same, Service, Task, TaskState, Template};
+use swarm_objects::{
+    Change, Id, Rows, RunStatus, Same, Service, Shared, Task, TaskState, Template,
+};
 
 /// What a line over services sees of a service's task.
 pub trait Sight {
@@ -97,7 +99,7 @@ fn is_updated<R: Rows>(rows: &R, task: &Task) -> bool
 }
 
 // Both have one template.
-fn has_template(task: &Task, template: &Template) -> bool
+fn has_template(task: &Task, template: &Shared<Template>) -> bool
     ensures { IsTrue result ↔ (task.now.template ≡ template.now) }
 {
     task.template.same(template)

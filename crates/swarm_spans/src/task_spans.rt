@@ -194,58 +194,38 @@ impl TaskSpans {
 
     /// With what a node's session concerns, where it begins, is lengthened or ends. The node itself is a row: where it
     /// changes too, that is a change.
-    pub fn with_session(self, node: Id) -> TaskSpans
-        ensures goes_on { SessionLaw node self result }
+    pub fn touch_session(&mut self, node: Id)
+        ensures goes_on { SessionLaw node self.old self.new }
     {
-        let mut expires = self.expires;
-        expires.add(node);
-        let mut schedules = self.schedules;
-        schedules.join(self.to_schedule);
-        TaskSpans {
-            expires,
-            schedules,
-            ..self
-        }
+        self.expires.add(node);
+        self.schedules.join(self.to_schedule);
     }
 
     /// With what may have a duty as time goes by, and nothing else changes. At any time only tasks on nodes that are
     /// DOWN are orphans.
-    pub fn with_time<R: Rows>(self, rows: &R) -> TaskSpans
+    pub fn touch_time<R: Rows>(&mut self, rows: &R)
         requires { IsUsable (R.tables rows.now) }
-        ensures goes_on { TimeLaw (R.tables rows.now) self result }
+        ensures goes_on { TimeLaw (R.tables rows.now) self.old self.new }
     {
-        let mut raises = self.raises;
-        raises.join(self.to_wait);
-        let mut schedules = self.schedules;
-        schedules.join(self.to_schedule);
-        TaskSpans {
-            expires: Span::full(),
-            orphans: tasks_on_down(rows),
-            raises,
-            schedules,
-            ..self
-        }
+        self.expires = Span::full();
+        self.orphans = tasks_on_down(rows);
+        self.raises.join(self.to_wait);
+        self.schedules.join(self.to_schedule);
     }
 
     /// With what services that come concern, and nothing else changes: tasks that wait for port numbers, of which there
     /// are fewer to give out.
-    pub fn with_services(self) -> TaskSpans
-        ensures goes_on { ServicesLaw self result }
+    pub fn touch_new_services(&mut self)
+        ensures goes_on { ServicesLaw self.old self.new }
     {
-        let mut notes = self.notes;
-        notes.join(self.to_allocate);
-        TaskSpans { notes, ..self }
+        self.notes.join(self.to_allocate);
     }
 
     /// With what nodes that come concern, and nothing else changes: tasks that wait for a node.
-    pub fn with_nodes(self) -> TaskSpans
-        ensures goes_on { NodesLaw self result }
+    pub fn touch_new_nodes(&mut self)
+        ensures goes_on { NodesLaw self.old self.new }
     {
-        let mut waiting = self.schedules;
-        waiting.join(self.to_schedule);
-        TaskSpans {
-            schedules: waiting,
-            ..self
-        }
+        let waiting = self.to_schedule;
+        self.schedules.join(waiting);
     }
 }

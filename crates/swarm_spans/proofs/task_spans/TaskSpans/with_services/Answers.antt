@@ -1,8 +1,0 @@
-use Rattle.swarm_spans.proofs.Coming.{services_come}
-use Rattle.swarm_spans.proofs.task_spans.TaskSpans.with_services.Goals as goal
-
-pub returns : goal.returns
-returns c = record {
-  goes_on =
-      services_come c.args.self c.join.new.self c.join.ensures.wider c.join.ensures.all;
-}
