@@ -39,6 +39,7 @@ use Rattle.swarm_sched.specs.Inside.Bounds.{IsPlaceOf, bound}
 use Rattle.swarm_sched.specs.Inside.Classes.{AreBelow, AreFew, HaveClasses, entry_id}
 use Rattle.swarm_sched.specs.Inside.Known.{adds, one_if}
 use Rattle.swarm_sched.specs.Inside.Nearing.{IsPlace}
+use Rattle.swarm_sched.specs.Inside.Orders.{AreRivals, ClassOrders}
 use Rattle.swarm_sched.specs.Inside.Placing.{AreBehind, IsNodeLoad, Leads, LeadsAll, block_end, comes_first}
 use Rattle.swarm_sched.specs.Inside.Touching.{IsSpared, former_node, touched}
 use Rattle.swarm_sched.specs.declared.bounds.TheConstants.{BLOCK}
@@ -628,40 +629,53 @@ pub unset_class : (best : Option Node) (held : NodeLoad) (o : Option Ordering) (
 unset_class best held o None first none = tt
 unset_class best held o (Some n) first none = let both : false ≡ true = none in absurd cc
 
-pub leads_all : (best : Option Node) (held : NodeLoad) (orders : List (Option Ordering)) (block : List (Option ℕ))
-    (first count k : ℕ) → count ≤ k →
-    ((class : ℕ) → class < k →
-    IfSome (get_or block class (Some 0)) (λ least. Leads best held (get_or orders class None) least first)) →
-    LeadsAll best held orders count block first
-leads_all best held orders block first count k all each =
-    record { each = λ class lt. each class (omega (arith, all, lt)) }
+pub leads_all : (best : Option Node) (b : Node) (held : NodeLoad) (o : ClassOrders) (rivals : List ℕ)
+    (block : List (Option ℕ)) (first k : ℕ) → best ≡ Some b → AreRivals o rivals (length rivals) → length rivals ≤ k →
+    ((j d : ℕ) → j < k → IfSome (get_or block (get_or rivals j d) (Some 0))
+    (λ least. Leads best held (get_or o.each (get_or rivals j d) None) least first)) →
+    LeadsAll best held o block first
+leads_all best b held o rivals block first k some are all each =
+    record { each = λ class lt. at class (are.others class lt) }
+  where
+    at : (class : ℕ) →
+        (get_or o.each class None ≡ Some Greater)
+        ⊎ ((j : ℕ) × (j < length rivals) × ((d : ℕ) → get_or rivals j d ≡ class)) →
+        IfSome (get_or block class (Some 0)) (λ least. Leads best held (get_or o.each class None) least first)
+    at class (inl known) =
+        greater_class best b held (get_or o.each class None) (get_or block class (Some 0)) first some known
+    at class (inr rival) =
+        subst
+        (λ c. IfSome (get_or block c (Some 0)) (λ least. Leads best held (get_or o.each c None) least first))
+        (rival.2 0) (each rival.0 0 (omega (arith, rival.1, all)))
 
-pub leads_one : (best : Option Node) (held : NodeLoad) (orders : List (Option Ordering)) (block : List (Option ℕ))
-    (first k : ℕ) →
-    ((class : ℕ) → class < k →
-    IfSome (get_or block class (Some 0)) (λ least. Leads best held (get_or orders class None) least first)) →
-    IfSome (get_or block k (Some 0)) (λ least. Leads best held (get_or orders k None) least first) →
-    (class : ℕ) → class < k + 1 →
-    IfSome (get_or block class (Some 0)) (λ least. Leads best held (get_or orders class None) least first)
-leads_one best held orders block first k each own class lt = elim (decide class k) [
+pub leads_one : (best : Option Node) (held : NodeLoad) (orders : List (Option Ordering)) (rivals : List ℕ)
+    (block : List (Option ℕ)) (first k e : ℕ) → k < length rivals →
+    ((j d : ℕ) → j < k → IfSome (get_or block (get_or rivals j d) (Some 0))
+    (λ least. Leads best held (get_or orders (get_or rivals j d) None) least first)) →
+    IfSome (get_or block (get_or rivals k e) (Some 0))
+    (λ least. Leads best held (get_or orders (get_or rivals k e) None) least first) →
+    (j d : ℕ) → j < k + 1 →
+    IfSome (get_or block (get_or rivals j d) (Some 0))
+    (λ least. Leads best held (get_or orders (get_or rivals j d) None) least first)
+leads_one best held orders rivals block first k e there each own j d lt = elim (decide j k) [
   | inl same ↦
       subst (λ c. IfSome (get_or block c (Some 0)) (λ least. Leads best held (get_or orders c None) least first))
-      (sym same) own
-  | inr other ↦ each class (omega (arith, lt, other))
+      (get_or_default rivals k e d there ∙ ap (λ i. get_or rivals i d) (sym same)) own
+  | inr other ↦ each j d (omega (arith, lt, other))
 ]
 
 pub ruleset lead_steps = (greater_class, equal_class, none_class, unset_class, leads_all, leads_one)
 
-pub behind_all : (t : Tables) (service : ℕ) (nodes : List ClassedNode) (orders : List (Option Ordering))
-    (best : Option Node) (held : NodeLoad) (block : List (Option ℕ)) (count first place end : ℕ) (d : ClassedNode) →
-    IfSome best (λ b. IsNodeLoad t b.id service held) → LeadsAll best held orders count block first →
-    AreAtMost t nodes place end block → AreBelow count nodes → RisesFrom entry_id 0 nodes →
-    end ≤ length nodes → first ≡ (get_or nodes place d).id → AreBehind t service nodes orders best place end
-behind_all t service nodes orders best held block count first place end d own leads least few rises fits is = record {
+pub behind_all : (t : Tables) (service : ℕ) (nodes : List ClassedNode) (o : ClassOrders)
+    (best : Option Node) (held : NodeLoad) (block : List (Option ℕ)) (first place end : ℕ) (d : ClassedNode) →
+    IfSome best (λ b. IsNodeLoad t b.id service held) → LeadsAll best held o block first →
+    AreAtMost t nodes place end block → AreBelow o.count nodes → RisesFrom entry_id 0 nodes →
+    end ≤ length nodes → first ≡ (get_or nodes place d).id → AreBehind t service nodes o.each best place end
+behind_all t service nodes o best held block first place end d own leads least few rises fits is = record {
   each = λ j e ge lt.
       let class = (get_or nodes j e).class in
       let there : j < length nodes = omega (arith, lt, fits) in
-      go best own (get_or nodes j e).id (get_or block class (Some 0)) (get_or orders class None)
+      go best own (get_or nodes j e).id (get_or block class (Some 0)) (get_or o.each class None)
       (leads.each class (few (get_or nodes j e) (at_place nodes j e there))) (least.each j e ge lt)
       (above j e ge there);
 }
@@ -675,10 +689,10 @@ behind_all t service nodes orders best held block count first place end d own le
         omega (arith, from, is ∙ ap (λ (c : ClassedNode). c.id) same)
 
     go : (b : Option Node) → IfSome b (λ n. IsNodeLoad t n.id service held) → (id : ℕ) (r : Option ℕ)
-        (o : Option Ordering) → IfSome r (λ k. Leads b held o k first) → IsAtMost r (load t id) → first ≤ id →
-        (q : Ordering) × (o ≡ Some q) × (comes_first t service q id b ≡ false)
-    go b own id None o leads none le = absurd none
-    go None own id (Some k) o leads at le = absurd leads
+        (p : Option Ordering) → IfSome r (λ k. Leads b held p k first) → IsAtMost r (load t id) → first ≤ id →
+        (q : Ordering) × (p ≡ Some q) × (comes_first t service q id b ≡ false)
+    go b own id None p leads none le = absurd none
+    go None own id (Some k) p leads at le = absurd leads
     go (Some b) own id (Some k) None leads at le = absurd leads
     go (Some b) own id (Some k) (Some q) leads at le = (
       q,

@@ -351,6 +351,16 @@ searched_shut t x sorted orders more best i c o m at so row shut = record {
   all = at.all;
 }
 
+-- behind one whose node is known not to be
+pub searched_refused : (t : Tables) (x : Task) (sorted : List ClassedNode) (orders more : List (Option Ordering))
+    (best : Option Node)
+    (i : ℕ) (c : ClassedNode) (o : Ordering) → AtEntry t x sorted more best i c o →
+    IsSearched t x sorted orders best i →
+    ((n : Node) → row_at node_id c.id t.nodes ≡ Some n → is_open t x n ≡ false) →
+    IsSearched t x sorted more best (i + 1)
+searched_refused t x sorted orders more best i c o at so shut =
+    searched_shut t x sorted orders more best i c o at.node at so at.row (shut at.node at.row)
+
 -- behind one that is the best so far: what is known of the classes stays so where it compares as equal
 pub searched_best : (t : Tables) (x : Task) (sorted : List ClassedNode) (orders more after : List (Option Ordering))
     (best : Option Node)

@@ -44,4 +44,5 @@ knows_alike t u k tasks nodes knows = record {
   totals = totals-so t u k.totals tasks knows.totals;
   classes = classes-so t u k.classes tasks nodes knows.classes;
   refusals = refusals_alike t u k.refusals tasks nodes knows.refusals;
+  placed = refusals_alike t u k.placed tasks nodes knows.placed;
 }

@@ -6,10 +6,12 @@ mod Classing
 mod Halving
 mod Knowing
 pub mod KnownAlike
+mod LastRefusing
 mod OneAnswer
 mod Nearing
 mod Preferring
 mod Refusing
 mod Remembering
+mod Rivals
 mod Scheduling
 mod Totalling

@@ -309,7 +309,7 @@ length-forget : (k : Option ℕ) (all : List (Option Refusals)) → length (forg
 length-forget None all = refl
 length-forget (Some node) all = length-map all (without node)
 
-length-each : (t : Tables) (cs : List Change) (all : List (Option Refusals)) → length (forget_each t cs all) ≡ length all
+pub length-each : (t : Tables) (cs : List Change) (all : List (Option Refusals)) → length (forget_each t cs all) ≡ length all
 length-each t [] all = refl
 length-each t (c ∷ cs) all =
     length-each t cs (forget (touched t c).1 (forget (touched t c).0 all))

@@ -7,6 +7,7 @@ pub mod Known
 pub mod KnownNodes
 pub mod KnownRefusals
 pub mod Nearing
+pub mod Orders
 pub mod Placing
 pub mod Totals
 pub mod Touching

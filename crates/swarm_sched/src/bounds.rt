@@ -23,11 +23,13 @@ pub const BLOCK: usize = 16;
 
 /// For each block of sorted nodes, and each class, how many live tasks a node of it has at least, and None where no
 /// node of the class is in the block. A lower bound is enough: where it rules all nodes out, so do their tasks. It
-/// stays one where tasks come to a node, so it's made anew only where a block is looked at, and is 0 where tasks may
-/// have left. Of a block that isn't there, for want of memory, it is 0.
+/// stays one where tasks come to a node, so it's made anew only where a block is looked at that may have changed, and is
+/// 0 where tasks may have left. Of a block that isn't there, for want of memory, it is 0.
 #[derive(Drop)]
 pub struct Bounds {
     blocks: Vec<[Option<u64>; CLASSES]>,
+    // which blocks may have changed since they were measured: so may one that isn't there
+    changed: Vec<bool>,
 }
 
 impl Model for Bounds {
@@ -80,7 +82,7 @@ pub fn measured<R: Rows>(
     let mut block = [None; CLASSES];
     for place in from..end {
         let entry = nodes[place];
-        let load = known.totals(rows, entry.id, service).load;
+        let load = known.load(rows, entry.id, service);
         block[entry.class] = Some(lesser(block[entry.class], load));
     }
     block
@@ -112,19 +114,19 @@ fn left_node(former: &Task, task: &Task) -> Option<Id>
     None
 }
 
-// The only node that may have fewer live tasks after the change.
+// The only node that may have fewer live tasks after the change, and the only one that may have more.
 #[tactic(auto, using(crate::proofs::Bounding::only_steps))]
-fn lowered_node<R: Rows>(rows: &R, change: &Change) -> Option<Id>
+fn moved_nodes<R: Rows>(rows: &R, change: &Change) -> (Option<Id>, Option<Id>)
     requires { IsUsable (R.tables rows.now) }
-    ensures { IsOnly (R.tables rows.now) change.now result }
+    ensures { IsOnly (R.tables rows.now) change.now result.0 }
 {
     match change {
         Change::PutTask(task) => match rows.task(task.id) {
-            Some(former) => left_node(former, task),
-            None => None,
+            Some(former) => (left_node(former, task), left_node(task, former)),
+            None => (None, task.node),
         },
-        Change::DropTask(id) => former_node(rows, *id),
-        Change::PutNode(_) | Change::PutService(_) | Change::Keep(_) => None,
+        Change::DropTask(id) => (former_node(rows, *id), None),
+        Change::PutNode(_) | Change::PutService(_) | Change::Keep(_) => (None, None),
     }
 }
 
@@ -140,7 +142,9 @@ impl Bounds {
                 break;
             };
         }
-        Bounds { blocks }
+        let mut changed = Vec::new(alloc);
+        let _ = changed.resize(blocks.len(), true);
+        Bounds { blocks, changed }
     }
 
     /// What is kept of the block with this number.
@@ -153,13 +157,35 @@ impl Bounds {
         None
     }
 
-    /// This is so of the nodes of the block with this number.
-    pub fn note(&mut self, number: usize, block: [Option<u64>; CLASSES])
+    /// Its nodes may have other tasks than when it was measured.
+    pub fn may_have_changed(&self, number: usize) -> bool {
+        number >= self.changed.len() || self.changed[number]
+    }
+
+    // Whether they may is noted.
+    fn mark(&mut self, number: usize, changed: bool)
+        ensures { self.new ≡ self.old }
+    {
+        if number < self.changed.len() {
+            self.changed[number] = changed;
+        }
+    }
+
+    // This is kept of the block with this number.
+    fn put(&mut self, number: usize, block: [Option<u64>; CLASSES])
         ensures { IsNoted number block self.old self.new }
     {
         if number < self.blocks.len() {
             self.blocks[number] = block;
         }
+    }
+
+    /// This was measured of its nodes.
+    pub fn note(&mut self, number: usize, block: [Option<u64>; CLASSES])
+        ensures { IsNoted number block self.old self.new }
+    {
+        self.put(number, block);
+        self.mark(number, false);
     }
 
     // Nothing is known of the node any more.
@@ -172,7 +198,21 @@ impl Bounds {
             return;
         };
         if let Some(place) = place_of(nodes, node) {
-            self.note(place / BLOCK, [Some(0); CLASSES]);
+            self.put(place / BLOCK, [Some(0); CLASSES]);
+            self.mark(place / BLOCK, true);
+        }
+    }
+
+    // The node may have more tasks: what is known of it stays so.
+    fn raise(&mut self, nodes: &[ClassedNode], node: Option<Id>)
+        requires { RisesFrom entry_id 0 nodes.now }
+        ensures { self.new ≡ self.old }
+    {
+        let Some(node) = node else {
+            return;
+        };
+        if let Some(place) = place_of(nodes, node) {
+            self.mark(place / BLOCK, true);
         }
     }
 
@@ -205,7 +245,9 @@ impl Bounds {
             return;
         };
         if others.is_empty() {
-            self.lower(nodes, lowered_node(rows, change));
+            let (left, entered) = moved_nodes(rows, change);
+            self.lower(nodes, left);
+            self.raise(nodes, entered);
         } else {
             self.lower_each(nodes, rows, changes);
         }

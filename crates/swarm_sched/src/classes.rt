@@ -8,11 +8,13 @@ ghost use Rattle.swarm_objects.specs.Usable.{IsUsable};
 ghost use Rattle.swarm_sched.specs.Inside.Classes.{AreClasses, AreFew, AreSorted, HaveClasses, IsMore, IsOf, IsServed};
 ghost use Rattle.swarm_sched.specs.Inside.Classes.{classes, puts_node};
 ghost use Rattle.swarm_sched.specs.Inside.Known.{Knows};
+ghost use Rattle.swarm_sched.specs.Inside.KnownRefusals.{KnowsOwn};
 ghost use Rattle.swarm_sched.specs.declared.classes.TheConstants.{CLASSES};
 
 use crate::bounds::Bounds;
 use crate::keys::agrees;
 use crate::known::KnownTotals;
+use crate::known_refusals::Group;
 use crate::placing::best_of_classes;
 use std::alloc::Global;
 use std::marker::Model;
@@ -142,13 +144,16 @@ impl Asked {
         &mut self,
         rows: &'a R,
         known: &mut KnownTotals,
+        group: &mut Option<Group>,
         task: &Task,
     ) -> Option<Option<&'a Node>>
         requires usable { IsUsable (R.tables rows.now) }
         requires knows { Knows (R.tables rows.now) known.old }
+        requires own { KnowsOwn (R.tables rows.now) task.now group.old }
         requires classes { AreClasses (R.tables rows.now) (classes self.old) }
         ensures best { IfSome result (λ best. option_copied best ≡ best_node (R.tables rows.now) task.now) }
         ensures knows { Knows (R.tables rows.now) known.new }
+        ensures own { KnowsOwn (R.tables rows.now) task.now group.new }
         ensures classes { AreClasses (R.tables rows.now) (classes self.new) }
     {
         if !self.is_for(&task.template.spread) {
@@ -158,12 +163,21 @@ impl Asked {
             Sorting::Done(sorted) => Some(best_of_classes(
                 rows,
                 known,
+                group,
                 sorted.nodes.as_slice(),
                 &mut sorted.bounds,
                 sorted.count,
                 task,
             )),
             Sorting::NotYet | Sorting::InVain => None,
+        }
+    }
+
+    // How many nodes are sorted.
+    fn count(&self) -> usize {
+        match &self.sorting {
+            Sorting::Done(sorted) => sorted.nodes.len(),
+            Sorting::NotYet | Sorting::InVain => 0,
         }
     }
 
@@ -287,22 +301,33 @@ impl NodeClasses {
         }
     }
 
+    /// How many nodes are sorted.
+    pub fn count(&self) -> usize {
+        match &self.asked {
+            Some(asked) => asked.count(),
+            None => 0,
+        }
+    }
+
     /// The best of the nodes for the task; None where they aren't sorted by its preferences.
     pub fn best<'a, R: Rows>(
         &mut self,
         rows: &'a R,
         known: &mut KnownTotals,
+        group: &mut Option<Group>,
         task: &Task,
     ) -> Option<Option<&'a Node>>
         requires usable { IsUsable (R.tables rows.now) }
         requires knows { Knows (R.tables rows.now) known.old }
+        requires own { KnowsOwn (R.tables rows.now) task.now group.old }
         requires classes { AreClasses (R.tables rows.now) self.old }
         ensures best { IfSome result (λ best. option_copied best ≡ best_node (R.tables rows.now) task.now) }
         ensures knows { Knows (R.tables rows.now) known.new }
+        ensures own { KnowsOwn (R.tables rows.now) task.now group.new }
         ensures classes { AreClasses (R.tables rows.now) self.new }
     {
         match &mut self.asked {
-            Some(asked) => asked.best(rows, known, task),
+            Some(asked) => asked.best(rows, known, group, task),
             None => None,
         }
     }

@@ -1,6 +1,7 @@
 // What the tasks on nodes come to, as far as it is remembered from one placement to the next.
 ghost use Rattle.std.specs.Prelude.{◌≡◌, ◌≤◌, ◌+◌, ◌&&◌, ◌∷◌, [], IfSome, None, Some, length};
 ghost use Rattle.swarm_objects.specs.ChangeLists.{apply_changes};
+ghost use Rattle.swarm_objects.specs.Nodes.BestNode.{load};
 ghost use Rattle.swarm_objects.specs.Nodes.Filters.{here};
 ghost use Rattle.swarm_objects.specs.Nodes.Holdings.{is_placed_on, task_cpu, task_mem};
 ghost use Rattle.swarm_objects.specs.Tasks.Words.{is_live, is_of};
@@ -233,6 +234,25 @@ impl KnownTotals {
         if_of(node, slots[node as usize % slots.len()])
     }
 
+    // How many live tasks are remembered of the node. It is read where it stands: this is asked for node after node.
+    fn recall_load(&self, node: Id) -> Option<u64>
+        ensures { (t : Tables) → Knows t self.now → IfSome result (λ count. count ≡ load t node) }
+    {
+        if !self.is_fresh {
+            return None;
+        }
+        let Some(slots) = &self.slots else {
+            return None;
+        };
+        if slots.is_empty() {
+            return None;
+        }
+        match &slots[node as usize % slots.len()] {
+            Some(known) if known.node == node => Some(known.totals.load),
+            _ => None,
+        }
+    }
+
     // Empties the slots, where they hold what isn't true any more.
     #[tactic(auto, using(crate::proofs::Knowing::remember_steps))]
     fn refresh(&mut self)
@@ -454,6 +474,19 @@ impl KnownTotals {
         ensures knows { Knows (R.tables rows.now) self.new }
     {
         self.counted(rows, node, service).totals
+    }
+
+    /// How many live tasks the node has, of all services. They are counted as the totals are.
+    pub fn load<R: Rows>(&mut self, rows: &R, node: Id, service: Id) -> u64
+        requires usable { IsUsable (R.tables rows.now) }
+        requires knows { Knows (R.tables rows.now) self.old }
+        ensures load { result ≡ load (R.tables rows.now) node }
+        ensures knows { Knows (R.tables rows.now) self.new }
+    {
+        if let Some(count) = self.recall_load(node) {
+            return count;
+        }
+        self.totals(rows, node, service).load
     }
 
     /// How many of the node's live tasks are the service's. They are counted where they aren't remembered, as those of

@@ -8,16 +8,18 @@ ghost use Rattle.swarm_sched.specs.Inside.KnownNodes.{KnowsNodes};
 use crate::classes::NodeClasses;
 use crate::known::{KnownTotals, Moved};
 use crate::known_refusals::KnownRefusals;
+use crate::last_group::LastGroup;
 use std::alloc::Global;
 use swarm_objects::{Change, Rows};
 
-/// What the tasks on nodes come to, the nodes sorted by placement preferences, and which filters refused waiting tasks
-/// nodes.
+/// What the tasks on nodes come to, the nodes sorted by placement preferences, and which filters refused nodes waiting
+/// tasks and those that were placed last.
 #[derive(Drop)]
 pub struct KnownNodes {
     pub(crate) totals: KnownTotals,
     pub(crate) classes: NodeClasses,
     pub(crate) refusals: KnownRefusals,
+    pub(crate) placed: LastGroup,
 }
 
 impl KnownNodes {
@@ -29,6 +31,7 @@ impl KnownNodes {
             totals: KnownTotals::none(),
             classes: NodeClasses::none(),
             refusals: KnownRefusals::none(),
+            placed: LastGroup::none(),
         }
     }
 
@@ -40,6 +43,7 @@ impl KnownNodes {
             totals: KnownTotals::new(alloc),
             classes: NodeClasses::new(alloc),
             refusals: KnownRefusals::new(alloc),
+            placed: LastGroup::new(alloc),
         }
     }
 
@@ -55,6 +59,7 @@ impl KnownNodes {
         let moved = self.totals.forget_changed(rows, changes);
         self.classes.forget_changed(rows, changes);
         self.refusals.forget_changed(rows, changes);
+        self.placed.forget_changed(rows, changes);
         moved
     }
 
@@ -72,5 +77,6 @@ impl KnownNodes {
         self.totals.forget_all();
         self.classes.forget();
         self.refusals.forget_all();
+        self.placed.forget_all();
     }
 }

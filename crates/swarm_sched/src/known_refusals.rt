@@ -1,5 +1,5 @@
 // Which filters refused waiting tasks the nodes, as far as it is remembered from one placement to the next.
-ghost use Rattle.std.specs.Prelude.{◌≡◌, ◌<◌, IfSome, IsTrue, [], length, map};
+ghost use Rattle.std.specs.Prelude.{◌≡◌, ◌<◌, IfSome, IsTrue, None, [], length, map, replicate};
 ghost use Rattle.swarm_objects.specs.ChangeLists.{apply_changes};
 ghost use Rattle.swarm_objects.specs.Usable.{IsUsable};
 ghost use Rattle.swarm_objects.specs.World.{Tables};
@@ -11,7 +11,7 @@ use std::alloc::Global;
 use std::marker::Model;
 use std::mem;
 use swarm_objects::walks::nodes;
-use swarm_objects::{Change, Duplicate, Id, Rows, Same, Task, Template};
+use swarm_objects::{Change, Duplicate, Id, Rows, Same, Shared, Task, Template};
 
 // For so many groups of tasks something is remembered at once.
 const GROUPS: usize = 64;
@@ -32,7 +32,7 @@ pub struct Refusal {
 #[derive(Drop)]
 pub struct Group {
     service: Id,
-    template: Template,
+    template: Shared<Template>,
     slots: Vec<Option<Refusal>>,
 }
 
@@ -74,8 +74,8 @@ fn filter_of(node: Id, slot: Option<Refusal>) -> Option<u32>
 }
 
 impl Group {
-    // The task is one of them.
-    fn is_for(&self, task: &Task) -> bool
+    /// The task is one of them.
+    pub fn is_for(&self, task: &Task) -> bool
         ensures { IsTrue result → IsIn self.now task.now }
     {
         task.service == self.service && task.template.same(&self.template)
@@ -113,32 +113,73 @@ impl Group {
     }
 }
 
-// How many slots a group has: a power of two, and where it can be two a node.
+// How many slots a group has for so many nodes: a power of two, and where it can be two a node.
+fn slots_for(nodes: usize) -> usize {
+    nodes.saturating_mul(2).min(MOST_SLOTS).next_power_of_two()
+}
+
+// How many it has for all nodes.
 fn slot_count<R: Rows>(rows: &R) -> usize
     requires { IsUsable (R.tables rows.now) }
 {
     let mut count: usize = 0;
     for _node in nodes(rows) {
-        count = count.saturating_add(2);
+        count = count.saturating_add(1);
     }
-    count.min(MOST_SLOTS).next_power_of_two()
+    slots_for(count)
 }
 
-// The task's group, for which nothing is remembered so far.
+// So many empty slots, where there is memory.
+fn make_empty(slots: &mut Vec<Option<Refusal>>, count: usize) -> bool
+    ensures { IsTrue result → slots.new.items ≡ replicate count None }
+{
+    slots.clear();
+    slots.resize(count, None).is_ok()
+}
+
+// The task's group, for which nothing is remembered so far, with so many of these slots.
 #[tactic(auto, using(crate::proofs::Remembering::nothing_known))]
-fn new_group<R: Rows>(alloc: Global, rows: &R, task: &Task) -> Option<Group>
-    requires { IsUsable (R.tables rows.now) }
+fn empty_group(
+    alloc: Global,
+    mut slots: Vec<Option<Refusal>>,
+    count: usize,
+    task: &Task,
+) -> Option<Group>
     ensures { (t : Tables) → KnowsOwn t task.now result }
 {
-    let Ok(slots) = vec![in alloc; None; slot_count(rows)] else {
+    if !make_empty(&mut slots, count) {
         return None;
-    };
+    }
     let template = task.template.duplicate(alloc).ok()?;
     Some(Group {
         service: task.service,
         template,
         slots,
     })
+}
+
+// The same, with slots for all nodes.
+fn new_group<R: Rows>(alloc: Global, rows: &R, task: &Task) -> Option<Group>
+    requires { IsUsable (R.tables rows.now) }
+    ensures { (t : Tables) → KnowsOwn t task.now result }
+{
+    empty_group(alloc, Vec::new(alloc), slot_count(rows), task)
+}
+
+/// The same, with slots for so many nodes. Those of another group are used again.
+pub fn renewed_group(
+    alloc: Global,
+    former: Option<Group>,
+    nodes: usize,
+    task: &Task,
+) -> Option<Group>
+    ensures { (t : Tables) → KnowsOwn t task.now result }
+{
+    let slots = match former {
+        Some(group) => group.slots,
+        None => Vec::new(alloc),
+    };
+    empty_group(alloc, slots, slots_for(nodes), task)
 }
 
 // It is a group of the service.
@@ -198,8 +239,8 @@ fn forget_both(groups: &mut [Option<Group>], node: Option<Id>, former: Option<Id
     }
 }
 
-// Forgets the nodes that the changes touch.
-fn forget_each<R: Rows>(groups: &mut [Option<Group>], rows: &R, changes: &[Change])
+/// Forgets the nodes that the changes touch.
+pub fn forget_each<R: Rows>(groups: &mut [Option<Group>], rows: &R, changes: &[Change])
     ensures { groups.new ≡ forget_each (R.tables rows.now) changes.now groups.old }
 {
     let mut left = changes;

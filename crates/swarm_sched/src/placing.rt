@@ -7,27 +7,29 @@ ghost use Rattle.std.specs.declared.cmp.Ordering.TheVariants.{Less};
 ghost use Rattle.swarm_filters.specs.Tested.{is_open};
 ghost use Rattle.swarm_objects.specs.Nodes.BestNode.{best_node};
 ghost use Rattle.swarm_objects.specs.Nodes.Filters.{here};
-ghost use Rattle.swarm_objects.specs.Rows.{RisesFrom, node_id, row_at};
+ghost use Rattle.swarm_objects.specs.Rows.{Has, RisesFrom, node_id, row_at};
 ghost use Rattle.swarm_objects.specs.Usable.{IsUsable};
 ghost use Rattle.swarm_sched.specs.Inside.Bounds.{AreLeast};
 ghost use Rattle.swarm_sched.specs.Inside.Branches.{IsBranchOf};
 ghost use Rattle.swarm_sched.specs.Inside.Classes.{AreBelow, AreFew, AreSorted, HaveClasses, IsOrder, entry_id};
 ghost use Rattle.swarm_sched.specs.Inside.Known.{Knows};
 ghost use Rattle.swarm_sched.specs.Inside.KnownNodes.{KnowsNodes};
+ghost use Rattle.swarm_sched.specs.Inside.KnownRefusals.{KnowsOwn};
 ghost use Rattle.swarm_sched.specs.Inside.Placing.{AreBehind, IsNodeLoad, Leads, LeadsAll, block_end, comes_first};
-ghost use Rattle.swarm_sched.specs.Inside.Totals.{AreTotals};
+ghost use Rattle.swarm_sched.specs.declared.classes.TheConstants.{CLASSES};
 ghost use Rattle.swarm_spread.specs.Counts.{IsFor, Stands};
 
 use crate::bounds::{BLOCK, Bounds, bound_in, measured};
 use crate::branches::Branches;
 use crate::class_loads::branches_of;
-use crate::classes::{CLASSES, ClassedNode};
+use crate::classes::ClassedNode;
 use crate::filters::Filters;
 use crate::known::KnownTotals;
 use crate::known_nodes::KnownNodes;
-use crate::totals::{OneNode, Totals};
+use crate::known_refusals::Group;
+use crate::last_group::{is_open_in, is_refused};
+use crate::orders::Orders;
 use std::cmp::Ordering;
-use swarm_filters::is_open_by;
 use swarm_objects::loads::Loads;
 use swarm_objects::walks::nodes;
 use swarm_objects::{Id, Node, Rows, Task};
@@ -88,8 +90,7 @@ fn is_rival<R: Rows>(
         Ordering::Less => true,
         Ordering::Greater => false,
         Ordering::Equal => {
-            held.here > 0
-                || may_come_first(known.totals(rows, node, service).load, node, best.id, held)
+            held.here > 0 || may_come_first(known.load(rows, node, service), node, best.id, held)
         }
     }
 }
@@ -130,40 +131,33 @@ fn spread_order_by<'a, R: Rows>(
 // The same, remembered for the node's class.
 fn class_order<'a, R: Rows>(
     branches: &mut Branches<'a, R>,
-    orders: &mut [Option<Ordering>],
+    orders: &mut Orders,
     rows: &'a R,
     best: Option<&'a Node>,
     entry: ClassedNode,
     loads: (u64, u64),
 ) -> Ordering
-    requires class { entry.class < length orders.old }
+    requires class { entry.class < CLASSES }
     requires own { IfSome (row_at node_id entry.id (R.tables rows.now).nodes) (IsBranchOf branches.old loads.0) }
     requires best { IfSome best (λ b. IsBranchOf branches.old loads.1 b.now) }
-    ensures order { (get_or orders.old entry.class None ≡ Some result)
+    ensures order { (get_or orders.old.each entry.class None ≡ Some result)
         ⊎ IfSome (row_at node_id entry.id (R.tables rows.now).nodes)
         (λ n. IsOrder branches.old result n (option_copied best.entry)) }
-    ensures orders { orders.new ≡ set orders.old entry.class (Some result) }
+    ensures orders { orders.new ≡ record {
+      each = set orders.old.each entry.class (Some result);
+      count = orders.old.count;
+    } }
     ensures same { branches.new ≡ branches.old }
 {
-    if let Some(order) = orders[entry.class] {
+    if let Some(order) = orders.order(entry.class) {
         return order;
     }
     let order = match rows.node(entry.id) {
         Some(node) => spread_order_by(branches, best, node, loads),
         None => Ordering::Less,
     };
-    orders[entry.class] = Some(order);
+    orders.set(entry.class, order);
     order
-}
-
-// The node admits the task, where it is tested. What its tasks come to is known.
-fn is_open_with<R: Rows>(rows: &R, task: &Task, node: &Node, totals: Totals) -> bool
-    requires usable { IsUsable (R.tables rows.now) }
-    requires totals { AreTotals (R.tables rows.now) node.now.id totals }
-    ensures { result ≡ is_open (R.tables rows.now) task.now node.now }
-{
-    let loads = OneNode::new(rows, node.id, totals);
-    is_open_by(rows, &loads, task, node)
 }
 
 // What a node's class tells of it: how it compares with the best one so far by the placement preferences, and whether
@@ -178,6 +172,7 @@ struct Standing {
 // own are asked for last: they alone are counted for each service anew, and not where its class has none.
 fn if_better<R: Rows>(
     known: &mut KnownTotals,
+    group: &mut Option<Group>,
     rows: &R,
     task: &Task,
     standing: Standing,
@@ -187,15 +182,18 @@ fn if_better<R: Rows>(
 ) -> Option<NodeLoad>
     requires usable { IsUsable (R.tables rows.now) }
     requires knows { Knows (R.tables rows.now) known.old }
+    requires row { IfSome group.old (λ g. Has (R.tables rows.now).nodes node.now) }
+    requires own { KnowsOwn (R.tables rows.now) task.now group.old }
     requires none { IsTrue standing.has_none → here (R.tables rows.now) node.now.id task.now.service ≡ 0 }
     requires held { IfSome best (λ b. IsNodeLoad (R.tables rows.now) b.now.id task.now.service held) }
     ensures load { IfSome result (IsNodeLoad (R.tables rows.now) node.now.id task.now.service) }
     ensures better { is_some result ≡ (is_open (R.tables rows.now) task.now node.now
         && comes_first (R.tables rows.now) task.now.service standing.spread node.now.id (option_copied best.entry)) }
     ensures knows { Knows (R.tables rows.now) known.new }
+    ensures own { KnowsOwn (R.tables rows.now) task.now group.new }
 {
     let totals = known.totals(rows, node.id, task.service);
-    if !is_open_with(rows, task, node, totals) {
+    if !is_open_in(rows, group, task, node, totals) {
         return None;
     }
     let own = NodeLoad {
@@ -234,7 +232,7 @@ fn best_of_all<'a, R: Rows>(rows: &'a R, known: &mut KnownTotals, task: &Task) -
             spread,
             has_none: false,
         };
-        if let Some(own) = if_better(known, rows, task, standing, best, held, node) {
+        if let Some(own) = if_better(known, &mut None, rows, task, standing, best, held, node) {
             best = Some(node);
             held = own;
         }
@@ -242,46 +240,34 @@ fn best_of_all<'a, R: Rows>(rows: &'a R, known: &mut KnownTotals, task: &Task) -
     best
 }
 
-// The best node so far, its tasks, and how the classes compare with it by the placement preferences, where it is known.
+// The best node so far, its tasks, and how the classes compare with it by the placement preferences.
 #[derive(Clone, Copy)]
 struct Leader<'a> {
     best: Option<&'a Node>,
     held: NodeLoad,
-    orders: &'a [Option<Ordering>],
-    // how many classes there are
-    count: usize,
+    orders: &'a Orders,
 }
 
 impl<'a> Leader<'a> {
-    fn new(
-        best: Option<&'a Node>,
-        held: NodeLoad,
-        orders: &'a [Option<Ordering>],
-        count: usize,
-    ) -> Leader<'a>
-        ensures { result ≡ record { best = best.entry; held = held; orders = orders.entry; count = count } }
+    fn new(best: Option<&'a Node>, held: NodeLoad, orders: &'a Orders) -> Leader<'a>
+        ensures { result ≡ record { best = best.entry; held = held; orders = orders.entry } }
     {
-        Leader {
-            best,
-            held,
-            orders,
-            count,
-        }
+        Leader { best, held, orders }
     }
 
     // No node of the class in the block comes first, where none has a lesser id than this. How the class compares is
     // asked before what its nodes have: it may tell alone.
     #[tactic(auto, using(crate::proofs::Bounding::lead_steps))]
     fn leads_class(self, block: &[Option<u64>], class: usize, first: Id) -> bool
-        requires { class < length self.orders.now }
+        requires { class < CLASSES }
         ensures { IsTrue result → IfSome (get_or block.now class (Some 0)) (λ least.
-            Leads (option_copied self.entry.best) self.entry.held (get_or self.entry.orders.now class None) least
+            Leads (option_copied self.entry.best) self.entry.held (get_or self.entry.orders.now.each class None) least
             first) }
     {
         let Some(best) = self.best else {
             return false;
         };
-        match self.orders[class] {
+        match self.orders.order(class) {
             Some(Ordering::Greater) => true,
             Some(Ordering::Equal) => match bound_in(block, class) {
                 Some(least) => {
@@ -293,15 +279,18 @@ impl<'a> Leader<'a> {
         }
     }
 
-    // So it is for each class.
+    // So it is for each class. Those that compare as greater need not be asked.
     #[tactic(auto, using(crate::proofs::Bounding::lead_steps))]
     fn leads(self, block: &[Option<u64>], first: Id) -> bool
-        requires { self.count ≤ length self.orders.now }
         ensures { IsTrue result → LeadsAll (option_copied self.entry.best) self.entry.held
-            self.entry.orders.now self.entry.count block.now first }
+            self.entry.orders.now block.now first }
     {
-        for class in 0..self.count {
-            if !self.leads_class(block, class, first) {
+        if self.best.is_none() {
+            return false;
+        }
+        let rivals = self.orders.rivals();
+        for place in 0..rivals.len() {
+            if !self.leads_class(block, rivals[place], first) {
                 return false;
             }
         }
@@ -309,14 +298,14 @@ impl<'a> Leader<'a> {
     }
 
     // How each class there compares is known, and none comes before the best one's: so counts may tell.
-    fn is_told_by_counts(self, block: &[Option<u64>]) -> bool
-        requires { self.count ≤ length self.orders.now }
-    {
-        for class in 0..self.count {
+    fn is_told_by_counts(self, block: &[Option<u64>]) -> bool {
+        let rivals = self.orders.rivals();
+        for place in 0..rivals.len() {
+            let class = rivals[place];
             if bound_in(block, class).is_none() {
                 continue;
             }
-            match self.orders[class] {
+            match self.orders.order(class) {
                 Some(Ordering::Equal) | Some(Ordering::Greater) => {}
                 Some(Ordering::Less) | None => return false,
             }
@@ -325,7 +314,7 @@ impl<'a> Leader<'a> {
     }
 
     // Where a block begins at this place, none of its nodes comes first. What is kept of it may tell so, or else what
-    // is found now. It isn't asked where the best one has tasks of the service's own: others may have fewer of these.
+    // is found now, if it may have changed. It isn't asked where the best one has tasks of the service's own: others may have fewer of these.
     #[tactic(auto, using(crate::proofs::Bounding::block_steps))]
     fn leads_block<R: Rows>(
         self,
@@ -339,15 +328,14 @@ impl<'a> Leader<'a> {
         requires usable { IsUsable (R.tables rows.now) }
         requires knows { Knows (R.tables rows.now) known.old }
         requires held { IfSome self.best (λ b. IsNodeLoad (R.tables rows.now) b.now.id service self.held) }
-        requires orders { self.count ≤ length self.orders.now }
         requires few { AreFew nodes.now }
-        requires below { AreBelow self.count nodes.now }
+        requires below { AreBelow self.orders.now.count nodes.now }
         requires rises { RisesFrom entry_id 0 nodes.now }
         requires least { AreLeast (R.tables rows.now) nodes.now bounds.old }
         requires there { place < length nodes.now }
         ensures behind { IsTrue result →
-            AreBehind (R.tables rows.now) service nodes.now self.entry.orders.now (option_copied self.entry.best)
-            place (block_end nodes.now place) }
+            AreBehind (R.tables rows.now) service nodes.now self.entry.orders.now.each
+            (option_copied self.entry.best) place (block_end nodes.now place) }
         ensures least { AreLeast (R.tables rows.now) nodes.now bounds.new }
         ensures knows { Knows (R.tables rows.now) known.new }
     {
@@ -360,7 +348,7 @@ impl<'a> Leader<'a> {
             if self.leads(&block[..], first) {
                 return true;
             }
-            if !self.is_told_by_counts(&block[..]) {
+            if !bounds.may_have_changed(number) || !self.is_told_by_counts(&block[..]) {
                 return false;
             }
         }
@@ -381,11 +369,13 @@ fn block_end(nodes: &[ClassedNode], place: usize) -> usize
 }
 
 /// The same, where the nodes are sorted, into so many classes. A block of nodes of which none can come before the best
-/// one so far is left out, and so is the row of a node that its class decides. How the classes compare stays so with a
-/// new best node that is the former one's equal by the preferences.
+/// one so far is left out, and so is the row of a node that its class decides, or of one that is remembered as refused
+/// to the task's group. How the classes compare stays so with a new best node that is the former one's equal by the
+/// preferences.
 pub fn best_of_classes<'a, R: Rows>(
     rows: &'a R,
     known: &mut KnownTotals,
+    group: &mut Option<Group>,
     nodes: &[ClassedNode],
     bounds: &mut Bounds,
     count: usize,
@@ -393,21 +383,21 @@ pub fn best_of_classes<'a, R: Rows>(
 ) -> Option<&'a Node>
     requires usable { IsUsable (R.tables rows.now) }
     requires knows { Knows (R.tables rows.now) known.old }
+    requires own { KnowsOwn (R.tables rows.now) task.now group.old }
     requires sorted { AreSorted (R.tables rows.now).nodes task.now.template.spread nodes.now }
     requires least { AreLeast (R.tables rows.now) nodes.now bounds.old }
     requires classes { HaveClasses count nodes.now }
     ensures best { option_copied result ≡ best_node (R.tables rows.now) task.now }
     ensures knows { Knows (R.tables rows.now) known.new }
+    ensures own { KnowsOwn (R.tables rows.now) task.now group.new }
     ensures least { AreLeast (R.tables rows.now) nodes.now bounds.new }
 {
     let (mut branches, most) = branches_of(rows, task, nodes, count);
-    let mut orders = [None; CLASSES];
-    let mut best = None;
-    let mut branch = 0;
-    let mut held = NodeLoad::NONE;
+    let mut orders = Orders::new(count);
+    let (mut best, mut branch, mut held) = (None, 0, NodeLoad::NONE);
     let mut place = 0;
     while place < nodes.len() {
-        let leader = Leader::new(best, held, &orders, count);
+        let leader = Leader::new(best, held, &orders);
         if leader.leads_block(rows, known, task.service, nodes, bounds, place) {
             place = block_end(nodes, place);
             continue;
@@ -419,6 +409,9 @@ pub fn best_of_classes<'a, R: Rows>(
         if !is_rival(known, rows, task.service, spread, best, held, entry.id) {
             continue;
         }
+        if is_refused(group, entry.id) {
+            continue;
+        }
         let Some(node) = rows.node(entry.id) else {
             continue;
         };
@@ -426,12 +419,12 @@ pub fn best_of_classes<'a, R: Rows>(
             spread,
             has_none: own == 0,
         };
-        if let Some(load) = if_better(known, rows, task, standing, best, held, node) {
+        if let Some(load) = if_better(known, group, rows, task, standing, best, held, node) {
             best = Some(node);
             branch = own;
             held = load;
             if spread != Ordering::Equal {
-                orders = [None; CLASSES];
+                orders = Orders::new(count);
             }
         }
     }
@@ -448,7 +441,12 @@ pub fn best_node<'a, R: Rows>(rows: &'a R, known: &mut KnownNodes, task: &Task) 
 {
     let keys = &task.template.spread;
     known.classes.ask(rows, keys);
-    match known.classes.best(rows, &mut known.totals, task) {
+    let mut group = known.placed.take(known.classes.count(), task);
+    let best = known
+        .classes
+        .best(rows, &mut known.totals, &mut group, task);
+    known.placed.put(group);
+    match best {
         Some(best) => best,
         None => best_of_all(rows, &mut known.totals, task),
     }

@@ -10,3 +10,4 @@ pub record KnowsNodes (t : Tables) (k : KnownNodes) : Type 0 where
   pub totals : Knows t k.totals
   pub classes : AreClasses t k.classes
   pub refusals : KnowsRefusals t k.refusals
+  pub placed : KnowsRefusals t k.placed

@@ -1,6 +1,6 @@
 -- What is remembered of nodes that refused waiting tasks.
-use Rattle.std.specs.Prelude.{IfSome, List, None, Option, Some, Vec, [], find, get_or, if◌then◌else◌, length, map, not}
-use Rattle.std.specs.Prelude.{set, ℕ, ◌%◌, ◌==◌, ◌≡◌, ◌∷◌}
+use Rattle.std.specs.Prelude.{IfSome, List, None, Option, Some, Vec, [], find, get_or, if◌then◌else◌, is_some, length, map}
+use Rattle.std.specs.Prelude.{not, set, true, ℕ, ◌%◌, ◌==◌, ◌≡◌, ◌∷◌}
 use Rattle.swarm_objects.specs.Nodes.Filters.{passes}
 use Rattle.swarm_objects.specs.Rows.{Has}
 use Rattle.swarm_objects.specs.World.{Tables}
@@ -47,6 +47,11 @@ IsRefusal t g node filter =
 -- whatever is remembered for them is so
 pub record KnowsGroup (t : Tables) (g : Refusals) : Type 0 where
   pub each : (node : ℕ) → IfSome (recalled g node) (IsRefusal t g node)
+
+-- one is remembered for them of the node
+abbrev pub IsRefused : Option Refusals → ℕ → Type 0
+IsRefused None node = ⊥
+IsRefused (Some g) node = is_some (recalled g node) ≡ true
 
 -- so it is for all groups
 pub record KnowsRefusals (t : Tables) (all : List (Option Refusals)) : Type 0 where

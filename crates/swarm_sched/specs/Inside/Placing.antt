@@ -12,6 +12,7 @@ use Rattle.swarm_objects.specs.declared.nodes.Node.{Node}
 use Rattle.swarm_objects.specs.declared.tasks.Task.{Task}
 use Rattle.swarm_sched.specs.Inside.Branches.{preferences}
 use Rattle.swarm_sched.specs.Inside.Classes.{AreOrders}
+use Rattle.swarm_sched.specs.Inside.Orders.{ClassOrders}
 use Rattle.swarm_sched.specs.declared.bounds.TheConstants.{BLOCK}
 use Rattle.swarm_sched.specs.declared.classes.ClassedNode.{ClassedNode}
 use Rattle.swarm_sched.specs.declared.classes.TheConstants.{CLASSES}
@@ -45,10 +46,10 @@ Leads (Some b) held (Some o) least first = (here load id : ℕ) → least ≤ lo
     (ordering_then (nat_cmp load held.load) (nat_cmp id b.id)))) ≡ false
 
 -- so it is for each of so many classes by what its nodes in the block have at least, where there are any
-pub record LeadsAll (best : Option Node) (held : NodeLoad) (orders : List (Option Ordering)) (count : ℕ)
-    (block : List (Option ℕ)) (first : ℕ) : Type 0 where
-  pub each : (class : ℕ) → class < count →
-      IfSome (get_or block class (Some 0)) (λ least. Leads best held (get_or orders class None) least first)
+pub record LeadsAll (best : Option Node) (held : NodeLoad) (o : ClassOrders) (block : List (Option ℕ)) (first : ℕ) :
+    Type 0 where
+  pub each : (class : ℕ) → class < o.count →
+      IfSome (get_or block class (Some 0)) (λ least. Leads best held (get_or o.each class None) least first)
 
 -- where the block ends that begins at this place
 abbrev pub block_end : List ClassedNode → ℕ → ℕ

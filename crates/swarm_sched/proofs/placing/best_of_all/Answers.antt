@@ -6,6 +6,7 @@ use Rattle.swarm_objects.specs.Nodes.BestNode.{node_cmp}
 use Rattle.swarm_objects.specs.Rows.{least_by}
 use Rattle.swarm_objects.specs.declared.nodes.Node.{Node}
 use Rattle.swarm_objects.specs.declared.templates.Key.{Key}
+use Rattle.swarm_objects.specs.declared.templates.Template.{Template}
 use Rattle.swarm_sched.proofs.placing.best_of_all.Goals as goal
 
 pub loop-node-init : goal.loop-node-init
@@ -19,5 +20,6 @@ loop-node-init g c =
       held = tt;
       knows = c.requires.knows;
       own = c.new-branches.ensures
-          ∙ ap (λ (keys : List Key). record { tables = t; service = x.service; keys = keys }) c.as_slice.ensures;
+          ∙ ap (λ (keys : List Key). record { tables = t; service = x.service; keys = keys })
+          (c.as_slice.ensures ∙ ap (λ (m : Template). m.spread) c.deref.ensures);
     }

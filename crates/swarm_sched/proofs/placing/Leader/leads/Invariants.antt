@@ -4,8 +4,9 @@ use Rattle.std.specs.Prelude.{IfSome}
 use Rattle.swarm_sched.proofs.placing.Leader.leads.Given as goal
 use Rattle.swarm_sched.specs.Inside.Placing.{Leads}
 
-abbrev pub invariant-loop-class : goal.invariant-loop-class
-invariant-loop-class l =
-    (class : ℕ) → class < l.class →
-    IfSome (get_or l.block class (Some 0))
-    (λ least. Leads (option_copied l.self.best) l.self.held (get_or l.self.orders.now class None) least l.first)
+abbrev pub invariant-loop-place : goal.invariant-loop-place
+invariant-loop-place l =
+    (j d : ℕ) → j < l.place →
+    IfSome (get_or l.block (get_or l.rivals j d) (Some 0))
+    (λ least. Leads (option_copied l.self.best) l.self.held (get_or l.self.orders.now.each (get_or l.rivals j d) None)
+    least l.first)

@@ -11,7 +11,7 @@ returns-then-leads-clause-behind g c = λ led.
     let t = g.R.Rows.tables c.args.rows.now in
     let d : ClassedNode = record { id = 0; class = 0 } in
     behind_all t c.args.service c.args.nodes.now c.args.self.orders.now (option_copied c.args.self.best)
-    c.args.self.held c.in-Some.block.now c.args.self.count (get_or c.args.nodes.now c.args.place d).id c.args.place _ d
+    c.args.self.held c.in-Some.block.now (get_or c.args.nodes.now c.args.place d).id c.args.place _ d
     (held_copied t c.args.service c.args.self.held c.args.self.best c.requires.held)
     (c.leads.ensures c.if-leads.true)
     (kept_least t c.args.nodes.now c.args.bounds.now c.in-Some.block.now c.args.place (c.args.place / BLOCK)
@@ -23,7 +23,7 @@ returns-clause-behind g c = λ led.
     let t = g.R.Rows.tables c.args.rows.now in
     let d : ClassedNode = record { id = 0; class = 0 } in
     behind_all t c.args.service c.args.nodes.now c.args.self.orders.now (option_copied c.args.self.best)
-    c.args.self.held c.measured-block.result c.args.self.count (get_or c.args.nodes.now c.args.place d).id c.args.place
+    c.args.self.held c.measured-block.result (get_or c.args.nodes.now c.args.place d).id c.args.place
     _ d
     (held_copied t c.args.service c.args.self.held c.args.self.best c.requires.held)
     (c.leads-2.ensures led)

@@ -1,7 +1,7 @@
 use Rattle.std.proofs.Common.{None, ap, sym, ◌∙◌}
 use Rattle.std.specs.Option.{option_copied}
 use Rattle.swarm_sched.proofs.Bounding.{only_drop, only_new, only_put}
-use Rattle.swarm_sched.proofs.bounds.lowered_node.Goals as goal
+use Rattle.swarm_sched.proofs.bounds.moved_nodes.Goals as goal
 
 pub returns-in-Some : goal.returns-in-Some
 returns-in-Some g c =
