@@ -9,6 +9,7 @@ use crate::work::{Counted, TurnWork};
 use atomic_table::{Seat, Table};
 use crossbeam_utils::sync::EventCount;
 use std::alloc::Global;
+use std::hint::spin_loop;
 use std::sync::Wait;
 use swarm_objects::{List, NoMemory};
 
@@ -20,6 +21,9 @@ const SERVING: usize = 1;
 const COUNT: usize = 2;
 
 const VALUE: usize = 0;
+
+// So often a caller looks before it rests: most turns take a few microseconds, less than to fall asleep and be woken.
+const LOOKS: u32 = 64;
 
 /// One value, which callers with a pass use in turns. Each turn begins with the value that the last one left, so all
 /// callers see one history.
@@ -179,12 +183,33 @@ impl<V: Counted> TurnCell<V> {
         self.table.shared.load::<Look>(seat, SERVING)
     }
 
+    // Looks some times, without a rest. Whether the caller has its turn.
+    fn look_again(&self, seat: &mut Seat<Option<V>, View<V::Item>>, ticket: u64) -> bool
+        requires table { seat.old.table_id ≡ self.now.table.shared.table_id }
+        requires waits { Waits ticket (own_account seat.old.me.0) seat.old.me }
+        ensures same { (seat.new.table_id ≡ seat.old.table_id) × (seat.new.id ≡ seat.old.id) }
+        ensures turn { MatchBool result
+            (Takes V.entries V.caller (own_account seat.old.me.0) seat.new.me)
+            (seat.new.me ≡ seat.old.me) }
+    {
+        for _ in 0..LOOKS {
+            if self.look(seat, ticket) == ticket {
+                return true;
+            }
+            spin_loop();
+        }
+        false
+    }
+
     fn wait_for_turn<R: Wait>(&self, rt: &R, seat: &mut Seat<Option<V>, View<V::Item>>, ticket: u64)
         requires table { seat.old.table_id ≡ self.now.table.shared.table_id }
         requires waits { Waits ticket (own_account seat.old.me.0) seat.old.me }
         ensures same { (seat.new.table_id ≡ seat.old.table_id) × (seat.new.id ≡ seat.old.id) }
         ensures turn { Takes V.entries V.caller (own_account seat.old.me.0) seat.new.me }
     {
+        if self.look_again(seat, ticket) {
+            return;
+        }
         for _ in rt.forever() {
             // announced before the test, so that no turn ends unnoticed between the test and the sleep
             let key = self.resting.prepare_wait();
