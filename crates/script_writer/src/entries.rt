@@ -9,7 +9,11 @@ ghost use Rattle.script_writer.specs.Behind.{behind};
 
 use crate::calls::put_call;
 use std::alloc::{AllocError, Global};
+use std::fmt::Write;
 use swarm_objects::{Entry, List, NoMemory, What, put_duty};
+
+// Room for the line of a duty, as most entries are: it needn't grow.
+const USUAL: usize = 64;
 
 #[tactic(auto, using(crate::proofs::Fronts::duty_behind))]
 fn put_what(text: &mut String, what: &What) -> Result<(), AllocError>
@@ -28,7 +32,8 @@ fn put_what(text: &mut String, what: &What) -> Result<(), AllocError>
 pub fn line_of(alloc: Global, entry: &Entry) -> Result<List<u8>, NoMemory>
     ensures { IfOk result (λ line. line ≡ entry_text entry.now) }
 {
-    let mut text = entry.by.to_string(alloc)?;
+    let mut text = String::with_capacity(alloc, USUAL)?;
+    write!(text, "{}", entry.by)?;
     put_what(&mut text, &entry.what)?;
     text.push_str("\n")?;
     Ok(List::from_vec(text.into_bytes()))
