@@ -53,6 +53,7 @@ impl Steps {
 }
 
 // What the span has up to this number.
+#[tactic(auto, using(crate::proofs::Ends::cut_is))]
 fn end(span: Span, last: Id) -> Span
     ensures { IsEnded last span result }
 {
@@ -109,22 +110,14 @@ impl AgentSpans {
     }
 
     /// With the agents of nodes that come from this id on: a new agent may have any duty.
-    pub fn with_nodes(self, first: Id) -> AgentSpans
-        ensures { AreWiderFrom first result self }
+    pub fn touch_new_nodes(&mut self, first: Id)
+        ensures { AreWiderFrom first self.new self.old }
     {
         let new = Span::onwards(first);
-        let mut duties = self.duties;
-        duties.join(new);
-        let mut tells = self.tells;
-        tells.join(new);
-        let mut news = self.news;
-        news.join(new);
-        AgentSpans {
-            duties,
-            tells,
-            news,
-            steps: Steps::none(),
-        }
+        self.duties.join(new);
+        self.tells.join(new);
+        self.news.join(new);
+        self.steps = Steps::none();
     }
 
     /// The nodes above this one leave the spans: there are none.

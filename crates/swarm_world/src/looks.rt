@@ -12,7 +12,7 @@ ghost use Rattle.swarm_objects.specs.World.{World};
 ghost use Rattle.swarm_spans.specs.Spans.{is_in};
 ghost use Rattle.swarm_world.specs.Inside.Looks.{AreSpanned, EachRises, HasNoStep, IsAsked, IsHeard, IsPassed, MayBeTold, MayHaveNews, is_told, is_unsaid, looked_at, wants_message};
 ghost use Rattle.swarm_world.specs.Inside.Records.{tables_of};
-ghost use Rattle.swarm_world.specs.Inside.Spanned.{AgentsSpanLaw, IsLast};
+ghost use Rattle.swarm_world.specs.Inside.Spanned.{AgentsSpanLaw, AreUpTo};
 
 use crate::agent_spans::{AgentSpans, Steps};
 use crate::records::Records;
@@ -385,7 +385,7 @@ fn next_agent_in<'a>(agents: &'a Agents, span: &Span) -> Option<(&'a Id, &'a Age
 // The node of the last agent; 0 where there is none.
 fn last_node(agents: &Agents) -> Id
     requires { RisesFrom agent_node 0 agents.now }
-    ensures { IsLast agents.now result }
+    ensures { AreUpTo agents.now result }
 {
     match agents.iter().next_back() {
         Some((node, _)) => *node,
@@ -394,7 +394,7 @@ fn last_node(agents: &Agents) -> Id
 }
 
 // Where the first span has no end, as after a tick, all of them end with the last agent. A number that is passed leaves
-// a span for good only where the end is near; before that its bit stays, and the agent is looked at again.
+// a span for good only where the end is near; before that its bit stays, and a duty of a lower one brings it back.
 #[tactic(auto, using(crate::proofs::Ends::end_steps))]
 fn end_spans(agents: &Agents, spans: &mut AgentSpans)
     requires { RisesFrom agent_node 0 agents.now }
@@ -406,6 +406,7 @@ fn end_spans(agents: &Agents, spans: &mut AgentSpans)
 }
 
 /// The first duty of the agents' loop, where the spans have each node whose agent has one. Nodes before it leave them.
+#[inline(never)] // as the loops over the rows are, for the sake of idle ones
 #[tactic(auto, using(crate::proofs::AsksIn::asks_steps))]
 pub fn agents_first_in(
     records: &Records,

@@ -1,6 +1,6 @@
 // Where a duty of the control loops over the rows may be: for each line of duties the span of the rows that may have
 // one.
-ghost use Rattle.std.specs.Prelude.{◌≡◌, ◌≤◌, ◌++◌, ◌∷◌, List as Seq, Option as Optional, [], false, flat_map, true, ℕ};
+ghost use Rattle.std.specs.Prelude.{◌≡◌, ◌≤◌, ◌++◌, ◌∷◌, IsTrue, List as Seq, None, Option as Optional, [], false, flat_map, true, ℕ};
 ghost use Rattle.std.specs.List.{list_all};
 ghost use Rattle.swarm_model.specs.History.{IsLegal, replay};
 ghost use Rattle.swarm_objects.specs.declared.calls.Entry.{Entry};
@@ -20,7 +20,7 @@ ghost use Rattle.swarm_spans.specs.TasksCovered.{NodesLaw, ServicesLaw, SessionL
 ghost use Rattle.swarm_world.specs.Inside.Kept.{IsFirst};
 ghost use Rattle.swarm_world.specs.Inside.Known.{AreForeseen, ForgetsServices, KnowsAll};
 ghost use Rattle.swarm_world.specs.Inside.Looks.{no_steps};
-ghost use Rattle.swarm_world.specs.Inside.Marks.{AreMarked, IsAfterCall, IsMarked, is_idle, makes_node, makes_service};
+ghost use Rattle.swarm_world.specs.Inside.Marks.{AreMarked, IsAfterCall, IsMarked, makes_node, makes_service};
 ghost use Rattle.swarm_world.specs.Inside.Parts.{HasHistory, StandsFor};
 ghost use Rattle.swarm_world.specs.Inside.Records.{tables_of};
 ghost use Rattle.swarm_world.specs.Inside.Spanned.{AreWiderFrom, news_by, steps_by};
@@ -334,8 +334,8 @@ impl Marks {
         ensures news { self.new.agents.news ≡ self.old.agents.news }
         ensures steps { self.new.agents.steps ≡ no_steps }
     {
-        self.tasks = self.tasks.with_time(records);
-        self.services = self.services.with_time(records);
+        self.tasks.touch_time(records);
+        self.services.touch_time(records);
         self.known.pass_time();
         self.agents.duties = Span::full();
         self.agents.steps = Steps::none();
@@ -348,8 +348,8 @@ impl Marks {
         ensures agents { self.new.agents ≡ self.old.agents }
         ensures known { ForgetsServices self.old.known self.new.known }
     {
-        self.tasks = self.tasks.with_services();
-        self.services = self.services.with_services(first);
+        self.tasks.touch_new_services();
+        self.services.touch_new_services(first);
         self.known.forget_services();
     }
 
@@ -360,9 +360,9 @@ impl Marks {
         ensures agents { AreWiderFrom first self.new.agents self.old.agents }
         ensures known { (t : Tables) → KnowsAll t self.new.known }
     {
-        self.tasks = self.tasks.with_nodes();
-        self.services = self.services.with_nodes();
-        self.agents = self.agents.with_nodes(first);
+        self.tasks.touch_new_nodes();
+        self.services.touch_new_nodes();
+        self.agents.touch_new_nodes(first);
         self.known.forget_all();
     }
 
@@ -450,10 +450,11 @@ impl Marks {
         ensures known { self.new.known ≡ self.old.known }
         ensures agents { self.new.agents ≡ self.old.agents }
     {
-        self.tasks = self.tasks.with_session(node);
+        self.tasks.touch_session(node);
     }
 
     // The first duty of a control loop over the rows. Rows before it, which have none, leave their spans.
+    #[inline(never)] // so that `find` passes an idle loop without this one's frame
     #[tactic(auto, using(crate::proofs::Marking::line_steps))]
     fn first<R: Rows>(&mut self, rows: &R, role: Role) -> Option<Duty>
         requires usable { IsUsable (R.tables rows.now) }
@@ -494,9 +495,12 @@ impl Marks {
         }
     }
 
-    // No row is in a span of the loop, so it has no duty.
+    // No row is in a span of the loop over rows, so it has no duty.
+    #[tactic(auto, using(crate::proofs::Idle::idle_steps))]
     fn is_idle(&self, role: Role) -> bool
-        ensures { result ≡ is_idle role self.now }
+        requires { is_agents role ≡ false }
+        ensures { IsTrue result → (t : Tables) → IsUsable t → AreMarked self.now t →
+            None ≡ first_of (duties role (world_with t)) }
     {
         let tasks = &self.tasks;
         let services = &self.services;
@@ -515,7 +519,7 @@ impl Marks {
             }
             Role::Scheduler => tasks.schedules.is_over(),
             Role::Reaper => tasks.deletes.is_over() && services.trims.is_over(),
-            Role::Agents => self.agents.duties.is_over(),
+            Role::Agents => unreachable!(),
         }
     }
 

@@ -1,5 +1,5 @@
 -- What the spans of a world cover.
-use Rattle.std.specs.Prelude.{Bool, List, false, nat_le, true, ◌&&◌, ◌⊎◌}
+use Rattle.std.specs.Prelude.{Bool, List, false, true, ◌⊎◌}
 use Rattle.swarm_model.specs.History.{replay, step}
 use Rattle.swarm_objects.specs.World.{Tables}
 use Rattle.swarm_objects.specs.declared.calls.Call.{Call}
@@ -7,10 +7,7 @@ use Rattle.swarm_objects.specs.declared.calls.Entry.{Entry}
 use Rattle.swarm_objects.specs.declared.calls.Op.TheVariants as op
 use Rattle.swarm_objects.specs.declared.calls.Op.{Op}
 use Rattle.swarm_objects.specs.declared.calls.What.TheVariants as what
-use Rattle.swarm_objects.specs.declared.loops.Role.TheVariants as role
-use Rattle.swarm_objects.specs.declared.loops.Role.{Role}
 use Rattle.swarm_spans.specs.Services.Touches.{AreCovered}
-use Rattle.swarm_spans.specs.declared.span.Span.{Span}
 use Rattle.swarm_spans.specs.TasksCovered.{AreTasksCovered}
 use Rattle.swarm_world.specs.Inside.Known.{KnowsAll}
 use Rattle.swarm_world.specs.Inside.Parts.{StandsFor}
@@ -41,21 +38,3 @@ makes_service _ = false
 abbrev pub makes_node : Op → Bool
 makes_node (op.CreateNode name draft) = true
 makes_node _ = false
-
--- it has no number
-abbrev pub is_over : Span → Bool
-is_over span = nat_le span.high span.after
-
--- so has each span of the loop
-abbrev pub is_idle : Role → Marks → Bool
-is_idle role.Dispatcher m = is_over m.tasks.expires && is_over m.tasks.orphans
-is_idle role.Enforcer m = is_over m.tasks.rejects
-is_idle role.Restart m = is_over m.tasks.restarts && is_over m.tasks.raises
-is_idle role.Update m = is_over m.services.updates
-is_idle role.Replicated m = is_over m.tasks.goes && is_over m.services.downs && is_over m.services.creates
-is_idle role.Global m = is_over m.services.leaves && is_over m.services.comes
-is_idle role.Job m = is_over m.tasks.olds && is_over m.services.job_creates
-is_idle role.Allocator m = is_over m.services.ports && is_over m.tasks.addresses && is_over m.tasks.notes
-is_idle role.Scheduler m = is_over m.tasks.schedules
-is_idle role.Reaper m = is_over m.tasks.deletes && is_over m.services.trims
-is_idle role.Agents m = is_over m.agents.duties

@@ -1,5 +1,5 @@
 -- The spans that the world keeps of the agents' loop.
-use Rattle.std.specs.Prelude.{List, false, if◌then◌else◌, nat_lt, true, ℕ, ◌&&◌, ◌==◌, ◌≡◌, ◌≤◌}
+use Rattle.std.specs.Prelude.{List, false, if◌then◌else◌, nat_le, nat_lt, true, ℕ, ◌&&◌, ◌==◌, ◌≡◌, ◌≤◌}
 use Rattle.swarm_model.specs.History.{IsLegal, replay, step}
 use Rattle.swarm_objects.specs.ChangeLists.{Makes}
 use Rattle.swarm_objects.specs.Duties.{is_due}
@@ -41,9 +41,9 @@ pub record AreWiderFrom (first : ℕ) (wide spans : AgentSpans) : Type 0 where
   pub news : IsWider wide.news (onwards first)
   pub steps : wide.steps ≡ no_steps
 
--- it has what it had up to this number
+-- it has exactly what it had up to this number
 pub record IsEnded (last : ℕ) (span ended : Span) : Type 0 where
-  pub has : (id : ℕ) → id ≤ last → is_in span id ≡ true → is_in ended id ≡ true
+  pub is : (id : ℕ) → is_in ended id ≡ (is_in span id && nat_le id last)
 
 -- so do all three, and what is known of steps stays
 pub record AreEnded (last : ℕ) (spans ended : AgentSpans) : Type 0 where
@@ -53,7 +53,7 @@ pub record AreEnded (last : ℕ) (spans ended : AgentSpans) : Type 0 where
   pub steps : ended.steps ≡ spans.steps
 
 -- no agent is of a node above this one
-pub record IsLast (agents : List NodeAgent) (last : ℕ) : Type 0 where
+pub record AreUpTo (agents : List NodeAgent) (last : ℕ) : Type 0 where
   pub each : (a : NodeAgent) → Has agents a → a.node ≤ last
 
 -- a node that registers is sent all that is due; no other duty of the agents' loop makes a message due

@@ -2,7 +2,6 @@ use Rattle.std.proofs.Common.{sym, ◌∙◌}
 use Rattle.swarm_model.specs.History.{replay}
 use Rattle.swarm_world.proofs.Choosing.{executors_rise, first-of-agents, first-of-rows}
 use Rattle.swarm_world.proofs.Entering.{are_usable}
-use Rattle.swarm_world.proofs.Idle.{idle-none}
 use Rattle.swarm_world.proofs.Marked.{agents_rise, still_marked}
 use Rattle.swarm_world.proofs.Recorded.{usable_rows}
 use Rattle.swarm_world.proofs.marks.Marks.find.Goals as goal
@@ -27,11 +26,13 @@ returns-then-is_agents-clause-first c = λ h stands.
     ∙ first-of-agents c.times_that_no_step_looks_at.ensures c.args.parts.now c.args.role (replay h)
     (sym c.is_agents.ensures ∙ c.if-is_agents.true) stands
 
+pub is_idle-requires : goal.is_idle-requires
+is_idle-requires c = sym c.is_agents.ensures ∙ c.if-is_agents.false
+
 pub returns-then-is_idle-clause-first : goal.returns-then-is_idle-clause-first
 returns-then-is_idle-clause-first c = λ h stands.
-    idle-none c.args.role c.args.self.now (tables_of c.args.parts.now.records)
-    (usable_rows c.args.parts.now.records (are_usable c.args.parts.now c.requires.at))
-    (sym c.is_agents.ensures ∙ c.if-is_agents.false) c.requires.marks.rows (sym c.is_idle.ensures ∙ c.if-is_idle.true)
+    c.is_idle.ensures c.if-is_idle.true (tables_of c.args.parts.now.records)
+    (usable_rows c.args.parts.now.records (are_usable c.args.parts.now c.requires.at)) c.requires.marks.rows
     ∙ first-of-rows c.args.parts.now c.args.role (replay h) (sym c.is_agents.ensures ∙ c.if-is_agents.false) stands
 
 pub returns-clause-first : goal.returns-clause-first
