@@ -6,3 +6,4 @@ mod Heard
 mod Seen
 mod Near
 mod ByNode
+mod Sleeping

@@ -1,4 +1,5 @@
 pub mod Lookup
 pub mod Named
 pub mod Near
+pub mod Sleeping
 pub mod Undo

@@ -4,6 +4,7 @@ ghost use Rattle.std.specs.Slice.Iter.{iter_rest};
 ghost use Rattle.swarm_objects.specs.Agents.NodeAgents.{lost};
 ghost use Rattle.std.specs.List.{list_all};
 ghost use Rattle.swarm_agent.specs.Inside.Named.{named_or_gone};
+ghost use Rattle.swarm_agent.specs.Inside.Sleeping.{AllSleepUntil};
 ghost use Rattle.swarm_objects.specs.Bounds.{has_near_times};
 ghost use Rattle.std.specs.Option.{option_copied};
 ghost use Rattle.swarm_objects.specs.Agents.Messages.{change_executor};
@@ -12,7 +13,7 @@ ghost use Rattle.swarm_objects.specs.Loops.Agents.{stepped, told};
 ghost use Rattle.swarm_objects.specs.Rows.{IsRising, drop_row, executor_task, row_at, rows_above, with_row};
 
 use crate::searching::{is_at, lesser, row_of, rows_above};
-use crate::steps::{is_late, make_step};
+use crate::steps::{is_late, make_step, wake_time};
 use std::alloc::Global;
 use std::collections::BTreeSet;
 use std::marker::Model;
@@ -96,22 +97,40 @@ fn forget(rows: &mut Vec<Executor>, task: Id)
     }
 }
 
-/// Executors, by rising task. Contracts see them as a list.
+// A time until which all of them sleep.
+fn least_wake(rows: &[Executor]) -> Ms
+    ensures { AllSleepUntil result rows.now }
+{
+    let mut least = Ms::MAX;
+    for executor in rows {
+        least = least.min(wake_time(executor));
+    }
+    least
+}
+
+// So many executors are gone over at each step for the time until which they sleep. Of more it stays what it was: a
+// step doesn't cost more where there are many.
+const FEW: usize = 32;
+
+/// Executors, by rising task. Contracts see them as a list. Beside them stands a time until which all of them sleep:
+/// none has a step before it, and no timed phase ends before it. Most run and wait for nothing, so most questions for
+/// what is due end there.
 #[derive(Drop)]
 pub struct Executors {
     rows: Vec<Executor>,
+    wakes: Ms,
 }
 
 impl Model for Executors {
     ghost use Rattle.std.specs.Prelude.{List};
-    ghost use Rattle.swarm_objects.specs.Rows.{IsRising, executor_task};
+    ghost use Rattle.swarm_agent.specs.Inside.Sleeping.{AreKept};
     ghost use Rattle.swarm_objects.specs.declared.agents.Executor.{Executor as Row};
 
     ghost Value = { List Row };
 
     ghost view = { λ e. e.rows.items };
 
-    ghost invariant = { λ e. IsRising executor_task e.rows.items };
+    ghost invariant = { λ e. AreKept e.rows.items e.wakes };
 }
 
 impl Executors {
@@ -121,7 +140,15 @@ impl Executors {
     {
         Executors {
             rows: Vec::new(alloc),
+            wakes: Ms::MAX,
         }
+    }
+
+    /// A time until which all of them sleep.
+    pub fn wakes(&self) -> Ms
+        ensures { AllSleepUntil result self.now }
+    {
+        self.wakes
     }
 
     /// All of them, by rising task.
@@ -152,7 +179,17 @@ impl Executors {
     pub fn set(&mut self, executor: Executor)
         ensures { self.new ≡ change_executor executor.task (λ _. executor) self.old }
     {
+        self.wakes = self.wakes.min(wake_time(&executor));
         replace(&mut self.rows, executor);
+    }
+
+    // The time until which they sleep is found anew, as it may be later than what is remembered; not of many.
+    fn renew(&mut self)
+        ensures { self.new ≡ self.old }
+    {
+        if self.rows.len() <= FEW {
+            self.wakes = least_wake(self.rows.as_slice());
+        }
     }
 
     /// The executor of the task makes the step that is due.
@@ -164,6 +201,7 @@ impl Executors {
         if let Some(mut executor) = executor_of(self, task) {
             make_step(&mut executor, now);
             self.set(executor);
+            self.renew();
         }
     }
 
@@ -182,6 +220,7 @@ impl Executors {
         ensures ok { OnOk result (self.new ≡ with_row executor_task executor self.old) }
         ensures err { OnErr result (self.new ≡ self.old) }
     {
+        self.wakes = self.wakes.min(wake_time(&executor));
         put(&mut self.rows, executor)
     }
 
@@ -190,6 +229,7 @@ impl Executors {
         ensures { self.new ≡ map (lost 0) self.old }
     {
         lose_all(self.rows.as_mut_slice());
+        self.wakes = least_wake(self.rows.as_slice());
     }
 
     /// Those of other tasks than these are gone.
@@ -197,6 +237,7 @@ impl Executors {
         ensures { self.new ≡ map (named_or_gone named.now) self.old }
     {
         leave_all_out(named, self.rows.as_mut_slice());
+        self.wakes = least_wake(self.rows.as_slice());
     }
 
     /// The executor of the task goes.

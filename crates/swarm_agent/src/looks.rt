@@ -15,6 +15,9 @@ use swarm_objects::{Executor, Id, Ms, TaskState, rank};
 pub fn first_step_above(executors: &Executors, after: Id, now: Ms) -> Option<Id>
     ensures { result ≡ first_task (has_step now) (rows_above executor_task after executors.now) }
 {
+    if now < executors.wakes() {
+        return None;
+    }
     for executor in executors.above(after) {
         if has_step(now, executor) {
             return Some(executor.task);

@@ -1,6 +1,7 @@
 // The executors' steps, and the times of their phases.
-ghost use Rattle.std.specs.Prelude.{◌≡◌, ◌+◌, ◌<◌, nat_le, true};
+ghost use Rattle.std.specs.Prelude.{◌≡◌, ◌+◌, ◌<◌, ◌≤◌, IfSome, nat_le, true};
 ghost use Rattle.std.specs.Option.{option_map};
+ghost use Rattle.swarm_agent.specs.Inside.Sleeping.{SleepsUntil};
 ghost use Rattle.swarm_objects.specs.Bounds.{has_near_times};
 ghost use Rattle.swarm_agent.specs.Steps.{at_time, taken};
 ghost use Rattle.swarm_objects.specs.Agents.Executors.{
@@ -254,4 +255,58 @@ pub fn phase_time(executor: &Executor) -> Option<Ms>
         return None;
     }
     plain_phase(executor)
+}
+
+// A time before which the workload doesn't exit.
+fn exit_wake(executor: &Executor) -> Ms
+    ensures { IfSome (exit_time executor.now executor.now.workload.end) (λ ends. result ≤ ends) }
+{
+    match executor.workload.end {
+        End::Exit(time, _) => executor.since.saturating_add(time),
+        End::Never | End::Reject => Ms::MAX,
+    }
+}
+
+// A time before which the phase of an executor that neither stops nor wants to doesn't end.
+fn plain_wake(executor: &Executor) -> Ms
+    ensures { IfSome (plain_phase executor.now executor.now.state) (λ ends. result ≤ ends) }
+{
+    match executor.state {
+        TaskState::Preparing => executor.since.saturating_add(executor.workload.prepare),
+        TaskState::Starting => executor.since.saturating_add(executor.workload.start),
+        TaskState::Running => exit_wake(executor),
+        _ => Ms::MAX,
+    }
+}
+
+// The same from its start on, where it may be stopping.
+fn late_wake(executor: &Executor) -> Ms
+    ensures { IfSome (late_phase executor.now executor.now.stopping) (λ ends. result ≤ ends) }
+{
+    match executor.stopping {
+        Some(time) => time,
+        None => plain_wake(executor),
+    }
+}
+
+// A time before which the executor's phase doesn't end. Times needn't be near here: what is later than all times has
+// the last one.
+fn phase_wake(executor: &Executor) -> Ms
+    ensures { IfSome (phase_time executor.now) (λ ends. result ≤ ends) }
+{
+    if is_late(executor.state) {
+        late_wake(executor)
+    } else {
+        plain_wake(executor)
+    }
+}
+
+/// A time until which the executor sleeps: it has no step before it, and its timed phase doesn't end before it.
+pub fn wake_time(executor: &Executor) -> Ms
+    ensures { SleepsUntil result executor.now }
+{
+    if has_step(0, executor) {
+        return 0;
+    }
+    phase_wake(executor)
 }
