@@ -1,4 +1,5 @@
 pub mod Dirty
+pub mod NoSuspects
 pub mod Noting
 pub mod Numbers
 pub mod Passing

@@ -3,15 +3,15 @@ ghost use Rattle.std.specs.Prelude.{◌≡◌, ◌&&◌, filter, length};
 ghost use Rattle.std.specs.List.{list_any};
 ghost use Rattle.swarm_objects.specs.Loops.Update.{is_to_replace, is_to_swap};
 ghost use Rattle.swarm_objects.specs.Rows.{first_of};
-ghost use Rattle.swarm_objects.specs.Services.Words.{is_dirty, is_live_clean};
+ghost use Rattle.swarm_objects.specs.Services.Words.{is_live_clean};
 ghost use Rattle.swarm_objects.specs.Tasks.Places.{dirty_places, has_dirty_place, is_dirty_place, place_numbers};
-ghost use Rattle.swarm_objects.specs.Tasks.Words.{is_of, is_running};
+ghost use Rattle.swarm_objects.specs.Tasks.Words.{is_running};
 ghost use Rattle.swarm_objects.specs.Usable.{IsUsable};
 ghost use Rattle.role_words.specs.UpdateMarks.{ShowsUpdates};
 
+use crate::suspects::has_suspect;
 use crate::update_window::{UpdateWindow, mark_of, update_places};
 use crate::windows::place_numbers;
-use swarm_objects::walks::tasks_of;
 use swarm_objects::{Rows, Service, Task};
 
 /// The task is clean and live, and runs.
@@ -61,22 +61,13 @@ fn is_to_replace<R: Rows>(
     mark_of(window, rows, service, number).is_to_replace()
 }
 
-// A task of the service is dirty.
-fn has_dirty_task<R: Rows>(rows: &R, service: &Service) -> bool
-    requires { IsUsable (R.tables rows.now) }
-    ensures { let t = R.tables rows.now in
-        result ≡ list_any (is_dirty service.now) (filter (is_of service.now.id) t.tasks) }
-{
-    tasks_of(rows, service.id).any(|task| task.is_dirty(service))
-}
-
-/// A place of the service is dirty. Where none of its tasks is, the places aren't gone over.
-#[tactic(auto, using(crate::proofs::Dirty::none_dirty))]
+/// A place of the service is dirty. Where none of its tasks may make one so, the places aren't gone over.
+#[tactic(auto, using(crate::proofs::NoSuspects::none_suspect))]
 pub fn has_dirty_place<R: Rows>(rows: &R, service: &Service) -> bool
     requires { IsUsable (R.tables rows.now) }
     ensures { result ≡ has_dirty_place (R.tables rows.now) service.now }
 {
-    if !has_dirty_task(rows, service) {
+    if !has_suspect(rows, service) {
         return false;
     }
     let mut window = update_places(rows, service);
@@ -134,12 +125,15 @@ pub fn first_to_replace<R: Rows>(rows: &R, service: &Service) -> Option<u64>
     None
 }
 
-/// A place of the service is to be replaced.
-#[tactic(auto, using(crate::proofs::Dirty::any_first))]
+/// A place of the service is to be replaced. Where none of its tasks may make one dirty, the places aren't gone over.
+#[tactic(auto, using(crate::proofs::Dirty::waiting_steps))]
 pub fn has_waiting_place<R: Rows>(rows: &R, service: &Service) -> bool
     requires { IsUsable (R.tables rows.now) }
     ensures { let t = R.tables rows.now in
         result ≡ list_any (is_to_replace t service.now) (place_numbers t service.now) }
 {
+    if !has_suspect(rows, service) {
+        return false;
+    }
     first_to_replace(rows, service).is_some()
 }

@@ -7,6 +7,7 @@ mod places;
 mod reading;
 mod runs;
 mod service_words;
+mod suspects;
 mod tallies;
 mod update_window;
 mod window;
@@ -21,6 +22,7 @@ pub use places::{PlaceTasks, has_live, is_held_place, newest, place_tasks, tasks
 pub use reading::{ServiceSlots, slots_among};
 pub use runs::{has_room, is_flying, is_in_flight, is_of_version, is_watched};
 pub use service_words::{has_open_run, is_under_way};
+pub use suspects::{has_suspect, is_suspect};
 pub use tallies::{Tally, tally_of};
 pub use update_window::{UpdateWindow, update_places};
 pub use window::{Slot, Window};

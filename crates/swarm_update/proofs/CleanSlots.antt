@@ -2,6 +2,7 @@
 use Rattle.std.proofs.Common.{◌%◌, ◌<◌, ◌≡◌, ◌∙◌, ℕ, Bool, List, None, Option, Some, [], ap, eqb, false, get_or, refl, subst, sym, true}
 use Rattle.std.specs.Prelude.{IfSome, ◌&&◌}
 use Rattle.role_words.proofs.Numbers.{number_equal, same_number}
+use Rattle.role_words.specs.Suspects.{is_suspect}
 use Rattle.swarm_objects.specs.ChangeLists.{apply_changes}
 use Rattle.swarm_objects.specs.Rows.{is_row_and, is_some_and, service_id}
 use Rattle.swarm_objects.specs.Tasks.Words.{is_of}
@@ -11,7 +12,7 @@ use Rattle.swarm_objects.specs.declared.rows.Change.{Change}
 use Rattle.swarm_update.proofs.Clearing.{clean_on}
 use Rattle.swarm_update.proofs.Leaving.{if_some_then}
 use Rattle.swarm_update.proofs.Marking.{true_false}
-use Rattle.swarm_update.specs.KnownSurvey.{AllStayClean, AreClean, SlotsAreLeft, IsClean, SlotIsLeft, StaysClean, has_service, is_suspect, service_of}
+use Rattle.swarm_update.specs.KnownSurvey.{AllStayClean, AreClean, SlotsAreLeft, IsClean, SlotIsLeft, StaysClean, has_service, service_of}
 use Rattle.swarm_update.specs.declared.clean.CleanServices.{CleanServices}
 use Rattle.swarm_update.specs.declared.clean.TheConstants.{SLOTS}
 

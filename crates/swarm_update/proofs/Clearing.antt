@@ -3,6 +3,8 @@ use Rattle.std.proofs.Common.{◌%◌, ◌≡◌, ◌∙◌, ◌∷◌, ℕ, Boo
 use Rattle.std.specs.List.{list_any}
 use Rattle.std.specs.Prelude.{IfSome, filter, ◌&&◌}
 use Rattle.role_words.proofs.Numbers.{same_number}
+use Rattle.role_words.proofs.NoSuspects.{any_suspect, none_suspect}
+use Rattle.role_words.specs.Suspects.{is_suspect}
 use Rattle.swarm_objects.proofs.PlaceLemmas.{any_again}
 use Rattle.swarm_objects.proofs.RowLemmas.{Has-from_row_at}
 use Rattle.swarm_objects.proofs.Tests.{any_filter, has-any}
@@ -16,8 +18,7 @@ use Rattle.swarm_objects.specs.declared.services.Service.{Service}
 use Rattle.swarm_objects.specs.declared.tasks.Task.{Task}
 use Rattle.swarm_update.proofs.Leaving.{CameFrom, Misses, PutsAlike, as_read, changes-leave, row_came}
 use Rattle.swarm_update.proofs.Marking.{true_false}
-use Rattle.swarm_update.proofs.Suspects.{any_suspect, none_suspect}
-use Rattle.swarm_update.specs.KnownSurvey.{AllStayClean, AreClean, HasAlike, HasNoSuspect, IsClean, StaysClean, has_service, is_suspect}
+use Rattle.swarm_update.specs.KnownSurvey.{AllStayClean, AreClean, HasAlike, HasNoSuspect, IsClean, StaysClean, has_service}
 use Rattle.swarm_update.specs.declared.clean.CleanServices.{CleanServices}
 use Rattle.swarm_update.specs.declared.clean.TheConstants.{SLOTS}
 

@@ -5,6 +5,7 @@ use Rattle.std.specs.List.{list_any}
 use Rattle.std.specs.Prelude.{IfSome, count_by, filter, ◌&&◌, ◌++◌, ◌||◌}
 use Rattle.role_words.proofs.Numbers.{number_equal, same_number}
 use Rattle.role_words.specs.Marks.{has_number, tasks_at}
+use Rattle.role_words.specs.Suspects.{is_suspect}
 use Rattle.swarm_objects.proofs.Filters.{filter_again}
 use Rattle.swarm_objects.proofs.PlaceLemmas.{and_left, any_again, count_again}
 use Rattle.swarm_objects.proofs.RowLemmas.{Has-append_cases, Has-filter_cases, Has-from_row_at, Has-map_cases, row_at-Some}
@@ -25,7 +26,7 @@ use Rattle.swarm_objects.specs.declared.services.ServiceSpec.{ServiceSpec}
 use Rattle.swarm_objects.specs.declared.services.UpdateRun.{UpdateRun}
 use Rattle.swarm_objects.specs.declared.tasks.Task.{Task}
 use Rattle.swarm_update.proofs.Marking.{number_is, true_false}
-use Rattle.swarm_update.specs.KnownSurvey.{AreClean, HasAlike, HasNoSuspect, IsLess, IsOf, IsSo, Knows, KnowsKept, LeaveAll, Leaves, is_suspect, leaves_out, may_fail, touches}
+use Rattle.swarm_update.specs.KnownSurvey.{AreClean, HasAlike, HasNoSuspect, IsLess, IsOf, IsSo, Knows, KnowsKept, LeaveAll, Leaves, leaves_out, may_fail, touches}
 use Rattle.swarm_update.specs.Marks.{mark_of}
 use Rattle.swarm_update.specs.declared.clean.CleanServices.{CleanServices}
 use Rattle.swarm_update.specs.declared.known_survey.Kept.{Kept}

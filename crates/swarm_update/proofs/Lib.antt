@@ -1,6 +1,7 @@
 mod Answering
 mod CleanSlots
 mod Clearing
+mod Ending
 mod Failures
 pub mod Leaving
 mod Marking
@@ -10,5 +11,4 @@ mod Replacements
 mod Running
 mod StaleBits
 mod Steps
-mod Suspects
 mod Walking

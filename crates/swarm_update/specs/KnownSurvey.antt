@@ -2,11 +2,11 @@
 use Rattle.std.specs.Prelude.{Bool, List, None, Option, Some, [], false, filter, get_or, if◌then◌else◌, length, nat_lt, not, true, ℕ, ⊤, IfSome, ◌%◌, ◌&&◌, ◌+◌, ◌<◌, ◌==◌, ◌||◌, ◌≡◌, ◌∷◌, max, set}
 use Rattle.std.specs.List.{list_any}
 use Rattle.role_words.specs.Marks.{has_number, tasks_at}
+use Rattle.role_words.specs.Suspects.{is_suspect}
 use Rattle.swarm_objects.specs.Rows.{is_row_and, is_some_and, row_at, service_id, task_id}
 use Rattle.swarm_objects.specs.Services.Runs.{counts_as_failure, failures}
-use Rattle.swarm_objects.specs.Services.Words.{is_dirty}
-use Rattle.swarm_objects.specs.Tasks.Places.{closes, place_number}
-use Rattle.swarm_objects.specs.Tasks.Words.{is_live, is_of}
+use Rattle.swarm_objects.specs.Tasks.Places.{place_number}
+use Rattle.swarm_objects.specs.Tasks.Words.{is_of}
 use Rattle.swarm_objects.specs.World.{Tables}
 use Rattle.swarm_objects.specs.declared.rows.Change.{Change}
 use Rattle.swarm_objects.specs.declared.rows.Change.TheVariants as change
@@ -48,10 +48,6 @@ pub record IsOf (t : Tables) (v : Survey) (k : Subject) : Type 0 where
 -- whatever is remembered of a run is so
 abbrev pub KnowsKept : Tables → Kept → Type 0
 KnowsKept t kept = IfSome kept.subject (IsOf t kept.survey)
-
--- the task may make its place dirty
-abbrev pub is_suspect : Service → Task → Bool
-is_suspect s x = (is_live x || closes x) && is_dirty s x
 
 -- the service with this id, where it is there, has no such task
 pub record HasNoSuspect (t : Tables) (id : ℕ) : Type 0 where

@@ -1,15 +1,13 @@
 // Services without a task that may make a place dirty, and which changes give them none.
-ghost use Rattle.std.specs.Prelude.{◌%◌, ◌≡◌, IsTrue, None, filter, get_or, ℕ};
-ghost use Rattle.std.specs.List.{list_any};
+ghost use Rattle.std.specs.Prelude.{◌%◌, ◌≡◌, IsTrue, None, get_or, ℕ};
 ghost use Rattle.swarm_objects.specs.ChangeLists.{apply_changes};
 ghost use Rattle.swarm_objects.specs.Tasks.Words.{is_of};
-ghost use Rattle.swarm_objects.specs.Usable.{IsUsable};
 ghost use Rattle.swarm_objects.specs.World.{Tables};
 ghost use Rattle.swarm_update.specs.KnownSurvey.{AreClean, HasNoSuspect, SlotsAreLeft, StaysClean};
-ghost use Rattle.swarm_update.specs.KnownSurvey.{has_service, is_suspect, is_suspect_of, service_of};
+ghost use Rattle.swarm_update.specs.KnownSurvey.{has_service, is_suspect_of, service_of};
 
 use crate::known_survey::has_alike;
-use swarm_objects::walks::tasks_of;
+use role_words::is_suspect;
 use swarm_objects::{Change, Id, Rows, Service, Task};
 
 // How many services are remembered.
@@ -29,23 +27,7 @@ fn slot_of(service: Id) -> usize
     service as usize % SLOTS
 }
 
-// The task may make its place dirty: it is dirty, and live or closes the place. So history doesn't count.
-fn is_suspect(service: &Service, task: &Task) -> bool
-    ensures { result ≡ is_suspect service.now task.now }
-{
-    (task.is_live() || task.closes()) && task.is_dirty(service)
-}
-
-/// The service has such a task.
-pub fn has_suspect<R: Rows>(rows: &R, service: &Service) -> bool
-    requires { IsUsable (R.tables rows.now) }
-    ensures { let t = R.tables rows.now in
-        result ≡ list_any (is_suspect service.now) (filter (is_of service.now.id) t.tasks) }
-{
-    tasks_of(rows, service.id).any(|task| is_suspect(service, task))
-}
-
-// The task is such a one, of the service with this id.
+// The task is of the service with this id, and may make its place dirty.
 fn is_suspect_of<R: Rows>(rows: &R, service: Id, task: &Task) -> bool
     ensures { result ≡ is_suspect_of (R.tables rows.now) service task.now }
 {

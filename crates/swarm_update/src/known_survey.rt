@@ -3,8 +3,9 @@
 // so that their tasks aren't gone over at each look.
 ghost use Rattle.std.specs.Prelude.{◌<◌, ◌≡◌, ◌≤◌, IfSome, IsTrue, None, Some, false, filter, min, true, ℕ};
 ghost use Rattle.std.specs.List.{list_any};
+ghost use Rattle.role_words.specs.Suspects.{is_suspect};
 ghost use Rattle.swarm_objects.specs.ChangeLists.{apply_changes};
-ghost use Rattle.swarm_objects.specs.Loops.Update.{is_to_start, run_duties, update_duties};
+ghost use Rattle.swarm_objects.specs.Loops.Update.{is_to_start, open_duties, run_duties, update_duties};
 ghost use Rattle.swarm_objects.specs.Rows.{first_of, is_row_and, row_at, service_id, task_id};
 ghost use Rattle.swarm_objects.specs.Services.Runs.{failures};
 ghost use Rattle.swarm_objects.specs.Tasks.Places.{has_dirty_place};
@@ -12,17 +13,17 @@ ghost use Rattle.swarm_objects.specs.Tasks.Words.{is_of};
 ghost use Rattle.swarm_objects.specs.Usable.{IsUsable};
 ghost use Rattle.swarm_objects.specs.World.{Tables};
 ghost use Rattle.swarm_update.specs.KnownSurvey.{AreStale, HasAlike, IsLess, IsSo, Knows, KnowsKept, LeaveAll, Leaves};
-ghost use Rattle.swarm_update.specs.KnownSurvey.{is_suspect, leaves_out, may_fail, touches};
+ghost use Rattle.swarm_update.specs.KnownSurvey.{leaves_out, may_fail, touches};
 ghost use Rattle.swarm_update.specs.StalePlaces.{is_stale};
 ghost use Rattle.swarm_update.specs.Surveys.{Tells};
 
-use crate::clean::{CleanServices, has_suspect};
+use crate::clean::CleanServices;
 use crate::first_open;
 use crate::marks::{Places, WIDTH};
 use crate::runs::{counts_as_failure, has_present_run};
 use crate::stale_places::StalePlaces;
 use crate::survey::{Survey, go_over};
-use role_words::is_under_way;
+use role_words::{has_suspect, is_under_way};
 use std::alloc::Global;
 use swarm_objects::{Change, Duty, Id, Rows, Same, Service, Task, UpdateRun, Version};
 
@@ -252,7 +253,7 @@ impl Kept {
         let Some(subject) = &self.subject else {
             return;
         };
-        let far = self.survey.places.has_far;
+        let far = self.survey.places.has_far();
         if subject.all_leave(far, rows, changes) {
             return;
         }
@@ -299,7 +300,7 @@ impl Kept {
                 let survey = &mut self.survey;
                 survey.renew(rows, service, run, &subject.stale, subject.is_counted);
             }
-            None => self.survey = go_over(rows, service, run),
+            None => self.survey.make_anew(rows, service, run),
         }
         self.subject = Some(Subject::of(service, run));
     }
@@ -362,7 +363,8 @@ impl KnownSurvey {
         }
     }
 
-    // Has a place for a survey, where there is memory.
+    // Has a place for a survey, where there is memory. Apart for the same reason as `first_surveyed`.
+    #[inline(never)]
     fn make_room(&mut self)
         ensures { (t : Tables) → Knows t self.old → Knows t self.new }
     {
@@ -433,6 +435,16 @@ fn is_to_start<R: Rows>(rows: &R, known: &mut KnownSurvey, service: &Service) ->
     !has_present_run(service) && known.has_dirty_place(rows, service)
 }
 
+// What there is to do about a run under way, where there is no memory to keep its survey. Apart, so that a survey takes
+// room only here: it is large.
+#[inline(never)]
+fn first_surveyed<R: Rows>(rows: &R, service: &Service, run: &UpdateRun) -> Option<Duty>
+    requires { IsUsable (R.tables rows.now) }
+    ensures { result ≡ first_of (open_duties (R.tables rows.now) service.now run.now) }
+{
+    first_open(&go_over(rows, service, run), rows, service, run)
+}
+
 // What there is to do about a run, by what is remembered of it.
 fn first_of_run<R: Rows>(
     rows: &R,
@@ -452,7 +464,7 @@ fn first_of_run<R: Rows>(
     known.look(rows, service, run);
     match &known.kept {
         Some(kept) => first_open(&kept.survey, rows, service, run),
-        None => first_open(&go_over(rows, service, run), rows, service, run),
+        None => first_surveyed(rows, service, run),
     }
 }
 

@@ -8,6 +8,7 @@ ghost use Rattle.swarm_update.specs.StalePlaces.{is_stale, is_stale_from};
 
 use crate::stale_places::{StalePlaces, WORD, WORDS};
 use role_words::{is_flying, place_tasks};
+use std::marker::Model;
 use swarm_objects::{Rows, Service, Task};
 
 /// How many places are noted: those with a number below this.
@@ -90,14 +91,25 @@ fn mark_of<R: Rows>(rows: &R, service: &Service, number: u64) -> Mark
     mark
 }
 
-/// The places of a service, as its update sees them.
+/// The places of a service, as its update sees them. Contracts see all fields: the model is there for what is always so
+/// of them, so that few marks are written where all are cleared.
 #[derive(Drop)]
 pub struct Places {
     marks: [Mark; WIDTH],
-    // no place from here on and below the width has a task
+    // no place from here on and below the width has a task, so no such mark is set
     reach: usize,
-    /// A task stands in a place that isn't noted.
-    pub has_far: bool,
+    // a task stands in a place that isn't noted
+    has_far: bool,
+}
+
+impl Model for Places {
+    ghost use Rattle.swarm_update.specs.PlaceMarks.{EndsAt, PlaceMarks};
+
+    ghost Value = { PlaceMarks };
+
+    ghost view = { λ p. record { marks = p.marks; reach = p.reach; has_far = p.has_far } };
+
+    ghost invariant = { λ p. EndsAt p.reach p.marks };
 }
 
 impl Places {
@@ -110,6 +122,19 @@ impl Places {
             reach: 0,
             has_far: false,
         }
+    }
+
+    /// No task is noted any more. Only marks that may be set are written.
+    pub fn clear(&mut self)
+        ensures { self.new ≡ blank }
+    {
+        let mut end = self.reach;
+        while end > 0 {
+            end -= 1;
+            self.marks[end] = UNMARKED;
+        }
+        self.reach = 0;
+        self.has_far = false;
     }
 
     // Notes the task, whose place has this number.
@@ -184,6 +209,13 @@ impl Places {
         }
     }
 
+    /// A task stands in a place that isn't noted.
+    pub fn has_far(&self) -> bool
+        ensures { result ≡ self.now.has_far }
+    {
+        self.has_far
+    }
+
     /// No place from here on and below the width has a task.
     pub fn end(&self) -> usize
         ensures { result ≡ min self.now.reach WIDTH }
@@ -205,7 +237,7 @@ impl Places {
         ensures none { result ≡ None → NoneBefore self.now.reach self.now question }
     {
         for index in 0..self.end() {
-            if self.marks[index].answers(question) {
+            if self.mark_at(index).answers(question) {
                 return Some(index as u64);
             }
         }

@@ -71,23 +71,33 @@ impl Survey {
             self.failures = count_failures(rows, service, run);
         }
     }
+
+    /// Goes over all tasks of the service, which has this run, whatever it told before.
+    #[tactic(auto, using(crate::proofs::Steps::failure_steps))]
+    pub fn make_anew<R: Rows>(&mut self, rows: &R, service: &Service, run: &UpdateRun)
+        requires { IsUsable (R.tables rows.now) }
+        ensures { Tells self.new (R.tables rows.now) service.now run.now }
+    {
+        self.places.clear();
+        let mut failures = 0;
+        for task in tasks_of(rows, service.id) {
+            self.places.note(rows, service, task);
+            if is_failure(service, run, task) {
+                failures += 1;
+            }
+        }
+        self.failures = failures;
+    }
 }
 
-/// Goes over the tasks of the service, which has this run.
-#[tactic(auto, using(crate::proofs::Steps::failure_steps))]
+/// Goes over the tasks of the service, which has this run, where no survey is kept.
 pub fn go_over<R: Rows>(rows: &R, service: &Service, run: &UpdateRun) -> Survey
     requires { IsUsable (R.tables rows.now) }
     ensures { Tells result (R.tables rows.now) service.now run.now }
 {
-    let mut places = Places::blank();
-    let mut failures = 0;
-    for task in tasks_of(rows, service.id) {
-        places.note(rows, service, task);
-        if is_failure(service, run, task) {
-            failures += 1;
-        }
-    }
-    Survey { places, failures }
+    let mut survey = Survey::blank();
+    survey.make_anew(rows, service, run);
+    survey
 }
 
 /// The least place of which a clean live task runs and a dirty one is live. Only where places aren't noted, all are
@@ -100,7 +110,7 @@ pub fn first_to_swap<R: Rows>(places: &Places, rows: &R, service: &Service) -> O
 {
     match places.first(Question::Swap) {
         Some(number) => Some(number),
-        None if places.has_far => role_words::first_to_swap(rows, service),
+        None if places.has_far() => role_words::first_to_swap(rows, service),
         None => None,
     }
 }
@@ -114,7 +124,7 @@ pub fn first_to_replace<R: Rows>(places: &Places, rows: &R, service: &Service) -
 {
     match places.first(Question::Replace) {
         Some(number) => Some(number),
-        None if places.has_far => role_words::first_to_replace(rows, service),
+        None if places.has_far() => role_words::first_to_replace(rows, service),
         None => None,
     }
 }
@@ -127,7 +137,7 @@ pub fn has_dirty_place<R: Rows>(places: &Places, rows: &R, service: &Service) ->
 {
     match places.first(Question::Dirty) {
         Some(_) => true,
-        None if places.has_far => role_words::has_dirty_place(rows, service),
+        None if places.has_far() => role_words::has_dirty_place(rows, service),
         None => false,
     }
 }

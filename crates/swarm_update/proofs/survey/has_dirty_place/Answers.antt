@@ -1,4 +1,4 @@
-use Rattle.std.proofs.Common.{None, Some}
+use Rattle.std.proofs.Common.{None, Some, sym, ◌∙◌}
 use Rattle.swarm_update.specs.declared.marks.Question.TheVariants as question
 use Rattle.swarm_update.proofs.Answering.{any_dirty, found, missing}
 use Rattle.swarm_update.proofs.survey.has_dirty_place.Goals as goal
@@ -17,4 +17,4 @@ returns-in-None-2 g c =
     let s = c.args.service.now in
     any_dirty t s None
     (missing c.args.places.now t s question.Dirty c.requires.shows (c.first.ensures.none c.in-None.is)
-    c.if-places.false)
+    (sym c.has_far.ensures ∙ c.if-has_far.false))
