@@ -1,12 +1,12 @@
 -- What the changes of the allocator make.
 use Rattle.std.proofs.Common.{◌≡◌, ℕ, Bool, true, false, cond, eqb, List, [], ◌∷◌, Option, Some, None, refl, sym, ap, ◌∙◌, subst}
 use Rattle.std.specs.List.{list_all}
-use Rattle.std.specs.Prelude.{is_some, ◌&&◌}
+use Rattle.std.specs.Prelude.{◌&&◌}
 use Rattle.swarm_alloc.specs.Allocating.{put_service as put_service_list}
 use Rattle.swarm_objects.proofs.RowLemmas.{Has-from_row_at}
 use Rattle.swarm_objects.specs.Changes.{change_service, change_task}
 use Rattle.swarm_objects.specs.Loops.Allocator.{with_addresses, with_port}
-use Rattle.swarm_objects.specs.Rows.{change_row, has_row, network_id, row_at, service_id, task_id}
+use Rattle.swarm_objects.specs.Rows.{change_row, network_id, row_at, service_id, task_id}
 use Rattle.swarm_objects.specs.Sound.{IsSound, is_subnet}
 use Rattle.swarm_objects.specs.World.{Tables}
 use Rattle.swarm_objects.specs.declared.networks.Network.{Network}

@@ -98,9 +98,12 @@ rising-most numbers = omega (arith, go [] numbers)
     go acc [] = omega arith
     go acc (k ∷ more) = omega (arith, go (with_number k acc) more, with-most k acc)
 
+pub gap-near : (low : ℕ) (taken : List ℕ) → first_gap low (rising taken) ≤ low + length taken
+gap-near low taken = omega (arith, gap-most low (rising taken), rising-most taken)
+
 few-free : (low high : ℕ) (taken : List ℕ) → low + length taken ≤ high → is_some (first_free low high taken) ≡ true
 few-free low high taken few =
-    go (first_gap low (rising taken)) (omega (arith, gap-most low (rising taken), rising-most taken, few))
+    go (first_gap low (rising taken)) (omega (arith, gap-near low taken, few))
   where
     go : (g : ℕ) → g ≤ high → is_some (cond (leb g high) (Some g) None) ≡ true
     go g le = grind (arith, nat_tests, le)

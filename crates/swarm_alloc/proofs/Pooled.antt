@@ -1,7 +1,8 @@
 -- A pool in which all held numbers are taken has their least free number.
-use Rattle.std.proofs.Common.{◌≡◌, ◌∙◌, ◌+◌, ◌<◌, ◌≤◌, ◌⊎◌, Bool, List, None, Option, Some, [], ap, arith, cond, drop, false, inl, inr, leb, length, refl, subst, suc, sym, true, zero, ℕ, ◌∷◌}
+use Rattle.std.proofs.Common.{◌≡◌, ◌∙◌, ◌+◌, ◌<◌, ◌≤◌, ◌⊎◌, Bool, List, None, Option, Some, [], ap, arith, cond, drop, false, inl, inr, leb, length, min, refl, subst, suc, sym, true, zero, ℕ, ◌∷◌}
 use Rattle.std.proofs.lemmas.Bool.Decides.{nat_tests}
 use Rattle.std.specs.Prelude.{fold, ◌&&◌}
+use Rattle.swarm_alloc.proofs.Counted.{gap-near}
 use Rattle.swarm_objects.proofs.Gaps.{Has-with_number_keeps, Has-with_row, first_gap-ge}
 use Rattle.swarm_objects.proofs.FreeNumbers.{is_taken, not-Has, taken-Has}
 use Rattle.swarm_objects.proofs.Rising.{gap-free, gap-held, rising-cases, rising-has, rising-rises, with_number-cases}
@@ -111,12 +112,26 @@ none_left [] (suc i) le = refl
 none_left (x ∷ xs) zero le = absurd (omega (arith, le))
 none_left (x ∷ xs) (suc i) le = none_left xs i (omega (arith, le))
 
+-- it is at most so far off as there are held ones
+near_free : (low high : ℕ) (held : List ℕ) →
+    first_free low (min high (low + length held)) held ≡ first_free low high held
+near_free low high held = go (first_gap low (rising held)) (gap-near low held)
+  where
+    go : (g : ℕ) → g ≤ low + length held → up_to (min high (low + length held)) g ≡ up_to high g
+    go g near = ap (λ (b : Bool). cond b (Some g) None) (same (leb g high) refl)
+      where
+        same : (b : Bool) → leb g high ≡ b → leb g (min high (low + length held)) ≡ b
+        same true e = grind (arith, nat_tests, near)
+        same false e = grind (arith, nat_tests, near)
+
 -- told of a pool that was asked when all held numbers were taken
-pub pool_free : (low high first last : ℕ) (taken held : List ℕ) (i : ℕ) (free : Option ℕ) →
-    free ≡ first_free first last taken → first ≡ low → last ≡ high → length held ≤ i →
-    keep_numbers low high taken (drop i held) ≡ keep_numbers low high [] held → free ≡ first_free low high held
-pool_free low high first last taken held i free is same_low same_high past_all e =
-    let all : taken ≡ keep_numbers low high [] held =
-    ap (keep_numbers low high taken) (sym (none_left held i past_all)) ∙ e in
+pub pool_free : (low high needed first last : ℕ) (taken held : List ℕ) (i : ℕ) (free : Option ℕ) →
+    needed ≡ min high (low + length held) → free ≡ first_free first last taken → first ≡ low → last ≡ needed →
+    length held ≤ i → keep_numbers low needed taken (drop i held) ≡ keep_numbers low needed [] held →
+    free ≡ first_free low high held
+pool_free low high needed first last taken held i free enough is same_low same_high past_all e =
+    let all : taken ≡ keep_numbers low needed [] held =
+    ap (keep_numbers low needed taken) (sym (none_left held i past_all)) ∙ e in
     is ∙ ap (λ n. first_free n last taken) same_low ∙ ap (λ n. first_free low n taken) same_high
-    ∙ ap (first_free low high) all ∙ kept_free low high held
+    ∙ ap (first_free low needed) all ∙ kept_free low needed held
+    ∙ ap (λ n. first_free low n held) enough ∙ near_free low high held

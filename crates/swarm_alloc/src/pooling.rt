@@ -1,5 +1,5 @@
 // The least numbers that are free, found by pools.
-ghost use Rattle.std.specs.Prelude.{◌≡◌, ◌≤◌, IfOk, IfSome, true};
+ghost use Rattle.std.specs.Prelude.{◌≡◌, ◌≤◌, ◌+◌, IfOk, IfSome, length, min, true};
 ghost use Rattle.swarm_objects.specs.Rows.{first_free};
 ghost use Rattle.swarm_objects.specs.Services.Ports.{free_port};
 ghost use Rattle.swarm_objects.specs.Sound.{is_subnet};
@@ -12,6 +12,19 @@ use std::alloc::Global;
 use swarm_objects::{Id, Network, NoMemory, Rows};
 use swarm_pools::{Pool, usable};
 
+// The last number that the least free one can be: all numbers below that one are held, so no more lie between the first
+// and it than there are held ones.
+fn last_needed(first: u32, last: u32, held: &[u32]) -> u32
+    requires { first ≤ last }
+    ensures { result ≡ min last (first + length held.now) }
+{
+    if held.len() < (last - first) as usize {
+        first + held.len() as u32
+    } else {
+        last
+    }
+}
+
 /// The least number from the first to the last that is none of these.
 pub fn free_number(
     alloc: Global,
@@ -23,9 +36,10 @@ pub fn free_number(
     ensures value { IfOk result (λ free. free ≡ first_free first last held.now) }
     ensures most { IfOk result (λ free. IfSome free (λ number. number ≤ last)) }
 {
-    let mut pool = Pool::new(alloc, first, last);
+    let needed = last_needed(first, last, held);
+    let mut pool = Pool::new(alloc, first, needed);
     for number in held {
-        if first <= *number && *number <= last {
+        if first <= *number && *number <= needed {
             pool.take(*number)?;
         }
     }
