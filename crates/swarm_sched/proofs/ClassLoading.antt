@@ -6,7 +6,7 @@ use Rattle.std.proofs.lemmas.List.Sums.{count_by-le-length, sum_by-cons}
 use Rattle.std.proofs.lemmas.List.{get_or-replicate, get_or-set_other, get_or-set_same, length-set}
 use Rattle.std.specs.List.{list_any}
 use Rattle.std.specs.Option.{option_eq}
-use Rattle.std.specs.Prelude.{IfSome, IsTrue, count_by, filter, is_some, ◌&&◌, ◌^◌, ◌||◌}
+use Rattle.std.specs.Prelude.{IsTrue, count_by, filter, is_some, ◌&&◌, ◌^◌, ◌||◌}
 use Rattle.swarm_objects.proofs.Few.{few_among}
 use Rattle.swarm_objects.proofs.RowLemmas.{Has-from_row_at, row_at-Some}
 use Rattle.swarm_objects.proofs.Tests.{both_are, same_test}
@@ -24,7 +24,7 @@ use Rattle.swarm_objects.specs.declared.tasks.Task.{Task}
 use Rattle.swarm_objects.specs.declared.templates.Key.{Key}
 use Rattle.swarm_sched.proofs.Branching.{at_place, branch_is}
 use Rattle.swarm_sched.proofs.Halving.{entries_rise}
-use Rattle.swarm_sched.specs.Inside.Branches.{IsBranchOf, Preferences, is_of_branch, preferences}
+use Rattle.swarm_sched.specs.Inside.Branches.{Preferences, is_of_branch}
 use Rattle.swarm_sched.specs.Inside.ClassLoads.{AreCounting, AreLoads, AreMost, class_of_node, class_or_none}
 use Rattle.swarm_sched.specs.Inside.ClassLoads.{is_of_class, task_class}
 use Rattle.swarm_sched.specs.Inside.Classes.{AreFew, AreSorted, IsEntry, entry_id}
@@ -172,8 +172,8 @@ class-branch t keys sorted c n x are some entry = go (is_live x) (is_placed x) x
         both node (row_at entry_id node sorted) refl (row_at node_id node t.nodes) refl
         (named entry_id node sorted ∙ ap (list_any (λ i. eqb i node)) are.ids ∙ sym (named node_id node t.nodes))
 
-told_load : (t : Tables) (service : ℕ) (keys : List Key) (sorted : List ClassedNode) (loads : List ℕ) (c : ClassedNode)
-    (n : Node) → IsUsable t → AreSorted t.nodes keys sorted → (keys ≡ [] → ⊥) →
+pub told_load : (t : Tables) (service : ℕ) (keys : List Key) (sorted : List ClassedNode) (loads : List ℕ)
+    (c : ClassedNode) (n : Node) → IsUsable t → AreSorted t.nodes keys sorted → (keys ≡ [] → ⊥) →
     AreLoads sorted (filter (is_of service) t.tasks) loads → IsEntry t.nodes sorted c n →
     get_or loads c.class 0 ≡ branch_load t service keys n
 told_load t service keys sorted loads c n usable are some so entry =
@@ -193,19 +193,6 @@ told_at t p sorted loads i d n usable same are some so lt row =
     told_load t p.service p.keys sorted loads (get_or sorted i d) n usable are some so
     (record { there = at_place sorted i d lt; row = at.0; same = at.1 })
     ∙ ap (λ u. branch_load u p.service p.keys n) (sym same)
-
--- the same for the task's preferences, where there is a row
-pub own_at : (t : Tables) (x : Task) (sorted : List ClassedNode) (loads : List ℕ) (i : ℕ) (d : ClassedNode) →
-    IsUsable t → AreSorted t.nodes x.template.spread sorted →
-    ((x.template.spread ≡ [] → ⊥) → AreLoads sorted (filter (is_of x.service) t.tasks) loads) → i < length sorted →
-    IfSome (row_at node_id (get_or sorted i d).id t.nodes)
-    (IsBranchOf (preferences t x) (get_or loads (get_or sorted i d).class 0))
-own_at t x sorted loads i d usable are so lt = go (row_at node_id (get_or sorted i d).id t.nodes) refl
-  where
-    go : (o : Option Node) → row_at node_id (get_or sorted i d).id t.nodes ≡ o →
-        IfSome o (IsBranchOf (preferences t x) (get_or loads (get_or sorted i d).class 0))
-    go None is = tt
-    go (Some n) is = λ some. told_at t (preferences t x) sorted loads i d n usable refl are some (so some) lt is
 
 pub place_few : (nodes : List Node) (keys : List Key) (sorted : List ClassedNode) (i : ℕ) (d : ClassedNode) →
     AreSorted nodes keys sorted → i < length sorted → (get_or sorted i d).class < CLASSES

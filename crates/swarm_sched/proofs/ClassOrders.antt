@@ -68,6 +68,12 @@ order-alike : (p : Preferences) (o : Ordering) (a b : Node) (best : Option Node)
 order-alike p o a b None alike is = is
 order-alike p o a b (Some m) alike is = is ∙ spread-alike p.tables p.service [] p.keys a b m refl alike
 
+-- so does each where there is none
+pub first_of_all : (p : Preferences) (found best : Option Node) → best ≡ None →
+    IfSome found (λ n. IsOrder p Less n best)
+first_of_all p None best none = tt
+first_of_all p (Some n) best none = subst (IsOrder p Less n) (sym none) refl
+
 -- Any other compares so with nodes that compare as equal.
 
 equal-both : (a b : Ordering) → ordering_then a b ≡ Equal → (a ≡ Equal) × (b ≡ Equal)
@@ -361,13 +367,13 @@ pub searched_refused : (t : Tables) (x : Task) (sorted : List ClassedNode) (orde
 searched_refused t x sorted orders more best i c o at so shut =
     searched_shut t x sorted orders more best i c o at.node at so at.row (shut at.node at.row)
 
--- behind one that is the best so far: what is known of the classes stays so where it compares as equal
+-- behind one that is the best so far: what is known of the classes is told, or stays so where it compares as equal
 pub searched_best : (t : Tables) (x : Task) (sorted : List ClassedNode) (orders more after : List (Option Ordering))
     (best : Option Node)
     (i : ℕ) (c : ClassedNode) (o : Ordering) (m : Node) → AtEntry t x sorted more best i c o →
     IsSearched t x sorted orders best i → row_at node_id c.id t.nodes ≡ Some m →
     (is_open t x m && comes_first t x.service o m.id best) ≡ true →
-    (after ≡ replicate CLASSES None) ⊎ ((o ≡ Equal) × (after ≡ more)) →
+    (AreOrders (preferences t x) sorted after (Some m) × (length after ≡ CLASSES)) ⊎ ((o ≡ Equal) × (after ≡ more)) →
     IsSearched t x sorted after (Some m) (i + 1)
 searched_best t x sorted orders more after best i c o m at so row better left = record {
   left =
@@ -388,16 +394,17 @@ searched_best t x sorted orders more after best i c o m at so row better left = 
     parts : (is_open t x m ≡ true) × (comes_first t x.service o m.id best ≡ true)
     parts = both_are (is_open t x m) (comes_first t x.service o m.id best) better
 
-    known : (after ≡ replicate CLASSES None) ⊎ ((o ≡ Equal) × (after ≡ more)) → AreOrders p sorted after (Some m)
-    known (inl none) =
-        subst (λ list. AreOrders p sorted list (Some m)) (sym none) (orders_none p sorted CLASSES (Some m))
+    known : (AreOrders p sorted after (Some m) × (length after ≡ CLASSES)) ⊎ ((o ≡ Equal) × (after ≡ more)) →
+        AreOrders p sorted after (Some m)
+    known (inl told) = told.0
     known (inr kept) =
         subst (λ list. AreOrders p sorted list (Some m)) (sym kept.1)
         (orders-equal p sorted more best m
         (subst (λ r. IsOrder p r m best) kept.0 (subst (λ n. IsOrder p o n best) node at.order)) at.known)
 
-    all : (after ≡ replicate CLASSES None) ⊎ ((o ≡ Equal) × (after ≡ more)) → length after ≡ CLASSES
-    all (inl none) = ap length none
+    all : (AreOrders p sorted after (Some m) × (length after ≡ CLASSES)) ⊎ ((o ≡ Equal) × (after ≡ more)) →
+        length after ≡ CLASSES
+    all (inl told) = told.1
     all (inr kept) = ap length kept.1 ∙ at.all
 
 -- behind one whose node isn't open, or doesn't come first
@@ -437,6 +444,20 @@ past-known t x sorted orders best i d o are so lt known later =
       known = so.known;
       all = so.all;
     }
+
+-- behind an entry of a class that is known to compare as greater
+pub searched_greater : (t : Tables) (x : Task) (sorted : List ClassedNode) (orders : List (Option Ordering))
+    (best : Option Node) (i : ℕ) (d : ClassedNode) → AreSorted t.nodes x.template.spread sorted →
+    IsSearched t x sorted orders best i → i < length sorted →
+    get_or orders (get_or sorted i d).class None ≡ Some Greater → IsSearched t x sorted orders best (i + 1)
+searched_greater t x sorted orders None i d are so lt known =
+    let at = entry_at i t.nodes sorted d are.ids lt in
+    let both : Greater ≡ Less =
+    subst (λ r. IfSome r (λ q. IsOrder (preferences t x) q at.0 None)) known
+    (so.known.each (get_or sorted i d) at.0 (record { there = at_place sorted i d lt; row = at.2; same = at.3 })) in
+    absurd cc
+searched_greater t x sorted orders (Some b) i d are so lt known =
+    past-known t x sorted orders (Some b) i d Greater are so lt known refl
 
 some-behind : (t : Tables) (x : Task) (sorted : List ClassedNode) (orders : List (Option Ordering)) (best : Option Node)
     (n i end : ℕ) (d : ClassedNode) → AreSorted t.nodes x.template.spread sorted →

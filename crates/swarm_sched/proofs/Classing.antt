@@ -9,10 +9,15 @@ use Rattle.std.proofs.lemmas.List.{append-nil, get_or_append_left}
 use Rattle.std.proofs.Math.Seq.{get_or-append_seam}
 use Rattle.std.proofs.lemmas.Slice.Eq.{bytes_eq-Decides}
 use Rattle.std.specs.Borrow.{Bor}
+use Rattle.std.specs.Cmp.Lexicographic.{slice_cmp}
 use Rattle.std.specs.List.{list_any, position}
+use Rattle.std.specs.Ordering.{nat_cmp}
 use Rattle.std.specs.Prelude.{◌&&◌, ◌++◌}
+use Rattle.std.specs.Str.{bytes_eq}
+use Rattle.std.specs.declared.cmp.Ordering.TheVariants.{Less}
+use Rattle.std.specs.declared.cmp.Ordering.{Ordering}
 use Rattle.swarm_objects.proofs.RowLemmas.{row_at-Some}
-use Rattle.swarm_objects.proofs.Tests.{neither_left, neither_right}
+use Rattle.swarm_objects.proofs.Tests.{both_are, neither_left, neither_right}
 use Rattle.swarm_objects.specs.ChangeLists.{apply_change, apply_changes}
 use Rattle.swarm_objects.specs.Nodes.BestNode.{agrees}
 use Rattle.swarm_objects.specs.Nodes.Constraints.{key_value}
@@ -26,8 +31,9 @@ use Rattle.swarm_objects.specs.declared.rows.Change.{Change}
 use Rattle.swarm_objects.specs.declared.templates.Key.{Key}
 use Rattle.swarm_sched.proofs.Branching.{agree-alike}
 use Rattle.swarm_sched.specs.Inside.Bounds.{AreLeast}
-use Rattle.swarm_sched.specs.Inside.Classes.{AreClasses, AreSorted, AreSorting, HaveClasses, IsEntry, IsMore, IsOf}
-use Rattle.swarm_sched.specs.Inside.Classes.{entry_id, puts_node, sorted_by}
+use Rattle.swarm_sched.specs.Inside.ClassTable.{AreRows, value_order}
+use Rattle.swarm_sched.specs.Inside.Classes.{AreClasses, AreSorted, AreSorting, AreValues, HaveClasses, IsEntry}
+use Rattle.swarm_sched.specs.Inside.Classes.{IsMore, IsOf, entry_id, puts_node, sorted_by}
 use Rattle.swarm_sched.specs.declared.classes.ClassedNode.{ClassedNode}
 use Rattle.swarm_sched.specs.declared.classes.SortedNodes.{SortedNodes}
 use Rattle.swarm_sched.specs.declared.classes.Sorting.TheVariants as sorting
@@ -55,25 +61,34 @@ nodes-left (c ∷ cs) t none =
 
 -- what is sorted stays so, where it goes on being known what the nodes have at least
 pub classes_alike : (t u : Tables) (keys : List Key) (nodes : List ClassedNode) (count : ℕ)
-    (before after : List (List (Option ℕ))) → u.nodes ≡ t.nodes →
-    AreSorted t.nodes keys nodes × AreLeast t nodes before × HaveClasses count nodes → AreLeast u nodes after →
+    (values : List (List Ordering)) (before after : List (List (Option ℕ))) → u.nodes ≡ t.nodes →
+    AreSorted t.nodes keys nodes × AreLeast t nodes before × HaveClasses count nodes
+    × AreValues t.nodes keys nodes values →
+    AreLeast u nodes after →
     AreSorted u.nodes keys nodes × AreLeast u nodes after × HaveClasses count nodes
-classes_alike t u keys nodes count before after same are least =
-    (subst (λ list. AreSorted list keys nodes) (sym same) are.0, least, are.2)
+    × AreValues u.nodes keys nodes values
+classes_alike t u keys nodes count values before after same are least = (
+  subst (λ list. AreSorted list keys nodes) (sym same) are.0,
+  least,
+  are.2,
+  subst (λ list. AreValues list keys nodes values) (sym same) are.3,
+)
 
 pub classes_left : (t : Tables) (cs : List Change) (keys : List Key) (nodes : List ClassedNode) (count : ℕ)
-    (before after : List (List (Option ℕ))) → list_any puts_node cs ≡ false →
-    AreSorted t.nodes keys nodes × AreLeast t nodes before × HaveClasses count nodes →
+    (values : List (List Ordering)) (before after : List (List (Option ℕ))) → list_any puts_node cs ≡ false →
+    AreSorted t.nodes keys nodes × AreLeast t nodes before × HaveClasses count nodes
+    × AreValues t.nodes keys nodes values →
     AreLeast (apply_changes t cs) nodes after →
     AreSorted (apply_changes t cs).nodes keys nodes × AreLeast (apply_changes t cs) nodes after
-    × HaveClasses count nodes
-classes_left t cs keys nodes count before after none =
-    classes_alike t (apply_changes t cs) keys nodes count before after (nodes-left cs t none)
+    × HaveClasses count nodes × AreValues (apply_changes t cs).nodes keys nodes values
+classes_left t cs keys nodes count values before after none =
+    classes_alike t (apply_changes t cs) keys nodes count values before after (nodes-left cs t none)
 
 -- what is kept is of the sorted nodes
 pub sorted_done : (t : Tables) (keys : List Key) (s : Sorting) (n : SortedNodes) → s ≡ sorting.Done n →
     AreClasses t (sorted_by keys s) →
-    AreSorted t.nodes keys n.nodes × AreLeast t n.nodes n.bounds × HaveClasses n.count n.nodes
+    AreSorted t.nodes keys n.nodes × AreLeast t n.nodes n.bounds × HaveClasses n.table.count n.nodes
+    × AreValues t.nodes keys n.nodes n.table.values
 sorted_done t keys s n is = subst (λ r. AreClasses t (sorted_by keys r)) is
 
 -- A class among its heads.
@@ -263,7 +278,46 @@ sorting_all nodes keys heads sorted left so none = record {
       apart-heads keys heads c.class d.class n m (so.each c n one) (so.each d m other) same;
 }
 
+-- The values of nodes of two classes compare as those of their heads.
+
+head-value : (k : Key) (heads : List (Bor Node)) (class : ℕ) (n : Node) (d : Bor Node) → IsOf (k ∷ []) heads class n →
+    key_value n k ≡ key_value (get_or heads class d).now k
+head-value k heads class n d own =
+    let head : Node = (get_or heads class d).now in
+    (bytes_eq-Decides (key_value n k) (key_value head k)).0
+    (both_are (bytes_eq (key_value n k) (key_value head k)) true (own.alike d)).0
+
+values_one : (nodes : List Node) (k : Key) (heads : List (Bor Node)) (sorted : List ClassedNode) (left : List Node)
+    (values : List (List Ordering)) (c d : ClassedNode) (n m : Node) → AreSorting nodes (k ∷ []) heads sorted left →
+    AreRows k heads (length heads) values → IsEntry nodes sorted c n → IsEntry nodes sorted d m →
+    get_or (get_or values d.class []) c.class Less ≡ value_order k n m
+values_one nodes k [] sorted left values c d n m so rows one other = absurd (omega (arith, (so.each c n one).there))
+values_one nodes k (e ∷ heads) sorted left values c d n m so rows one other =
+    let own = so.each c n one in
+    let second = so.each d m other in
+    (rows.each d.class e second.there).each c.class e own.there
+    ∙ ap (λ v. slice_cmp nat_cmp v (key_value (get_or (e ∷ heads) d.class e).now k))
+    (sym (head-value k (e ∷ heads) c.class n e own))
+    ∙ ap (slice_cmp nat_cmp (key_value n k)) (sym (head-value k (e ∷ heads) d.class m e second))
+
+pub values_all : (nodes : List Node) (keys : List Key) (heads : List (Bor Node)) (sorted : List ClassedNode)
+    (left : List Node) (values : List (List Ordering)) → AreSorting nodes keys heads sorted left →
+    ((k : Key) → keys ≡ k ∷ [] → AreRows k heads (length heads) values) → AreValues nodes keys sorted values
+values_all nodes keys heads sorted left values so rows = record {
+  each = λ k is c d n m one other.
+      values_one nodes k heads sorted left values c d n m
+      (subst (λ l. AreSorting nodes l heads sorted left) is so) (rows k is) one other;
+}
+
 -- What is kept serves.
+
+pub served_values : (nodes : List Node) (by keys : List Key) (sorted : List ClassedNode)
+    (values : List (List Ordering)) → AreValues nodes by sorted values → (keys ≡ by) ⊎ (keys ≡ []) →
+    AreValues nodes keys sorted values
+served_values nodes by keys sorted values are (inl same) =
+    subst (λ k. AreValues nodes k sorted values) (sym same) are
+served_values nodes by keys sorted values are (inr none) =
+    record { each = λ k is. let both : k ∷ [] ≡ [] = sym is ∙ none in absurd cc }
 
 pub served : (nodes : List Node) (by keys : List Key) (sorted : List ClassedNode) → AreSorted nodes by sorted →
     (keys ≡ by) ⊎ (keys ≡ []) → AreSorted nodes keys sorted

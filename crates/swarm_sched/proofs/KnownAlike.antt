@@ -36,7 +36,8 @@ classes-so : (t u : Tables) (o : Option Classes) → u.tasks ≡ t.tasks → u.n
     AreClasses u o
 classes-so t u None tasks nodes are = tt
 classes-so t u (Some k) tasks nodes are =
-    classes_alike t u k.keys k.nodes k.count k.bounds k.bounds nodes are (least-so t u k.nodes k.bounds tasks are.1)
+    classes_alike t u k.keys k.nodes k.count k.values k.bounds k.bounds nodes are
+    (least-so t u k.nodes k.bounds tasks are.1)
 
 pub knows_alike : (t u : Tables) (k : KnownNodes) → u.tasks ≡ t.tasks → u.nodes ≡ t.nodes → KnowsNodes t k →
     KnowsNodes u k

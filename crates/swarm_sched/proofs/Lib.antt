@@ -3,6 +3,7 @@ mod Branching
 mod ClassOrders
 mod ClassLoading
 mod Classing
+mod Comparing
 mod Halving
 mod Knowing
 pub mod KnownAlike

@@ -1,12 +1,12 @@
--- What is remembered of nodes that refused waiting tasks: a slot that is filled or emptied, and what changes of rows
--- leave true.
-use Rattle.std.proofs.Common.{◌≡◌, ◌∙◌, ◌∷◌, ◌<◌, ◌⊎◌, ℕ, Bool, List, None, Option, Some, Vec, [], ap, append-nil}
+-- What is remembered of nodes that refused waiting tasks: slots by rounds, a slot that is filled or emptied, and what
+-- changes of rows leave true.
+use Rattle.std.proofs.Common.{◌≡◌, ◌∙◌, ◌∷◌, ◌<◌, ◌≤◌, ◌⊎◌, ℕ, Bool, List, None, Option, Some, Vec, [], ap, append-nil}
 use Rattle.std.proofs.Common.{arith, cond, drop, drop_of_length-le, eqb, false, get_or, inl, inr, length, map, not, refl, replicate, set, subst, suc, sym, take, true, zero}
 use Rattle.std.proofs.lemmas.Bool.Decides.{nat_tests}
-use Rattle.std.proofs.lemmas.List.{get_or-set_other, get_or-set_same, length-map, length-set, take_all}
+use Rattle.std.proofs.lemmas.List.{get_or-set_other, get_or-set_same, length-map, length-set, map-set, take_all}
 use Rattle.std.proofs.lemmas.Nat.{mod_below}
 use Rattle.std.specs.List.{list_any}
-use Rattle.std.specs.Prelude.{IfSome, count_by, ◌%◌, ◌&&◌, ◌+◌, ◌++◌, ◌==◌, ◌||◌, filter, nat_le, nat_lt, sum_by}
+use Rattle.std.specs.Prelude.{IfSome, count_by, ◌%◌, ◌&&◌, ◌+◌, ◌++◌, ◌-◌, ◌==◌, ◌||◌, filter, nat_le, nat_lt, sum_by}
 use Rattle.swarm_objects.proofs.Placing.{here_is}
 use Rattle.swarm_objects.proofs.RowLemmas.{Has-append_cases, Has-map_cases, row_at-Some}
 use Rattle.swarm_objects.proofs.Tests.{both_are}
@@ -25,9 +25,11 @@ use Rattle.swarm_objects.specs.declared.tasks.Task.{Task}
 use Rattle.swarm_objects.specs.declared.templates.Template.{Template}
 use Rattle.swarm_sched.proofs.Classing.{change-left}
 use Rattle.swarm_sched.proofs.Knowing.{Misses, changes-leave, decide, on-is}
-use Rattle.swarm_sched.specs.Inside.KnownRefusals.{IsIn, IsRefusal, KnowsGroup, KnowsRefusals, Refusals, filter_of}
-use Rattle.swarm_sched.specs.Inside.KnownRefusals.{forget, forget_each, put, recalled, refused_later, shown, without}
+use Rattle.swarm_sched.specs.Inside.KnownRefusals.{AreSoFar, IsIn, IsRefusal, KnowsGroup, KnowsRefusals, Refusals}
+use Rattle.swarm_sched.specs.Inside.KnownRefusals.{filter_of, forget, forget_each, of_round, put, recalled, refused_later}
+use Rattle.swarm_sched.specs.Inside.KnownRefusals.{set_slot, shown, without}
 use Rattle.swarm_sched.specs.Inside.Touching.{IsSpared, former_node, touched}
+use Rattle.swarm_sched.specs.declared.known_refusals.Noted.{Noted}
 use Rattle.swarm_sched.specs.declared.known_refusals.Refusal.{Refusal}
 
 -- What the later filters read.
@@ -68,6 +70,114 @@ later-of t x y n s m =
 later-decides : (t : Tables) (x : Task) (n : Node) → takes_tasks t n ≡ true → refused_by t x n ≡ refused_later t x n
 later-decides t x n takes = ap (λ (b : Bool). cond (not b) (Some 0) (refused_later t x n)) takes
 
+-- Options, and a list of which one is set.
+
+some-is : {X : Type 0} (a b : X) → Some a ≡ Some b → a ≡ b
+some-is a b e = cc
+
+never : {X : Type 0} (x : X) → ◌≡◌ {A = Option X} None (Some x) → ⊥
+never x e = cc
+
+Has-set : {X : Type 0} (xs : List X) (i : ℕ) (y x : X) → Has (set xs i y) x → (y ≡ x) ⊎ Has xs x
+Has-set [] i y x h = absurd h
+Has-set (z ∷ xs) zero y x (inl e) = inl e
+Has-set (z ∷ xs) zero y x (inr h) = inr (inr h)
+Has-set (z ∷ xs) (suc i) y x (inl e) = inr (inl e)
+Has-set (z ∷ xs) (suc i) y x (inr h) = elim (Has-set xs i y x h) [ inl e ↦ inl e | inr there ↦ inr (inr there) ]
+
+-- Slots, of which those of one round count.
+
+-- what is put in the node's slot counts
+pub slot_written : (round node k : ℕ) (slots : List (Option Noted)) (seen : List (Option Refusal)) (n : Option Noted)
+    (o : Option Refusal) → map (of_round round) slots ≡ seen → k ≡ length slots → of_round round n ≡ o →
+    map (of_round round) (set slots (node % k) n) ≡ set_slot seen node o
+slot_written round node k slots seen n o is long same =
+    let count : k ≡ length seen =
+    long ∙ sym (length-map slots (of_round round)) ∙ ap (λ (l : List (Option Refusal)). length l) is in
+    map-set (of_round round) slots (node % k) n ∙ ap (λ p. set (map (of_round round) slots) (node % k) p) same
+    ∙ ap (λ (l : List (Option Refusal)). set l (node % k) o) is ∙ ap (λ j. set seen (node % j) o) count
+
+pub so_far_set : (round i : ℕ) (slots : List (Option Noted)) (n : Option Noted) → IfSome n (λ p. p.round ≤ round) →
+    AreSoFar round slots → AreSoFar round (set slots i n)
+so_far_set round i slots n so all = record { each = λ p h. go p (Has-set slots i n (Some p) h) }
+  where
+    go : (p : Noted) → (n ≡ Some p) ⊎ Has slots (Some p) → p.round ≤ round
+    go p (inl e) = subst (λ o. IfSome o (λ q. q.round ≤ round)) e so
+    go p (inr h) = all.each p h
+
+-- nothing counts in a further round
+all_empty : (round further : ℕ) (slots : List (Option Noted)) → AreSoFar round slots → round < further →
+    map (of_round further) slots ≡ replicate (length slots) None
+all_empty round further slots all later = go slots all.each
+  where
+    slot : (o : Option Noted) → ((n : Noted) → o ≡ Some n → n.round ≤ round) → of_round further o ≡ None
+    slot None is = refl
+    slot (Some n) is = old (eqb n.round further) refl
+      where
+        old : (b : Bool) → eqb n.round further ≡ b → ◌≡◌ {A = Option Refusal} (cond b (Some n.refusal) None) None
+        old true same =
+            let at : n.round ≡ further = grind (arith, nat_tests, same) in
+            absurd (omega (arith, at, later, is n refl))
+        old false other = refl
+
+    go : (l : List (Option Noted)) → ((n : Noted) → Has l (Some n) → n.round ≤ round) →
+        map (of_round further) l ≡ replicate (length l) None
+    go [] each = refl
+    go (o ∷ l) each =
+        ap (λ p. p ∷ map (of_round further) l) (slot o (λ n e. each n (inl e)))
+        ∙ ap (λ (r : List (Option Refusal)). None ∷ r) (go l (λ n h. each n (inr h)))
+
+pub empty_again : (round further : ℕ) (slots : List (Option Noted)) (seen : List (Option Refusal)) →
+    map (of_round round) slots ≡ seen → AreSoFar round slots → round < further →
+    map (of_round further) slots ≡ replicate (length seen) None
+empty_again round further slots seen is all later =
+    all_empty round further slots all later
+    ∙ ap (λ (n : ℕ). replicate n None)
+    (sym (length-map slots (of_round round)) ∙ ap (λ (l : List (Option Refusal)). length l) is)
+
+-- Slots that are filled anew.
+
+none-has : (n : ℕ) (p : Noted) → Has (replicate n None) (Some p) → ⊥
+none-has zero p h = h
+none-has (suc n) p (inl e) = never p e
+none-has (suc n) p (inr h) = none-has n p h
+
+nothing-taken : (n : ℕ) → ◌≡◌ {A = List (Option Noted)} (take n []) []
+nothing-taken zero = refl
+nothing-taken (suc n) = refl
+
+all-none : (n : ℕ) → map (of_round 0) (replicate n None) ≡ replicate n None
+all-none zero = refl
+all-none (suc n) = ap (λ (l : List (Option Refusal)). None ∷ l) (all-none n)
+
+-- so many empty ones, or none for want of memory
+refilled-is : (b : Bool) (n k : ℕ) (cleared slots : List (Option Noted)) → cleared ≡ [] → k ≡ 0 →
+    slots ≡ cond b (take n cleared ++ replicate (n - k) None) cleared →
+    slots ≡ cond b (replicate n None) []
+refilled-is b n k cleared slots none blank is =
+    let whole : n - 0 ≡ n = omega arith in
+    is ∙ ap (λ (l : List (Option Noted)). cond b (take n l ++ replicate (n - k) None) l) none
+    ∙ ap (λ j. cond b (take n [] ++ replicate (n - j) None) []) blank
+    ∙ ap (λ j. cond b (take n [] ++ replicate j None) []) whole
+    ∙ ap (λ (l : List (Option Noted)). cond b (l ++ replicate n None) []) (nothing-taken n)
+
+pub so_far_refilled : (b : Bool) (n k : ℕ) (cleared slots : List (Option Noted)) → cleared ≡ [] → k ≡ 0 →
+    slots ≡ cond b (take n cleared ++ replicate (n - k) None) cleared → AreSoFar 0 slots
+so_far_refilled b n k cleared slots none blank is =
+    subst (AreSoFar 0) (sym (refilled-is b n k cleared slots none blank is)) (go b)
+  where
+    go : (d : Bool) → AreSoFar 0 (cond d (replicate n None) [])
+    go true = record { each = λ p h. absurd (none-has n p h) }
+    go false = record { each = λ p h. absurd h }
+
+pub refilled_empty : (b : Bool) (n k : ℕ) (cleared slots : List (Option Noted)) → cleared ≡ [] → k ≡ 0 →
+    slots ≡ cond b (take n cleared ++ replicate (n - k) None) cleared → b ≡ true →
+    map (of_round 0) slots ≡ replicate n None
+refilled_empty b n k cleared slots none blank is done =
+    ap (map (of_round 0))
+    (refilled-is b n k cleared slots none blank is ∙ ap (λ d. cond d (replicate n None) []) done)
+    ∙ all-none n
+
 -- One slot.
 
 -- what a changed slot leaves of a node: nothing, what stands in it, or what was remembered
@@ -102,12 +212,6 @@ slot-put g node o m = go g.slots refl
     go : (all : List (Option Refusal)) → g.slots ≡ all → Leaves g
     go [] is = subst Leaves (ap (λ (l : List (Option Refusal)). record g { slots = l }) (sym is)) (inl refl)
     go (s ∷ all) is = some (s ∷ all) (omega arith) is
-
-some-is : {X : Type 0} (a b : X) → Some a ≡ Some b → a ≡ b
-some-is a b e = cc
-
-never : {X : Type 0} (x : X) → ◌≡◌ {A = Option X} None (Some x) → ⊥
-never x e = cc
 
 -- this filter refuses the node with this id
 pub refusal_put : (t : Tables) (g : Refusals) (node filter : ℕ) (r : Refusal) → r.node ≡ node → r.filter ≡ filter →
@@ -146,13 +250,6 @@ nothing_known t g n none = record {
 }
 
 -- Groups in slots.
-
-Has-set : {X : Type 0} (xs : List X) (i : ℕ) (y x : X) → Has (set xs i y) x → (y ≡ x) ⊎ Has xs x
-Has-set [] i y x h = absurd h
-Has-set (z ∷ xs) zero y x (inl e) = inl e
-Has-set (z ∷ xs) zero y x (inr h) = inr (inr h)
-Has-set (z ∷ xs) (suc i) y x (inl e) = inr (inl e)
-Has-set (z ∷ xs) (suc i) y x (inr h) = elim (Has-set xs i y x h) [ inl e ↦ inl e | inr there ↦ inr (inr there) ]
 
 Has-get : {X : Type 0} (xs : List X) (i : ℕ) (d : X) → i < length xs → Has xs (get_or xs i d)
 Has-get [] i d lt = absurd (omega (arith, lt))

@@ -2,6 +2,7 @@
 pub mod Bounds
 pub mod Branches
 pub mod ClassLoads
+pub mod ClassTable
 pub mod Classes
 pub mod Known
 pub mod KnownNodes

@@ -23,8 +23,8 @@ pub const BLOCK: usize = 16;
 
 /// For each block of sorted nodes, and each class, how many live tasks a node of it has at least, and None where no
 /// node of the class is in the block. A lower bound is enough: where it rules all nodes out, so do their tasks. It
-/// stays one where tasks come to a node, so it's made anew only where a block is looked at that may have changed, and is
-/// 0 where tasks may have left. Of a block that isn't there, for want of memory, it is 0.
+/// stays one where tasks come to a node, so it's made anew only where a block is looked at that may have changed, and
+/// is 0 where tasks may have left. Of a block that isn't there, for want of memory, it is 0.
 #[derive(Drop)]
 pub struct Bounds {
     blocks: Vec<[Option<u64>; CLASSES]>,

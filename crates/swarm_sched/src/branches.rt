@@ -1,9 +1,9 @@
 // Which of two nodes comes first by the placement preferences.
-ghost use Rattle.std.specs.Prelude.{◌≡◌, ◌≤◌, ◌∷◌, IfSome, IsTrue, [], length, true};
+ghost use Rattle.std.specs.Prelude.{◌≡◌, ◌≤◌, IfSome, IsTrue, [], length, true};
 ghost use Rattle.std.specs.Ordering.{nat_cmp};
 ghost use Rattle.swarm_objects.specs.Nodes.BestNode.{agrees, branch_load, spread_cmp};
 ghost use Rattle.swarm_objects.specs.Usable.{IsUsable};
-ghost use Rattle.swarm_sched.specs.Inside.Branches.{HasText, IsBranchOf, IsToldByText, is_of_branch, load_at};
+ghost use Rattle.swarm_sched.specs.Inside.Branches.{HasText, IsToldByText, is_of_branch, load_at};
 
 use crate::keys::{agrees, text_of, value_cmp};
 use std::cmp::Ordering;
@@ -100,16 +100,6 @@ fn is_told_by_text(keys: &[Key]) -> bool
     match keys.first() {
         Some(Key::NodeId) | None => false,
         Some(_) => keys.len() == 1,
-    }
-}
-
-// The only one of the keys, where there is no other.
-fn only(keys: &[Key]) -> Option<&Key>
-    ensures { IfSome result (λ key. keys.now ≡ key.now ∷ []) }
-{
-    match keys {
-        [key] => Some(key),
-        _ => None,
     }
 }
 
@@ -215,24 +205,6 @@ impl<'a, R: Rows> Branches<'a, R> {
         let one = self.load(depth, a);
         let other = self.load(depth, b);
         one.cmp(&other)
-    }
-
-    /// The same as `spread_cmp`, where it is known how many tasks are in the branches of both by all preferences: one
-    /// preference alone is decided by these, mostly without a look at the values.
-    pub fn spread_cmp_by(&mut self, a: &'a Node, b: &'a Node, own: u64, other: u64) -> Ordering
-        requires own { IsBranchOf self.old own a.now }
-        requires other { IsBranchOf self.old other b.now }
-        ensures order { let p = self.old in
-            result ≡ spread_cmp p.tables p.service [] p.keys a.now b.now }
-        ensures same { self.new ≡ self.old }
-    {
-        let Some(key) = only(self.keys) else {
-            return self.spread_cmp(a, b);
-        };
-        match own.cmp(&other) {
-            Ordering::Equal => value_cmp(key, a, b),
-            order => order,
-        }
     }
 
     /// Which of two nodes comes first by each preference in turn: the first for which they have different values

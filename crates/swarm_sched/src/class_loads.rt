@@ -94,8 +94,8 @@ fn tell_classes<'a, R: Rows>(
 }
 
 /// The branches of the task's service, and how many of its tasks count in each class at most. Where there are
-/// preferences, by which the nodes are sorted, exactly so many do: one walk counts them. By more than one preference the
-/// branches are told of them.
+/// preferences, by which the nodes are sorted, exactly so many do: one walk counts them. By more than one preference
+/// the branches are told of them.
 pub fn branches_of<'a, R: Rows>(
     rows: &'a R,
     task: &'a Task,

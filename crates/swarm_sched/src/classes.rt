@@ -5,13 +5,14 @@ ghost use Rattle.std.specs.Prelude.{◌≡◌, ◌≤◌, IfSome, IsTrue, None, 
 ghost use Rattle.swarm_objects.specs.ChangeLists.{apply_changes};
 ghost use Rattle.swarm_objects.specs.Nodes.BestNode.{agrees, best_node};
 ghost use Rattle.swarm_objects.specs.Usable.{IsUsable};
-ghost use Rattle.swarm_sched.specs.Inside.Classes.{AreClasses, AreFew, AreSorted, HaveClasses, IsMore, IsOf, IsServed};
-ghost use Rattle.swarm_sched.specs.Inside.Classes.{classes, puts_node};
+ghost use Rattle.swarm_sched.specs.Inside.Classes.{AreClasses, AreFew, AreSorted, AreValues, HaveClasses};
+ghost use Rattle.swarm_sched.specs.Inside.Classes.{IsMore, IsOf, IsServed, classes, puts_node};
 ghost use Rattle.swarm_sched.specs.Inside.Known.{Knows};
 ghost use Rattle.swarm_sched.specs.Inside.KnownRefusals.{KnowsOwn};
 ghost use Rattle.swarm_sched.specs.declared.classes.TheConstants.{CLASSES};
 
 use crate::bounds::Bounds;
+use crate::class_table::ClassTable;
 use crate::keys::agrees;
 use crate::known::KnownTotals;
 use crate::known_refusals::Group;
@@ -36,8 +37,7 @@ pub struct ClassedNode {
 struct SortedNodes {
     nodes: List<ClassedNode>,
     bounds: Bounds,
-    // how many classes there are
-    count: usize,
+    table: ClassTable,
 }
 
 // Whether the nodes are sorted.
@@ -102,10 +102,17 @@ fn class_of<'a>(keys: &[Key], heads: &mut List<&'a Node>, node: &'a Node) -> Opt
     }
 }
 
-// All nodes with their classes by these keys, unless there are too many or memory is wanting.
-fn sorted_nodes<R: Rows>(alloc: Global, rows: &R, keys: &[Key]) -> Option<List<ClassedNode>>
+// All nodes with their classes by these keys, and what is known of these, unless there are too many or memory is
+// wanting.
+fn sorted_nodes<R: Rows>(
+    alloc: Global,
+    rows: &R,
+    keys: &[Key],
+) -> Option<(List<ClassedNode>, ClassTable)>
     requires { IsUsable (R.tables rows.now) }
-    ensures { IfSome result (AreSorted (R.tables rows.now).nodes keys.now) }
+    ensures sorted { IfSome result (λ s. AreSorted (R.tables rows.now).nodes keys.now s.0) }
+    ensures count { IfSome result (λ s. HaveClasses s.1.count s.0) }
+    ensures values { IfSome result (λ s. AreValues (R.tables rows.now).nodes keys.now s.0 s.1.values) }
 {
     let mut heads = List::new(alloc);
     let mut sorted = List::new(alloc);
@@ -115,7 +122,8 @@ fn sorted_nodes<R: Rows>(alloc: Global, rows: &R, keys: &[Key]) -> Option<List<C
             return None;
         };
     }
-    Some(sorted)
+    let table = ClassTable::new(class_count(sorted.as_slice()), keys, heads.as_slice());
+    Some((sorted, table))
 }
 
 // How many classes they are of.
@@ -166,7 +174,7 @@ impl Asked {
                 group,
                 sorted.nodes.as_slice(),
                 &mut sorted.bounds,
-                sorted.count,
+                &sorted.table,
                 task,
             )),
             Sorting::NotYet | Sorting::InVain => None,
@@ -204,8 +212,8 @@ impl Asked {
     {
         if let Sorting::NotYet = self.sorting {
             self.sorting = match sorted_nodes(alloc, rows, self.keys.as_slice()) {
-                Some(nodes) => Sorting::Done(SortedNodes {
-                    count: class_count(nodes.as_slice()),
+                Some((nodes, table)) => Sorting::Done(SortedNodes {
+                    table,
                     bounds: Bounds::new(alloc, nodes.len()),
                     nodes,
                 }),

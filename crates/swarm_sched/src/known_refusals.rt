@@ -1,10 +1,11 @@
 // Which filters refused waiting tasks the nodes, as far as it is remembered from one placement to the next.
-ghost use Rattle.std.specs.Prelude.{◌≡◌, ◌<◌, IfSome, IsTrue, None, [], length, map, replicate};
+ghost use Rattle.std.specs.Prelude.{◌≡◌, ◌<◌, ◌≤◌, IfSome, IsTrue, None, [], length, map, replicate};
 ghost use Rattle.swarm_objects.specs.ChangeLists.{apply_changes};
 ghost use Rattle.swarm_objects.specs.Usable.{IsUsable};
 ghost use Rattle.swarm_objects.specs.World.{Tables};
 ghost use Rattle.swarm_sched.specs.Inside.KnownRefusals.{IsIn, IsRefusal, KnowsGroup, KnowsOwn, KnowsRefusals};
-ghost use Rattle.swarm_sched.specs.Inside.KnownRefusals.{filter_of, forget, forget_each, put, recalled, without};
+ghost use Rattle.swarm_sched.specs.Inside.KnownRefusals.{filter_of, forget, forget_each, in_slot, of_round};
+ghost use Rattle.swarm_sched.specs.Inside.KnownRefusals.{put, recalled, set_slot, without};
 
 use crate::touching::touched;
 use std::alloc::Global;
@@ -26,14 +27,41 @@ pub struct Refusal {
     filter: u32,
 }
 
+/// A refusal, and the round in which it was remembered.
+#[derive(Clone, Copy)]
+pub struct Noted {
+    refusal: Refusal,
+    round: u64,
+}
+
+/// Slots for refusals: each node has one, by the rest of its id, and of nodes with the same slot the last one is
+/// remembered. A refusal counts in its round alone: so a further round empties all slots, and none is touched.
+/// Contracts see what counts.
+#[derive(Drop)]
+pub struct Slots {
+    round: u64,
+    items: Vec<Option<Noted>>,
+}
+
+impl Model for Slots {
+    ghost use Rattle.std.specs.Prelude.{List as Seq, Option, map};
+    ghost use Rattle.swarm_sched.specs.Inside.KnownRefusals.{AreSoFar, of_round};
+    ghost use Rattle.swarm_sched.specs.declared.known_refusals.Refusal.{Refusal};
+
+    ghost Value = { Seq (Option Refusal) };
+
+    ghost view = { λ s. map (of_round s.round) s.items.items };
+
+    ghost invariant = { λ s. AreSoFar s.round s.items.items };
+}
+
 /// The tasks of a service by one template, and the filters that refused them nodes; that which reads the node's session
-/// is left out. Each node has one slot, by the rest of its id, and of nodes with the same slot the last one is
-/// remembered.
+/// is left out.
 #[derive(Drop)]
 pub struct Group {
     service: Id,
     template: Shared<Template>,
-    slots: Vec<Option<Refusal>>,
+    slots: Slots,
 }
 
 impl Model for Group {
@@ -41,7 +69,7 @@ impl Model for Group {
 
     ghost Value = { Refusals };
 
-    ghost view = { λ g. record { service = g.service; template = g.template; slots = g.slots.items } };
+    ghost view = { λ g. record { service = g.service; template = g.template; slots = g.slots } };
 }
 
 /// The groups of tasks that were asked for, one a service and GROUPS at most: a service's group stays until one by
@@ -61,6 +89,87 @@ impl Model for KnownRefusals {
     ghost Value = { Seq (Option Refusals) };
 
     ghost view = { λ k. shown k.groups };
+}
+
+// What stands in the slot, where it was remembered in this round.
+fn of_round(round: u64, slot: Option<Noted>) -> Option<Refusal>
+    ensures { result ≡ of_round round slot }
+{
+    match slot {
+        Some(noted) if noted.round == round => Some(noted.refusal),
+        _ => None,
+    }
+}
+
+// What to put in a slot in this round.
+fn in_round(round: u64, refusal: Option<Refusal>) -> Option<Noted>
+    ensures so_far { IfSome result (λ n. n.round ≤ round) }
+    ensures same { of_round round result ≡ refusal }
+{
+    match refusal {
+        Some(refusal) => Some(Noted { refusal, round }),
+        None => None,
+    }
+}
+
+impl Slots {
+    // No slots.
+    fn none(alloc: Global) -> Slots {
+        Slots {
+            round: 0,
+            items: Vec::new(alloc),
+        }
+    }
+
+    // What stands in the node's slot.
+    fn get(&self, node: Id) -> Option<Refusal>
+        ensures { result ≡ in_slot self.now node }
+    {
+        if self.items.is_empty() {
+            return None;
+        }
+        of_round(self.round, self.items[node as usize % self.items.len()])
+    }
+
+    // Puts it in the node's slot.
+    fn put(&mut self, node: Id, refusal: Option<Refusal>)
+        ensures { self.new ≡ set_slot self.old node refusal }
+    {
+        if self.items.is_empty() {
+            return;
+        }
+        let slot = node as usize % self.items.len();
+        self.items[slot] = in_round(self.round, refusal);
+    }
+
+    // Empties them by a further round, where one has a number.
+    fn begin_round(&mut self) -> bool
+        ensures { IsTrue result → self.new ≡ replicate (length self.old) None }
+    {
+        match self.round.checked_add(1) {
+            Some(round) => {
+                self.round = round;
+                true
+            }
+            None => false,
+        }
+    }
+
+    // So many empty ones, where there is memory.
+    fn fill(&mut self, count: usize) -> bool
+        ensures { IsTrue result → self.new ≡ replicate count None }
+    {
+        self.items.clear();
+        self.round = 0;
+        self.items.resize(count, None).is_ok()
+    }
+
+    // The same, by a further round where there are as many.
+    fn make_empty(&mut self, count: usize) -> bool
+        ensures { IsTrue result → self.new ≡ replicate count None }
+    {
+        (self.items.len() == count && self.begin_round()) || self.fill(count)
+    }
 }
 
 // The filter in the slot, where it is of this node.
@@ -85,21 +194,14 @@ impl Group {
     pub fn recall(&self, node: Id) -> Option<u32>
         ensures { result ≡ recalled self.now node }
     {
-        if self.slots.is_empty() {
-            return None;
-        }
-        filter_of(node, self.slots[node as usize % self.slots.len()])
+        filter_of(node, self.slots.get(node))
     }
 
     // Puts it in the node's slot.
     fn put(&mut self, node: Id, refusal: Option<Refusal>)
         ensures { self.new ≡ put self.old node refusal }
     {
-        if self.slots.is_empty() {
-            return;
-        }
-        let slot = node as usize % self.slots.len();
-        self.slots[slot] = refusal;
+        self.slots.put(node, refusal);
     }
 
     /// Remembers that this filter refuses them the node.
@@ -129,25 +231,12 @@ fn slot_count<R: Rows>(rows: &R) -> usize
     slots_for(count)
 }
 
-// So many empty slots, where there is memory.
-fn make_empty(slots: &mut Vec<Option<Refusal>>, count: usize) -> bool
-    ensures { IsTrue result → slots.new.items ≡ replicate count None }
-{
-    slots.clear();
-    slots.resize(count, None).is_ok()
-}
-
 // The task's group, for which nothing is remembered so far, with so many of these slots.
 #[tactic(auto, using(crate::proofs::Remembering::nothing_known))]
-fn empty_group(
-    alloc: Global,
-    mut slots: Vec<Option<Refusal>>,
-    count: usize,
-    task: &Task,
-) -> Option<Group>
+fn empty_group(alloc: Global, mut slots: Slots, count: usize, task: &Task) -> Option<Group>
     ensures { (t : Tables) → KnowsOwn t task.now result }
 {
-    if !make_empty(&mut slots, count) {
+    if !slots.make_empty(count) {
         return None;
     }
     let template = task.template.duplicate(alloc).ok()?;
@@ -163,10 +252,11 @@ fn new_group<R: Rows>(alloc: Global, rows: &R, task: &Task) -> Option<Group>
     requires { IsUsable (R.tables rows.now) }
     ensures { (t : Tables) → KnowsOwn t task.now result }
 {
-    empty_group(alloc, Vec::new(alloc), slot_count(rows), task)
+    empty_group(alloc, Slots::none(alloc), slot_count(rows), task)
 }
 
-/// The same, with slots for so many nodes. Those of another group are used again.
+/// The same, with slots for so many nodes. Those of another group are used again; where these are as many, none is
+/// touched.
 pub fn renewed_group(
     alloc: Global,
     former: Option<Group>,
@@ -177,7 +267,7 @@ pub fn renewed_group(
 {
     let slots = match former {
         Some(group) => group.slots,
-        None => Vec::new(alloc),
+        None => Slots::none(alloc),
     };
     empty_group(alloc, slots, slots_for(nodes), task)
 }

@@ -16,14 +16,12 @@ use std::{mem, slice};
 use swarm_filters::{first_refusal_by, is_tested_on};
 use swarm_objects::{Change, Id, Node, Rows, Task};
 
-/// The group of the tasks that were placed last. Another one takes its place where a service asks twice in a row: to
-/// begin one costs more than to place one task. Contracts see it as the only one of a list.
+/// The group of the tasks that were placed last. A task of another one begins its own in its place. That takes a few
+/// steps, since the slots are used again as they are. Contracts see it as the only one of a list.
 #[derive(Drop)]
 pub struct LastGroup {
     // None where nothing will be remembered
     alloc: Option<Global>,
-    // the service that asked last
-    service: Id,
     group: Option<Group>,
 }
 
@@ -44,7 +42,6 @@ impl LastGroup {
     {
         LastGroup {
             alloc: None,
-            service: 0,
             group: None,
         }
     }
@@ -56,7 +53,6 @@ impl LastGroup {
     {
         LastGroup {
             alloc: Some(alloc),
-            service: 0,
             group: None,
         }
     }
@@ -83,7 +79,7 @@ impl LastGroup {
         forget_each(slice::from_mut(&mut self.group), rows, changes);
     }
 
-    /// Takes the task's group, or begins one for so many nodes where its service asks again. None where nothing will be
+    /// Takes the task's group, or begins one for so many nodes, where there are any. None where nothing will be
     /// remembered, or for want of memory.
     #[tactic(auto, using(crate::proofs::LastRefusing::last_steps))]
     pub fn take(&mut self, nodes: usize, task: &Task) -> Option<Group>
@@ -93,12 +89,10 @@ impl LastGroup {
         let Some(alloc) = self.alloc else {
             return None;
         };
-        let asks_again = self.service == task.service;
-        self.service = task.service;
         let group = mem::replace(&mut self.group, None);
         match group {
             Some(own) if own.is_for(task) => Some(own),
-            other if asks_again && nodes > 0 => renewed_group(alloc, other, nodes, task),
+            other if nodes > 0 => renewed_group(alloc, other, nodes, task),
             other => {
                 self.group = other;
                 None

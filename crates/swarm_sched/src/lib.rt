@@ -7,6 +7,7 @@ mod bounds;
 mod branches;
 mod changing;
 mod class_loads;
+mod class_table;
 mod classes;
 mod filters;
 mod keys;

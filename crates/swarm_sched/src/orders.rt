@@ -1,6 +1,7 @@
 // How the classes of nodes compare with the best node so far by the placement preferences.
-ghost use Rattle.std.specs.Prelude.{◌≡◌, ◌<◌, ◌≤◌, IfSome, None, Some, get_or, length, replicate, set, ℕ};
-ghost use Rattle.swarm_sched.specs.Inside.Orders.{AreRivals, IsWithout};
+ghost use Rattle.std.specs.Prelude.{◌≡◌, ◌<◌, ◌≤◌, IfSome, IsTrue, None, Some, get_or, length, replicate, set, ℕ};
+ghost use Rattle.std.specs.declared.cmp.Ordering.TheVariants.{Equal, Greater};
+ghost use Rattle.swarm_sched.specs.Inside.Orders.{AreRivals, AreTold, IsWithout};
 ghost use Rattle.swarm_sched.specs.declared.classes.TheConstants.{CLASSES};
 
 use crate::classes::CLASSES;
@@ -77,12 +78,56 @@ impl Orders {
         }
     }
 
+    /// So many classes compare as equal.
+    #[tactic(auto, using(crate::proofs::Rivals::rival_steps))]
+    pub fn alike(count: usize) -> Orders
+        requires { count ≤ CLASSES }
+        ensures { result ≡ record { each = replicate CLASSES (Some Equal); count = count } }
+    {
+        Orders {
+            each: [Some(Ordering::Equal); CLASSES],
+            count,
+            rivals: ALL,
+            left: count,
+        }
+    }
+
+    /// So many classes compare by their tasks with one that has so many, and where they have as many, as these values
+    /// say.
+    pub fn told(
+        count: usize,
+        loads: &[u64; CLASSES],
+        load: u64,
+        values: &[Ordering; CLASSES],
+    ) -> Orders
+        requires { count ≤ CLASSES }
+        ensures told { AreTold loads.now load values.now count result.each }
+        ensures count { result.count ≡ count }
+    {
+        let mut orders = Orders::new(count);
+        for class in 0..count {
+            orders.set(class, loads[class].cmp(&load).then(values[class]));
+        }
+        orders
+    }
+
     /// How the class compares.
     pub fn order(&self, class: usize) -> Option<Ordering>
         requires { class < CLASSES }
         ensures { result ≡ get_or self.now.each class None }
     {
         self.each[class]
+    }
+
+    /// The class is known to compare as greater.
+    pub fn is_behind(&self, class: usize) -> bool
+        requires { class < CLASSES }
+        ensures { IsTrue result → get_or self.now.each class None ≡ Some Greater }
+    {
+        match self.each[class] {
+            Some(Ordering::Greater) => true,
+            Some(Ordering::Less) | Some(Ordering::Equal) | None => false,
+        }
     }
 
     /// The class compares so, of which it wasn't known.

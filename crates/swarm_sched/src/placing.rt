@@ -10,18 +10,20 @@ ghost use Rattle.swarm_objects.specs.Nodes.Filters.{here};
 ghost use Rattle.swarm_objects.specs.Rows.{Has, RisesFrom, node_id, row_at};
 ghost use Rattle.swarm_objects.specs.Usable.{IsUsable};
 ghost use Rattle.swarm_sched.specs.Inside.Bounds.{AreLeast};
-ghost use Rattle.swarm_sched.specs.Inside.Branches.{IsBranchOf};
-ghost use Rattle.swarm_sched.specs.Inside.Classes.{AreBelow, AreFew, AreSorted, HaveClasses, IsOrder, entry_id};
+ghost use Rattle.swarm_sched.specs.Inside.Classes.{AreBelow, AreFew, AreSorted, AreValues, HaveClasses};
+ghost use Rattle.swarm_sched.specs.Inside.Classes.{IsOrder, entry_id};
 ghost use Rattle.swarm_sched.specs.Inside.Known.{Knows};
 ghost use Rattle.swarm_sched.specs.Inside.KnownNodes.{KnowsNodes};
 ghost use Rattle.swarm_sched.specs.Inside.KnownRefusals.{KnowsOwn};
 ghost use Rattle.swarm_sched.specs.Inside.Placing.{AreBehind, IsNodeLoad, Leads, LeadsAll, block_end, comes_first};
+ghost use Rattle.swarm_sched.specs.declared.bounds.TheConstants.{BLOCK};
 ghost use Rattle.swarm_sched.specs.declared.classes.TheConstants.{CLASSES};
 ghost use Rattle.swarm_spread.specs.Counts.{IsFor, Stands};
 
 use crate::bounds::{BLOCK, Bounds, bound_in, measured};
 use crate::branches::Branches;
 use crate::class_loads::branches_of;
+use crate::class_table::ClassTable;
 use crate::classes::ClassedNode;
 use crate::filters::Filters;
 use crate::known::KnownTotals;
@@ -110,20 +112,22 @@ fn spread_order<'a, R: Rows>(
     }
 }
 
-// The same, where it is known how many of the service's tasks are in the branches of the node and of the best one.
-fn spread_order_by<'a, R: Rows>(
+// So the node with this id compares. Where there is no best one, its row isn't looked at.
+fn order_of<'a, R: Rows>(
     branches: &mut Branches<'a, R>,
+    rows: &'a R,
     best: Option<&'a Node>,
-    node: &'a Node,
-    loads: (u64, u64),
+    node: Id,
 ) -> Ordering
-    requires own { IsBranchOf branches.old loads.0 node.now }
-    requires best { IfSome best (λ b. IsBranchOf branches.old loads.1 b.now) }
-    ensures order { IsOrder branches.old result node.now (option_copied best.entry) }
+    ensures order { IfSome (row_at node_id node (R.tables rows.now).nodes)
+        (λ n. IsOrder branches.old result n (option_copied best.entry)) }
     ensures same { branches.new ≡ branches.old }
 {
-    match best {
-        Some(best) => branches.spread_cmp_by(node, best, loads.0, loads.1),
+    let Some(best) = best else {
+        return Ordering::Less;
+    };
+    match rows.node(node) {
+        Some(node) => branches.spread_cmp(node, best),
         None => Ordering::Less,
     }
 }
@@ -135,11 +139,8 @@ fn class_order<'a, R: Rows>(
     rows: &'a R,
     best: Option<&'a Node>,
     entry: ClassedNode,
-    loads: (u64, u64),
 ) -> Ordering
-    requires class { entry.class < CLASSES }
-    requires own { IfSome (row_at node_id entry.id (R.tables rows.now).nodes) (IsBranchOf branches.old loads.0) }
-    requires best { IfSome best (λ b. IsBranchOf branches.old loads.1 b.now) }
+    requires { entry.class < CLASSES }
     ensures order { (get_or orders.old.each entry.class None ≡ Some result)
         ⊎ IfSome (row_at node_id entry.id (R.tables rows.now).nodes)
         (λ n. IsOrder branches.old result n (option_copied best.entry)) }
@@ -152,10 +153,7 @@ fn class_order<'a, R: Rows>(
     if let Some(order) = orders.order(entry.class) {
         return order;
     }
-    let order = match rows.node(entry.id) {
-        Some(node) => spread_order_by(branches, best, node, loads),
-        None => Ordering::Less,
-    };
+    let order = order_of(branches, rows, best, entry.id);
     orders.set(entry.class, order);
     order
 }
@@ -313,9 +311,9 @@ impl<'a> Leader<'a> {
         true
     }
 
-    // Where a block begins at this place, none of its nodes comes first. What is kept of it may tell so, or else what
-    // is found now, if it may have changed. It isn't asked where the best one has tasks of the service's own: others may have fewer of these.
-    #[tactic(auto, using(crate::proofs::Bounding::block_steps))]
+    // Where a block begins at this place, none of its nodes comes first. It isn't asked where the best one has tasks of
+    // the service's own: others may have fewer of these.
+    #[inline] // most places begin no block
     fn leads_block<R: Rows>(
         self,
         rows: &R,
@@ -342,6 +340,36 @@ impl<'a> Leader<'a> {
         if place % BLOCK != 0 || self.best.is_none() || self.held.here > 0 {
             return false;
         }
+        self.leads_from(rows, known, service, nodes, bounds, place)
+    }
+
+    // None of the nodes of the block that begins at this place comes first. What is kept of it may tell so, or else
+    // what is found now, if it may have changed.
+    #[tactic(auto, using(crate::proofs::Bounding::block_steps))]
+    fn leads_from<R: Rows>(
+        self,
+        rows: &R,
+        known: &mut KnownTotals,
+        service: Id,
+        nodes: &[ClassedNode],
+        bounds: &mut Bounds,
+        place: usize,
+    ) -> bool
+        requires usable { IsUsable (R.tables rows.now) }
+        requires knows { Knows (R.tables rows.now) known.old }
+        requires held { IfSome self.best (λ b. IsNodeLoad (R.tables rows.now) b.now.id service self.held) }
+        requires few { AreFew nodes.now }
+        requires below { AreBelow self.orders.now.count nodes.now }
+        requires rises { RisesFrom entry_id 0 nodes.now }
+        requires least { AreLeast (R.tables rows.now) nodes.now bounds.old }
+        requires begins { place % BLOCK ≡ 0 }
+        requires there { place < length nodes.now }
+        ensures behind { IsTrue result →
+            AreBehind (R.tables rows.now) service nodes.now self.entry.orders.now.each
+            (option_copied self.entry.best) place (block_end nodes.now place) }
+        ensures least { AreLeast (R.tables rows.now) nodes.now bounds.new }
+        ensures knows { Knows (R.tables rows.now) known.new }
+    {
         let number = place / BLOCK;
         let first = nodes[place].id;
         if let Some(block) = bounds.block(number) {
@@ -368,17 +396,17 @@ fn block_end(nodes: &[ClassedNode], place: usize) -> usize
     place + (nodes.len() - place).min(BLOCK)
 }
 
-/// The same, where the nodes are sorted, into so many classes. A block of nodes of which none can come before the best
-/// one so far is left out, and so is the row of a node that its class decides, or of one that is remembered as refused
-/// to the task's group. How the classes compare stays so with a new best node that is the former one's equal by the
-/// preferences.
+/// The same, where the nodes are sorted into classes. A block of nodes of which none can come before the best one so
+/// far is left out, and so is the row of a node that its class decides, or of one that is remembered as refused to the
+/// task's group. How the classes compare stays so with a new best node that is the former one's equal by the
+/// preferences; with another one it is told by the classes, unless there are more preferences than one.
 pub fn best_of_classes<'a, R: Rows>(
     rows: &'a R,
     known: &mut KnownTotals,
     group: &mut Option<Group>,
     nodes: &[ClassedNode],
     bounds: &mut Bounds,
-    count: usize,
+    table: &ClassTable,
     task: &Task,
 ) -> Option<&'a Node>
     requires usable { IsUsable (R.tables rows.now) }
@@ -386,15 +414,16 @@ pub fn best_of_classes<'a, R: Rows>(
     requires own { KnowsOwn (R.tables rows.now) task.now group.old }
     requires sorted { AreSorted (R.tables rows.now).nodes task.now.template.spread nodes.now }
     requires least { AreLeast (R.tables rows.now) nodes.now bounds.old }
-    requires classes { HaveClasses count nodes.now }
+    requires classes { HaveClasses table.now.count nodes.now }
+    requires values { AreValues (R.tables rows.now).nodes task.now.template.spread nodes.now table.now.values }
     ensures best { option_copied result ≡ best_node (R.tables rows.now) task.now }
     ensures knows { Knows (R.tables rows.now) known.new }
     ensures own { KnowsOwn (R.tables rows.now) task.now group.new }
     ensures least { AreLeast (R.tables rows.now) nodes.now bounds.new }
 {
-    let (mut branches, most) = branches_of(rows, task, nodes, count);
-    let mut orders = Orders::new(count);
-    let (mut best, mut branch, mut held) = (None, 0, NodeLoad::NONE);
+    let (mut branches, most) = branches_of(rows, task, nodes, table.count);
+    let mut orders = Orders::new(table.count);
+    let (mut best, mut held) = (None, NodeLoad::NONE);
     let mut place = 0;
     while place < nodes.len() {
         let leader = Leader::new(best, held, &orders);
@@ -404,8 +433,10 @@ pub fn best_of_classes<'a, R: Rows>(
         }
         let entry = nodes[place];
         place += 1;
-        let own = most[entry.class];
-        let spread = class_order(&mut branches, &mut orders, rows, best, entry, (own, branch));
+        if orders.is_behind(entry.class) {
+            continue;
+        }
+        let spread = class_order(&mut branches, &mut orders, rows, best, entry);
         if !is_rival(known, rows, task.service, spread, best, held, entry.id) {
             continue;
         }
@@ -417,14 +448,13 @@ pub fn best_of_classes<'a, R: Rows>(
         };
         let standing = Standing {
             spread,
-            has_none: own == 0,
+            has_none: most[entry.class] == 0,
         };
         if let Some(load) = if_better(known, group, rows, task, standing, best, held, node) {
             best = Some(node);
-            branch = own;
             held = load;
             if spread != Ordering::Equal {
-                orders = Orders::new(count);
+                orders = table.orders(task.template.spread.as_slice(), &most, entry.class);
             }
         }
     }

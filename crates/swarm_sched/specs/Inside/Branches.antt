@@ -31,10 +31,6 @@ is_of_branch t keys n x = is_live x && is_placed x && is_node_and t (agrees keys
 abbrev pub load_at : Preferences → ℕ → Node → ℕ
 load_at p depth n = branch_load p.tables p.service (take depth p.keys) n
 
--- so many tasks are in its branch by all preferences, where there are some
-abbrev pub IsBranchOf : Preferences → ℕ → Node → Type 0
-IsBranchOf p load n = (p.keys ≡ [] → ⊥) → load ≡ branch_load p.tables p.service p.keys n
-
 -- so many tasks are in it
 abbrev pub IsLoad : Preferences → Known → Type 0
 IsLoad p k = k.load ≡ load_at p k.depth k.node.now

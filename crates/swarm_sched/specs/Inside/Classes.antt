@@ -1,7 +1,7 @@
 -- Nodes sorted by their values for placement preferences.
 use Rattle.std.specs.Borrow.{Bor}
 use Rattle.std.specs.Prelude.{Bool, IfSome, List, None, Option, Some, [], false, get_or, length, map, true, ℕ}
-use Rattle.std.specs.Prelude.{◌++◌, ◌<◌, ◌≡◌, ◌≤◌, ◌⊎◌}
+use Rattle.std.specs.Prelude.{◌++◌, ◌<◌, ◌∷◌, ◌≡◌, ◌≤◌, ◌⊎◌}
 use Rattle.std.specs.declared.cmp.Ordering.TheVariants.{Less}
 use Rattle.std.specs.declared.cmp.Ordering.{Ordering}
 use Rattle.swarm_objects.specs.Nodes.BestNode.{agrees, spread_cmp}
@@ -13,22 +13,31 @@ use Rattle.swarm_objects.specs.declared.rows.Change.{Change}
 use Rattle.swarm_objects.specs.declared.templates.Key.{Key}
 use Rattle.swarm_sched.specs.Inside.Bounds.{AreLeast}
 use Rattle.swarm_sched.specs.Inside.Branches.{Preferences}
+use Rattle.swarm_sched.specs.Inside.ClassTable.{value_order}
 use Rattle.swarm_sched.specs.declared.classes.Asked.{Asked}
 use Rattle.swarm_sched.specs.declared.classes.ClassedNode.{ClassedNode}
 use Rattle.swarm_sched.specs.declared.classes.Sorting.TheVariants as sorting
 use Rattle.swarm_sched.specs.declared.classes.Sorting.{Sorting}
 use Rattle.swarm_sched.specs.declared.classes.TheConstants.{CLASSES}
 
--- preferences, the nodes sorted by them, into so many classes, and how many live tasks they have at least
+-- preferences, the nodes sorted by them into so many classes, how the values of these compare, and how many live tasks
+-- the nodes have at least
 pub record Classes : Type 0 where
   pub keys : List Key
   pub nodes : List ClassedNode
   pub count : ℕ
+  pub values : List (List Ordering)
   pub bounds : List (List (Option ℕ))
 
 abbrev pub sorted_by : List Key → Sorting → Option Classes
 sorted_by keys sorting.NotYet = None
-sorted_by keys (sorting.Done s) = Some (record { keys = keys; nodes = s.nodes; count = s.count; bounds = s.bounds })
+sorted_by keys (sorting.Done s) = Some (record {
+  keys = keys;
+  nodes = s.nodes;
+  count = s.table.count;
+  values = s.table.values;
+  bounds = s.bounds;
+})
 sorted_by keys sorting.InVain = None
 
 abbrev pub classes : Asked → Option Classes
@@ -68,10 +77,17 @@ pub record AreSorted (nodes : List Node) (keys : List Key) (sorted : List Classe
   pub apart : (keys ≡ [] → ⊥) → (c d : ClassedNode) (n m : Node) → IsEntry nodes sorted c n → IsEntry nodes sorted d m →
       agrees keys n m ≡ true → c.class ≡ d.class
 
+-- where there is one key, the values of the nodes compare as those of their classes do
+pub record AreValues (nodes : List Node) (keys : List Key) (sorted : List ClassedNode) (values : List (List Ordering)) :
+    Type 0 where
+  pub each : (k : Key) → keys ≡ k ∷ [] → (c d : ClassedNode) (n m : Node) → IsEntry nodes sorted c n →
+      IsEntry nodes sorted d m → get_or (get_or values d.class []) c.class Less ≡ value_order k n m
+
 -- so are those that are kept
 abbrev pub AreClasses : Tables → Option Classes → Type 0
 AreClasses t o =
-    IfSome o (λ k. AreSorted t.nodes k.keys k.nodes × AreLeast t k.nodes k.bounds × HaveClasses k.count k.nodes)
+    IfSome o (λ k. AreSorted t.nodes k.keys k.nodes × AreLeast t k.nodes k.bounds × HaveClasses k.count k.nodes
+    × AreValues t.nodes k.keys k.nodes k.values)
 
 -- what is sorted by these keys is sorted by those
 abbrev pub IsServed : List Key → List Key → Type 0

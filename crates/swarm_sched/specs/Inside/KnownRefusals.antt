@@ -1,6 +1,6 @@
 -- What is remembered of nodes that refused waiting tasks.
 use Rattle.std.specs.Prelude.{IfSome, List, None, Option, Some, Vec, [], find, get_or, if◌then◌else◌, is_some, length, map}
-use Rattle.std.specs.Prelude.{not, set, true, ℕ, ◌%◌, ◌==◌, ◌≡◌, ◌∷◌}
+use Rattle.std.specs.Prelude.{not, set, true, ℕ, ◌%◌, ◌==◌, ◌≡◌, ◌≤◌, ◌∷◌}
 use Rattle.swarm_objects.specs.Nodes.Filters.{passes}
 use Rattle.swarm_objects.specs.Rows.{Has}
 use Rattle.swarm_objects.specs.World.{Tables}
@@ -9,6 +9,7 @@ use Rattle.swarm_objects.specs.declared.rows.Change.{Change}
 use Rattle.swarm_objects.specs.declared.tasks.Task.{Task}
 use Rattle.swarm_objects.specs.declared.templates.Template.{Template}
 use Rattle.swarm_sched.specs.Inside.Touching.{touched}
+use Rattle.swarm_sched.specs.declared.known_refusals.Noted.{Noted}
 use Rattle.swarm_sched.specs.declared.known_refusals.Refusal.{Refusal}
 
 -- the first filter to refuse the task the node, of those that read the node's row and its tasks alone
@@ -26,6 +27,23 @@ abbrev pub shown : {Z : Type 0} → Option (Vec (Option Refusals) Z) → List (O
 shown None = []
 shown (Some groups) = groups.items
 
+-- what stands in the slot, where it was remembered in this round
+abbrev pub of_round : ℕ → Option Noted → Option Refusal
+of_round round None = None
+of_round round (Some n) = if n.round == round then Some n.refusal else None
+
+-- all was remembered by this round
+pub record AreSoFar (round : ℕ) (slots : List (Option Noted)) : Type 0 where
+  pub each : (n : Noted) → Has slots (Some n) → n.round ≤ round
+
+-- what stands in the node's slot
+abbrev pub in_slot : List (Option Refusal) → ℕ → Option Refusal
+in_slot slots node = get_or slots (node % length slots) None
+
+-- this stands in the node's slot
+abbrev pub set_slot : List (Option Refusal) → ℕ → Option Refusal → List (Option Refusal)
+set_slot slots node o = set slots (node % length slots) o
+
 -- the filter in the slot, where it is of this node
 abbrev pub filter_of : ℕ → Option Refusal → Option ℕ
 filter_of node None = None
@@ -33,7 +51,7 @@ filter_of node (Some r) = if r.node == node then Some r.filter else None
 
 -- the filter that is remembered of the node
 abbrev pub recalled : Refusals → ℕ → Option ℕ
-recalled g node = filter_of node (get_or g.slots (node % length g.slots) None)
+recalled g node = filter_of node (in_slot g.slots node)
 
 -- the task is one of them
 abbrev pub IsIn : Refusals → Task → Type 0
@@ -61,9 +79,9 @@ pub record KnowsRefusals (t : Tables) (all : List (Option Refusals)) : Type 0 wh
 abbrev pub KnowsOwn : Tables → Task → Option Refusals → Type 0
 KnowsOwn t x o = IfSome o (λ g. IsIn g x × KnowsGroup t g)
 
--- this stands in the node's slot
+-- the same of the group's slots
 abbrev pub put : Refusals → ℕ → Option Refusal → Refusals
-put g node o = record g { slots = set g.slots (node % length g.slots) o }
+put g node o = record g { slots = set_slot g.slots node o }
 
 -- the node is forgotten
 abbrev pub without : ℕ → Option Refusals → Option Refusals

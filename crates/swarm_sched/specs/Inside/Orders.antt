@@ -1,6 +1,7 @@
 -- How the classes of nodes compare with the best one so far.
+use Rattle.std.specs.Ordering.{nat_cmp, ordering_then}
 use Rattle.std.specs.Prelude.{List, None, Option, Some, get_or, length, ℕ, ◌<◌, ◌≡◌, ◌≤◌, ◌⊎◌}
-use Rattle.std.specs.declared.cmp.Ordering.TheVariants.{Greater}
+use Rattle.std.specs.declared.cmp.Ordering.TheVariants.{Greater, Less}
 use Rattle.std.specs.declared.cmp.Ordering.{Ordering}
 use Rattle.swarm_sched.specs.declared.classes.TheConstants.{CLASSES}
 
@@ -15,6 +16,15 @@ pub record AreRivals (o : ClassOrders) (list : List ℕ) (left : ℕ) : Type 0 w
   pub small : (j d : ℕ) → j < left → get_or list j d < CLASSES
   pub others : (class : ℕ) → class < o.count →
       (get_or o.each class None ≡ Some Greater) ⊎ ((j : ℕ) × (j < left) × ((d : ℕ) → get_or list j d ≡ class))
+
+-- so many classes compare by their tasks with one that has so many, or else as these values say, and of the others
+-- nothing is known
+pub record AreTold (loads : List ℕ) (load : ℕ) (values : List Ordering) (count : ℕ) (each : List (Option Ordering)) :
+    Type 0 where
+  pub told : (class : ℕ) → class < count →
+      get_or each class None ≡ Some (ordering_then (nat_cmp (get_or loads class 0) load) (get_or values class Less))
+  pub left : (class : ℕ) → count ≤ class → get_or each class None ≡ None
+  pub all : length each ≡ CLASSES
 
 -- of the first so many in the list none but this class went, and no other came
 pub record IsWithout (class : ℕ) (before after : List ℕ) (left fewer : ℕ) : Type 0 where

@@ -1,20 +1,21 @@
 use Rattle.std.proofs.Common.{None, ap, arith, get_or, inl, inr, refl, subst, sym, ◌∙◌}
 use Rattle.std.specs.Option.{option_copied}
-use Rattle.std.specs.Prelude.{IfSome, is_some}
-use Rattle.swarm_objects.specs.Rows.{node_id, row_at}
+use Rattle.std.specs.Prelude.{is_some}
+use Rattle.swarm_objects.specs.Rows.{node_id}
 use Rattle.swarm_filters.proofs.Filtering.{best_is}
-use Rattle.swarm_sched.proofs.ClassLoading.{none_here, own_at, place_few}
-use Rattle.swarm_sched.proofs.ClassOrders.{at_entry, none_there, searched_behind, searched_best}
+use Rattle.swarm_sched.proofs.ClassLoading.{none_here, place_few}
+use Rattle.swarm_sched.proofs.ClassOrders.{at_entry, none_there, searched_behind, searched_best, searched_greater}
 use Rattle.swarm_sched.proofs.ClassOrders.{searched_none, searched_past, searched_refused, searched_worse}
 use Rattle.swarm_objects.proofs.RowLemmas.{Has-from_row_at}
+use Rattle.swarm_sched.proofs.Comparing.{orders_told}
 use Rattle.swarm_sched.proofs.Halving.{entries_rise}
 use Rattle.swarm_sched.proofs.LastRefusing.{if_there, row_shut}
 use Rattle.swarm_sched.proofs.Preferring.{is_equal}
 use Rattle.swarm_sched.proofs.placing.best_of_classes.Goals as goal
-use Rattle.swarm_sched.specs.Inside.Branches.{IsBranchOf, Preferences, preferences}
 use Rattle.swarm_sched.specs.Inside.Classes.{AreBelow}
 use Rattle.swarm_sched.specs.Inside.Orders.{ClassOrders}
 use Rattle.swarm_sched.specs.Inside.Placing.{AreBehind, IsSearched, block_end}
+use Rattle.swarm_objects.specs.declared.templates.Template.{Template}
 use Rattle.swarm_sched.specs.declared.classes.ClassedNode.{ClassedNode}
 use Rattle.swarm_sched.specs.declared.placing.Leader.{Leader}
 
@@ -28,7 +29,6 @@ loop-place-init g c =
           (searched_none t x c.args.nodes.now (best_is t x));
       count = ap (λ (o : ClassOrders). o.count) c.new-orders.ensures;
       held = tt;
-      branch = tt;
       knows = c.requires.knows;
       own = c.branches_of-branches.ensures.branches;
       group = c.requires.own;
@@ -58,32 +58,40 @@ loop-place-preserved-then-leads_block g c =
           c.loop-place.invariant.searched;
       count = c.loop-place.invariant.count;
       held = c.loop-place.invariant.held;
-      branch = c.loop-place.invariant.branch;
       knows = c.leads_block.ensures.knows;
       own = c.loop-place.invariant.own;
       group = c.loop-place.invariant.group;
       least = c.leads_block.ensures.least;
     }
 
-pub class_order-spread-requires-clause-own : goal.class_order-spread-requires-clause-own
-class_order-spread-requires-clause-own g c =
+pub is_behind-requires : goal.is_behind-requires
+is_behind-requires g c =
+    place_few (g.R.Rows.tables c.args.rows.now).nodes c.args.task.now.template.spread c.args.nodes.now
+    c.loop-place.place (record { id = 0; class = 0 }) c.requires.sorted c.loop-place-test.true
+
+pub loop-place-preserved-then-is_behind : goal.loop-place-preserved-then-is_behind
+loop-place-preserved-then-is_behind g c =
     let t = g.R.Rows.tables c.args.rows.now in
-    let x = c.args.task.now in
-    let d : ClassedNode = record { id = 0; class = 0 } in
-    let e : ClassedNode = get_or c.args.nodes.now c.loop-place.place d in
-    let most = c.branches_of-branches.result.1 in
-    subst (λ (p : Preferences). IfSome (row_at node_id e.id t.nodes) (IsBranchOf p (get_or most e.class 0)))
-    (sym c.loop-place.invariant.own)
-    (own_at t x c.args.nodes.now most c.loop-place.place d c.requires.usable c.requires.sorted
-    c.branches_of-branches.ensures.loads c.loop-place-test.true)
+    record {
+      searched =
+          searched_greater t c.args.task.now c.args.nodes.now c.loop-place.orders.each (option_copied c.loop-place.best)
+          c.loop-place.place (record { id = 0; class = 0 }) c.requires.sorted c.loop-place.invariant.searched
+          c.loop-place-test.true (c.is_behind.ensures c.if-is_behind.true);
+      count = c.loop-place.invariant.count;
+      held = c.loop-place.invariant.held;
+      knows = c.leads_block.ensures.knows;
+      own = c.loop-place.invariant.own;
+      group = c.loop-place.invariant.group;
+      least = c.leads_block.ensures.least;
+    }
 
-pub class_order-spread-requires-clause-best : goal.class_order-spread-requires-clause-best
-class_order-spread-requires-clause-best g c =
-    subst (λ (p : Preferences). IfSome c.loop-place.best (λ b. IsBranchOf p c.loop-place.branch b.now))
-    (sym c.loop-place.invariant.own) c.loop-place.invariant.branch
+pub orders-orders-requires-clause-class : goal.orders-orders-requires-clause-class
+orders-orders-requires-clause-class g c =
+    place_few (g.R.Rows.tables c.args.rows.now).nodes c.args.task.now.template.spread c.args.nodes.now
+    c.loop-place.place (record { id = 0; class = 0 }) c.requires.sorted c.loop-place-test.true
 
-pub class_order-spread-requires-clause-class : goal.class_order-spread-requires-clause-class
-class_order-spread-requires-clause-class g c =
+pub class_order-spread-requires : goal.class_order-spread-requires
+class_order-spread-requires g c =
     place_few (g.R.Rows.tables c.args.rows.now).nodes c.args.task.now.template.spread c.args.nodes.now
     c.loop-place.place (record { id = 0; class = 0 }) c.requires.sorted c.loop-place-test.true
 
@@ -111,7 +119,6 @@ loop-place-preserved-then-not-is_rival g c =
           (c.is_rival.ensures.ruled_out c.if-not-is_rival.true);
       count = ap (λ (o : ClassOrders). o.count) c.class_order-spread.ensures.orders ∙ c.loop-place.invariant.count;
       held = c.loop-place.invariant.held;
-      branch = c.loop-place.invariant.branch;
       knows = c.is_rival.ensures.knows;
       own = c.class_order-spread.ensures.same ∙ c.loop-place.invariant.own;
       group = c.loop-place.invariant.group;
@@ -137,7 +144,6 @@ loop-place-preserved-then-is_refused g c =
           (c.is_refused.ensures c.if-is_refused.true));
       count = ap (λ (o : ClassOrders). o.count) c.class_order-spread.ensures.orders ∙ c.loop-place.invariant.count;
       held = c.loop-place.invariant.held;
-      branch = c.loop-place.invariant.branch;
       knows = c.is_rival.ensures.knows;
       own = c.class_order-spread.ensures.same ∙ c.loop-place.invariant.own;
       group = c.loop-place.invariant.group;
@@ -179,18 +185,21 @@ loop-place-preserved-then-ne g c =
     record {
       searched =
           searched_best t x c.args.nodes.now c.loop-place.orders.each c.class_order-spread.new.orders.each
-          c.new-orders-then-ne.result.each (option_copied c.loop-place.best)
+          c.orders-orders.result.each (option_copied c.loop-place.best)
           c.loop-place.place e c.class_order-spread.result c.in-Some.node.now at c.loop-place.invariant.searched
           (sym c.node.ensures ∙ ap option_copied c.in-Some.is)
           (sym c.if_better.ensures.better ∙ ap is_some c.in-Some-if_better.is)
-          (inl (ap (λ (o : ClassOrders). o.each) c.new-orders-then-ne.ensures));
-      count = ap (λ (o : ClassOrders). o.count) c.new-orders-then-ne.ensures;
+          (inl (
+            orders_told t x c.args.nodes.now c.args.table.now.count c.branches_of-branches.result.1
+                c.args.table.now.values c.orders-orders.result.each c.loop-place.place d c.in-Some.node.now
+                c.as_slice.result.now c.requires.usable c.requires.sorted c.requires.values c.requires.classes
+                c.branches_of-branches.ensures.loads c.loop-place-test.true
+                (sym c.node.ensures ∙ ap option_copied c.in-Some.is)
+                (c.as_slice.ensures ∙ ap (λ (t : Template). t.spread) c.deref.ensures) c.orders-orders.ensures.told,
+            c.orders-orders.ensures.all,
+          ));
+      count = c.orders-orders.ensures.count;
       held = c.in-Some-if_better.ensures.load;
-      branch =
-          subst (λ o. IfSome o (IsBranchOf (preferences t x) (get_or c.branches_of-branches.result.1 e.class 0)))
-          (sym c.node.ensures ∙ ap option_copied c.in-Some.is)
-          (own_at t x c.args.nodes.now c.branches_of-branches.result.1 c.loop-place.place d c.requires.usable
-          c.requires.sorted c.branches_of-branches.ensures.loads c.loop-place-test.true);
       knows = c.if_better.ensures.knows;
       own = c.class_order-spread.ensures.same ∙ c.loop-place.invariant.own;
       group = c.if_better.ensures.own;
@@ -217,11 +226,6 @@ loop-place-preserved-else-ne g c =
           (inr (is_equal c.class_order-spread.result c.ne.result c.ne.ensures c.if-ne.false, refl));
       count = ap (λ (o : ClassOrders). o.count) c.class_order-spread.ensures.orders ∙ c.loop-place.invariant.count;
       held = c.in-Some-if_better.ensures.load;
-      branch =
-          subst (λ o. IfSome o (IsBranchOf (preferences t x) (get_or c.branches_of-branches.result.1 e.class 0)))
-          (sym c.node.ensures ∙ ap option_copied c.in-Some.is)
-          (own_at t x c.args.nodes.now c.branches_of-branches.result.1 c.loop-place.place d c.requires.usable
-          c.requires.sorted c.branches_of-branches.ensures.loads c.loop-place-test.true);
       knows = c.if_better.ensures.knows;
       own = c.class_order-spread.ensures.same ∙ c.loop-place.invariant.own;
       group = c.if_better.ensures.own;
@@ -247,7 +251,6 @@ loop-place-preserved g c =
           (sym c.if_better.ensures.better ∙ ap is_some c.in_default-if_better.is);
       count = ap (λ (o : ClassOrders). o.count) c.class_order-spread.ensures.orders ∙ c.loop-place.invariant.count;
       held = c.loop-place.invariant.held;
-      branch = c.loop-place.invariant.branch;
       knows = c.if_better.ensures.knows;
       own = c.class_order-spread.ensures.same ∙ c.loop-place.invariant.own;
       group = c.if_better.ensures.own;

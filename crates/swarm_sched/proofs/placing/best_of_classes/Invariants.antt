@@ -3,7 +3,7 @@ use Rattle.std.specs.Option.{option_copied}
 use Rattle.std.specs.Prelude.{IfSome}
 use Rattle.swarm_sched.proofs.placing.best_of_classes.Given as goal
 use Rattle.swarm_sched.specs.Inside.Bounds.{AreLeast}
-use Rattle.swarm_sched.specs.Inside.Branches.{IsBranchOf, preferences}
+use Rattle.swarm_sched.specs.Inside.Branches.{preferences}
 use Rattle.swarm_sched.specs.Inside.Known.{Knows}
 use Rattle.swarm_sched.specs.Inside.KnownRefusals.{KnowsOwn}
 use Rattle.swarm_sched.specs.Inside.Placing.{IsNodeLoad, IsSearched}
@@ -13,9 +13,8 @@ invariant-loop-place g l =
     let t = g.R.Rows.tables l.rows in
     record {
       searched : IsSearched t l.task l.nodes l.orders.each (option_copied l.best) l.place;
-      count : l.orders.count ≡ l.count;
+      count : l.orders.count ≡ l.table.count;
       held : IfSome l.best (λ b. IsNodeLoad t b.now.id l.task.service l.held);
-      branch : IfSome l.best (λ b. IsBranchOf (preferences t l.task) l.branch b.now);
       knows : Knows t l.known;
       own : l.branches ≡ preferences t l.task;
       group : KnowsOwn t l.task l.group;

@@ -20,7 +20,7 @@ returns-in-Done-clause-goes_on g c =
     let t = g.R.Rows.tables c.args.rows.now in
     let are =
     sorted_done t c.args.self.now.keys c.args.self.now.sorting c.in-Done.sorted c.in-Done.is c.requires.knows in
-    classes_left t c.args.changes.now c.args.self.now.keys c.in-Done.sorted.nodes c.in-Done.sorted.count
-    c.in-Done.sorted.bounds c.lower_changed.new.self c.requires.spares are
+    classes_left t c.args.changes.now c.args.self.now.keys c.in-Done.sorted.nodes c.in-Done.sorted.table.count
+    c.in-Done.sorted.table.values c.in-Done.sorted.bounds c.lower_changed.new.self c.requires.spares are
     (subst (λ l. AreLeast (apply_changes t c.args.changes.now) l c.lower_changed.new.self) c.as_slice.ensures
     c.lower_changed.ensures.goes_on)

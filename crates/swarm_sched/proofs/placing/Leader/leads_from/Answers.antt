@@ -1,7 +1,7 @@
 use Rattle.std.proofs.Common.{arith, get_or, refl, subst, ◌/◌}
 use Rattle.std.specs.Option.{option_copied}
 use Rattle.swarm_sched.proofs.Bounding.{behind_all, held_copied, kept_least}
-use Rattle.swarm_sched.proofs.placing.Leader.leads_block.Goals as goal
+use Rattle.swarm_sched.proofs.placing.Leader.leads_from.Goals as goal
 use Rattle.swarm_sched.specs.Inside.Bounds.{AreAtMost}
 use Rattle.swarm_sched.specs.declared.bounds.TheConstants.{BLOCK}
 use Rattle.swarm_sched.specs.declared.classes.ClassedNode.{ClassedNode}
@@ -15,7 +15,7 @@ returns-then-leads-clause-behind g c = λ led.
     (held_copied t c.args.service c.args.self.held c.args.self.best c.requires.held)
     (c.leads.ensures c.if-leads.true)
     (kept_least t c.args.nodes.now c.args.bounds.now c.in-Some.block.now c.args.place (c.args.place / BLOCK)
-    c.requires.least (omega (arith, c.if-place-ne0.false)) c.requires.there refl c.in-Some.ensures)
+    c.requires.least (omega (arith, c.requires.begins)) c.requires.there refl c.in-Some.ensures)
     c.requires.below c.requires.rises (omega (arith, c.requires.there)) refl
 
 pub returns-clause-behind : goal.returns-clause-behind
