@@ -48,6 +48,7 @@ pub mod ShapeDuties
 pub mod ShapeLoops
 pub mod ShapeWords
 pub mod Shapes
+mod Silent
 mod Standing
 mod Starting
 pub mod Together

@@ -1,11 +1,12 @@
 -- An agent's first phase stands for all of its executors' phases among what is waited for.
-use Rattle.std.proofs.Common.{Bool, List, None, Option, Some, [], ap, cond, false, map, refl, sym, true, ℕ, ◌++◌, ◌∙◌, ◌∷◌, ◌≡◌}
+use Rattle.std.proofs.Common.{Bool, List, None, Option, Some, [], ap, arith, cond, false, map, refl, sym, true, ℕ, ◌++◌, ◌<◌, ◌∙◌, ◌∷◌, ◌≡◌, ◌≤◌}
+use Rattle.std.proofs.lemmas.Bool.Decides.{nat_tests}
 use Rattle.std.proofs.lemmas.Cmp.{nat_cmp_total}
 use Rattle.std.proofs.lemmas.List.MinMax.{ranks_by}
 use Rattle.std.specs.Cmp.{IsStrictWeakOrder, IsTotalOrder, on_total, then_total}
 use Rattle.std.specs.Option.{option_map}
 use Rattle.std.specs.Ordering.{is_lt}
-use Rattle.std.specs.Prelude.{flat_map, option_to_list}
+use Rattle.std.specs.Prelude.{IfSome, flat_map, option_to_list}
 use Rattle.swarm_agent.specs.Agent.{AgentState, at_node, least_phase, phase_cmp, phases}
 use Rattle.swarm_agent.specs.Agents.{agent_row}
 use Rattle.swarm_agent.specs.Times.{TimesLaw, seen, seen_agent}
@@ -16,7 +17,7 @@ use Rattle.swarm_objects.specs.Rows.{keep_least, least_by}
 use Rattle.swarm_objects.specs.declared.agents.Executor.{Executor}
 use Rattle.swarm_objects.specs.declared.duties.Cause.TheVariants as cause
 use Rattle.swarm_settle.proofs.LeastWaits.{least_step}
-use Rattle.swarm_settle.specs.Phases.{awaited_phase, kept}
+use Rattle.swarm_settle.specs.Phases.{EndsBefore, awaited_phase, kept}
 
 wait_total : IsTotalOrder wait_cmp
 wait_total =
@@ -114,6 +115,26 @@ pub phase_kept : TimesLaw → (best : Option Wait) (a : AgentState) (first : Opt
     result ≡ least_by wait_cmp best (executor_wait (seen_agent (at_node node a)))
 phase_kept law best a first result on found made node =
     made ∙ ap (kept best) found ∙ sym (first_phase law best a node on)
+
+-- what ends later isn't kept
+later_first : (p : ℕ × ℕ) (b : Wait) → b.time < p.0 → is_sooner (awaited_phase p) b ≡ false
+later_first p b later = grind (arith, nat_tests, later)
+
+kept_before : (best : Option Wait) (first : Option (ℕ × ℕ)) (time : ℕ) → EndsBefore best time →
+    IfSome first (λ phase. time ≤ phase.0) → best ≡ kept best first
+kept_before None first time before later = absurd before
+kept_before (Some b) None time before later = refl
+kept_before (Some b) (Some p) time before later = go (is_sooner (awaited_phase p) b) refl
+  where
+    go : (c : Bool) → is_sooner (awaited_phase p) b ≡ c → Some b ≡ cond c (Some (awaited_phase p)) (Some b)
+    go false e = refl
+    go true e = let no' : true ≡ false = sym e ∙ later_first p b (omega (arith, before, later)) in absurd cc
+
+pub nothing_kept : TimesLaw → (best : Option Wait) (a : AgentState) (time : ℕ) → is_mode_on a.mode ≡ true →
+    EndsBefore best time → IfSome (least_phase a.executors) (λ phase. time ≤ phase.0) → (node : ℕ) →
+    best ≡ least_by wait_cmp best (executor_wait (seen_agent (at_node node a)))
+nothing_kept law best a time on before later =
+    phase_kept law best a (least_phase a.executors) best on refl (kept_before best (least_phase a.executors) time before later)
 
 -- one agent more is gone through
 pub agent_step : (left rest : List (ℕ × AgentState)) (node : ℕ) (a : AgentState) (best next whole : Option Wait) →

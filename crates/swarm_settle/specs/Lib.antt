@@ -6,6 +6,7 @@ pub mod Flights
 pub mod Fresh
 pub mod Laws
 pub mod Matched
+pub mod OnAgents
 pub mod Phases
 pub mod Rest
 pub mod Sent

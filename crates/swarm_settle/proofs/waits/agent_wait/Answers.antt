@@ -1,6 +1,6 @@
 use Rattle.std.proofs.Common.{rules, true, ◌≡◌}
 use Rattle.swarm_objects.specs.Loops.Agents.{is_mode_on}
-use Rattle.swarm_settle.proofs.Phases.{phase_kept}
+use Rattle.swarm_settle.proofs.Phases.{nothing_kept, phase_kept}
 use Rattle.swarm_settle.proofs.waits.agent_wait.Goals as goal
 
 pub returns : goal.returns
@@ -8,3 +8,9 @@ returns c =
     let on : is_mode_on c.args.agent.now.mode ≡ true = search rules in
     phase_kept c.times_that_no_step_looks_at.ensures c.args.best c.args.agent.now c.pending.result c.keep_phase.result
     on c.pending.ensures c.keep_phase.ensures
+
+pub returns-then-ends_before : goal.returns-then-ends_before
+returns-then-ends_before c =
+    let on : is_mode_on c.args.agent.now.mode ≡ true = search rules in
+    nothing_kept c.times_that_no_step_looks_at.ensures c.args.best c.args.agent.now c.first_wake.result on
+    (c.ends_before.ensures c.if-ends_before.true) c.first_wake.ensures.phases
