@@ -30,7 +30,7 @@ ghost use Rattle.swarm_spans.specs.TasksCovered.{
   SessionLaw,
   TimeLaw,
 };
-ghost use Rattle.swarm_spans.specs.Touched.{TouchesAll, TouchesAllReady};
+ghost use Rattle.swarm_spans.specs.Touched.{TouchesAll};
 
 use crate::adding::{add_tasks_of, tasks_on_down};
 use crate::blocking::{touch_blocked, touch_moved};
