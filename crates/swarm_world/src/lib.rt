@@ -4,6 +4,7 @@
 mod agent_duties;
 mod agent_spans;
 mod arrivals;
+mod at_hand;
 mod beginnings;
 mod changes;
 mod commits;

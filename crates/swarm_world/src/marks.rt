@@ -27,6 +27,7 @@ ghost use Rattle.swarm_world.specs.Inside.Spanned.{AreWiderFrom, news_by, steps_
 ghost use Rattle.swarm_world.specs.declared.parts.Parts.{Parts as Whole};
 
 use crate::agent_spans::{AgentSpans, Steps};
+use crate::at_hand::AtHand;
 use crate::firsts::is_agents;
 use crate::known::{Foreseen, Known};
 use crate::known_lines::{Creates, Downs, Updates, first_by_known};
@@ -306,9 +307,10 @@ impl Marks {
         ensures agents { self.new.agents ≡ self.old.agents }
     {
         self.pass_waiting(records);
-        let foreseen = self.known.forget_changed(records, changes);
-        self.tasks.touch(records, changes);
-        self.services.touch(records, changes);
+        let rows = AtHand::new(records, changes);
+        let foreseen = self.known.forget_changed(&rows, changes);
+        self.tasks.touch(&rows, changes);
+        self.services.touch(&rows, changes);
         foreseen
     }
 
