@@ -7,3 +7,4 @@ mod Seen
 mod Near
 mod ByNode
 mod Sleeping
+mod Counting

@@ -1,11 +1,11 @@
 -- How long executors have nothing to do.
-use Rattle.std.proofs.Common.{Bool, List, None, Option, Some, [], add-one, ap, arith, cond, drop, eqb, false, get_or, length, ltb, min, not, refl, subst, suc, sym, true, zero, ℕ, ◌+◌, ◌<◌, ◌≤◌, ◌∙◌, ◌∷◌, ◌≡◌}
+use Rattle.std.proofs.Common.{Bool, List, None, Option, Some, [], add-one, ap, arith, cond, drop, eqb, false, get_or, length, ltb, min, not, refl, subst, suc, sym, true, zero, ℕ, ◌+◌, ◌-◌, ◌<◌, ◌^◌, ◌≤◌, ◌∙◌, ◌∷◌, ◌≡◌}
 use Rattle.std.specs.Option.{option_map}
 use Rattle.std.specs.Ordering.{is_lt}
 use Rattle.std.specs.Prelude.{Err, IfSome, Ok, OnErr, OnOk, find, map, option_to_list, ⊤, ◌++◌}
 use Rattle.std.specs.declared.result.Result.{Result}
 use Rattle.swarm_agent.specs.Agent.{first_task, least_phase, phase_cmp, phase_of, phases}
-use Rattle.swarm_agent.specs.Inside.Sleeping.{AllSleepUntil, SleepsUntil}
+use Rattle.swarm_agent.specs.Inside.Sleeping.{AllSleepUntil, IsUntil, SleepsUntil}
 use Rattle.swarm_objects.specs.Agents.Executors.{phase_time}
 use Rattle.swarm_objects.specs.Agents.Messages.{change_executor}
 use Rattle.swarm_objects.specs.Loops.Agents.{has_step}
@@ -15,11 +15,11 @@ use Rattle.swarm_objects.specs.declared.agents.Executor.{Executor}
 -- One executor.
 
 abbrev ends_later : ℕ → Option ℕ → Type 0
-ends_later w phase = IfSome phase (λ ends. w ≤ ends)
+ends_later w phase = IfSome phase (IsUntil w)
 
 sooner-ends : (v w : ℕ) (phase : Option ℕ) → v ≤ w → ends_later w phase → ends_later v phase
 sooner-ends v w None le ends = tt
-sooner-ends v w (Some time) le ends = omega (arith, le, ends)
+sooner-ends v w (Some time) le ends = (omega (arith, le, ends.0), omega (arith, le, ends.1))
 
 -- and so until a sooner time
 pub sleeps-less : (v w : ℕ) (e : Executor) → v ≤ w → SleepsUntil w e → SleepsUntil v e
@@ -135,11 +135,11 @@ no-step-above w clock after es all lt =
 -- the first phase, and the best one so far
 
 abbrev phase_later : ℕ → Option (ℕ × ℕ) → Type 0
-phase_later w phase = IfSome phase (λ p. w ≤ p.0)
+phase_later w phase = IfSome phase (λ p. IsUntil w p.0)
 
 abbrev AllLater : ℕ → List (ℕ × ℕ) → Type 0
 AllLater w [] = ⊤
-AllLater w (p ∷ ps) = (w ≤ p.0) × AllLater w ps
+AllLater w (p ∷ ps) = IsUntil w p.0 × AllLater w ps
 
 phase-later : (w : ℕ) (e : Executor) (ps : List (ℕ × ℕ)) → SleepsUntil w e → AllLater w ps →
     AllLater w (option_to_list (phase_of e) ++ ps)
@@ -154,7 +154,7 @@ phases-later : (w : ℕ) (es : List Executor) → AllSleepUntil w es → AllLate
 phases-later w [] all = tt
 phases-later w (e ∷ es) all = phase-later w e (phases es) all.0 (phases-later w es all.1)
 
-kept-later : (w : ℕ) (best : Option (ℕ × ℕ)) (p : ℕ × ℕ) → phase_later w best → w ≤ p.0 →
+kept-later : (w : ℕ) (best : Option (ℕ × ℕ)) (p : ℕ × ℕ) → phase_later w best → IsUntil w p.0 →
     phase_later w (keep_least phase_cmp best p)
 kept-later w None p had le = le
 kept-later w (Some first) p had le = go (is_lt (phase_cmp p first))
@@ -168,5 +168,20 @@ least-later : (w : ℕ) (best : Option (ℕ × ℕ)) (ps : List (ℕ × ℕ)) �
 least-later w best [] had all = had
 least-later w best (p ∷ ps) had all = least-later w (keep_least phase_cmp best p) ps (kept-later w best p had all.0) all.1
 
-pub no-phase : (w : ℕ) (es : List Executor) → AllSleepUntil w es → phase_later w (least_phase es)
-no-phase w es all = least-later w None (phases es) tt (phases-later w es all)
+first-later : (w : ℕ) (es : List Executor) → AllSleepUntil w es → phase_later w (least_phase es)
+first-later w es all = least-later w None (phases es) tt (phases-later w es all)
+
+pub no-phase : (w : ℕ) (es : List Executor) → AllSleepUntil w es → IfSome (least_phase es) (λ p. w ≤ p.0)
+no-phase w es all = go (least_phase es) (first-later w es all)
+  where
+    go : (phase : Option (ℕ × ℕ)) → phase_later w phase → IfSome phase (λ p. w ≤ p.0)
+    go None later = tt
+    go (Some p) later = later.0
+
+-- none at all, where the time is the last one
+pub never-phase : (w : ℕ) (es : List Executor) → AllSleepUntil w es → w ≡ 2 ^ 64 - 1 → least_phase es ≡ None
+never-phase w es all last = go (least_phase es) (first-later w es all)
+  where
+    go : (phase : Option (ℕ × ℕ)) → phase_later w phase → phase ≡ None
+    go None later = refl
+    go (Some p) later = absurd (omega (arith, later.1, last))

@@ -1,5 +1,6 @@
 pub mod Lookup
 pub mod Named
 pub mod Near
+pub mod Saying
 pub mod Sleeping
 pub mod Undo

@@ -1,5 +1,5 @@
 // The agent of a node.
-ghost use Rattle.std.specs.Prelude.{◌≡◌, ◌<◌, ◌≤◌, IfSome, None, is_some, true, ℕ};
+ghost use Rattle.std.specs.Prelude.{◌≡◌, ◌<◌, ◌≤◌, ◌-◌, ◌^◌, IfSome, None, is_some, true, ℕ};
 ghost use Rattle.std.specs.List.{list_all};
 ghost use Rattle.std.specs.Option.{option_map};
 ghost use Rattle.swarm_agent.specs.Agent.{
@@ -171,10 +171,11 @@ impl Agent {
         first_step_above(&self.executors, after, now)
     }
 
-    /// A time before which no executor has a step and no timed phase ends; `u64::MAX` where there is none to come.
+    /// A time before which no executor has a step and no timed phase ends; `u64::MAX` only where no phase is to come.
     pub fn first_wake(&self) -> Ms
         ensures phases { IfSome (least_phase self.now.executors) (λ phase. result ≤ phase.0) }
         ensures steps { (clock : ℕ) → clock < result → first_task (has_step clock) self.now.executors ≡ None }
+        ensures none { result ≡ 2 ^ 64 - 1 → least_phase self.now.executors ≡ None }
     {
         self.executors.wakes()
     }

@@ -1,9 +1,10 @@
 // Executors, by rising task.
-ghost use Rattle.std.specs.Prelude.{◌≡◌, ◌<◌, [], OnErr, OnOk, map, true};
+ghost use Rattle.std.specs.Prelude.{◌≡◌, ◌<◌, [], OnErr, OnOk, length, map, set, true};
 ghost use Rattle.std.specs.Slice.Iter.{iter_rest};
 ghost use Rattle.swarm_objects.specs.Agents.NodeAgents.{lost};
-ghost use Rattle.std.specs.List.{list_all};
+ghost use Rattle.std.specs.List.{list_all, list_any};
 ghost use Rattle.swarm_agent.specs.Inside.Named.{named_or_gone};
+ghost use Rattle.swarm_agent.specs.Inside.Saying.{is_unsaid, unsaid};
 ghost use Rattle.swarm_agent.specs.Inside.Sleeping.{AllSleepUntil};
 ghost use Rattle.swarm_objects.specs.Bounds.{has_near_times};
 ghost use Rattle.std.specs.Option.{option_copied};
@@ -12,6 +13,7 @@ ghost use Rattle.swarm_objects.specs.Bounds.{far_end};
 ghost use Rattle.swarm_objects.specs.Loops.Agents.{stepped, told};
 ghost use Rattle.swarm_objects.specs.Rows.{IsRising, drop_row, executor_task, row_at, rows_above, with_row};
 
+use crate::saying::{count_unsaid, one_unsaid};
 use crate::searching::{is_at, lesser, row_of, rows_above};
 use crate::steps::{is_late, make_step, wake_time};
 use std::alloc::Global;
@@ -57,43 +59,65 @@ fn leave_all_out(named: &BTreeSet<Id>, rows: &mut [Executor])
     }
 }
 
-// The executor takes the place of the one of its task, where one is there.
-fn replace(rows: &mut Vec<Executor>, executor: Executor)
-    requires { IsRising executor_task rows.old.items }
-    ensures { rows.new.items ≡ change_executor executor.task (λ _. executor) rows.old.items }
+// The executor at the index becomes this one. The count of those that have something to say goes along.
+fn exchange(rows: &mut Vec<Executor>, count: &mut usize, at: usize, executor: Executor)
+    requires within { at < length rows.old.items }
+    requires said { unsaid rows.old.items ≡ count.old }
+    ensures rows { rows.new.items ≡ set rows.old.items at executor }
+    ensures said { unsaid rows.new.items ≡ count.new }
+{
+    let others = *count - one_unsaid(&rows[at]);
+    *count = others + one_unsaid(&executor);
+    rows[at] = executor;
+}
+
+// The executor takes the place of the one of its task, where one is there. The count goes along.
+fn replace(rows: &mut Vec<Executor>, count: &mut usize, executor: Executor)
+    requires rising { IsRising executor_task rows.old.items }
+    requires said { unsaid rows.old.items ≡ count.old }
+    ensures rows { rows.new.items ≡ change_executor executor.task (λ _. executor) rows.old.items }
+    ensures said { unsaid rows.new.items ≡ count.new }
 {
     let at = lesser(rows.as_slice(), executor.task);
     if is_at(rows.as_slice(), at, executor.task) {
-        rows[at] = executor;
+        exchange(rows, count, at, executor);
     }
 }
 
 // The executor stands among those by rising task, in the place of its task's. It takes memory where there is none of
-// its task.
-fn put(rows: &mut Vec<Executor>, executor: Executor) -> Result<(), NoMemory>
-    requires { IsRising executor_task rows.old.items }
+// its task. The count goes along.
+fn put(rows: &mut Vec<Executor>, count: &mut usize, executor: Executor) -> Result<(), NoMemory>
+    requires rising { IsRising executor_task rows.old.items }
+    requires said { unsaid rows.old.items ≡ count.old }
     ensures ok { OnOk result (rows.new.items ≡ with_row executor_task executor rows.old.items) }
     ensures err { OnErr result (rows.new.items ≡ rows.old.items) }
+    ensures said { unsaid rows.new.items ≡ count.new }
 {
     let at = lesser(rows.as_slice(), executor.task);
     if is_at(rows.as_slice(), at, executor.task) {
-        rows[at] = executor;
+        exchange(rows, count, at, executor);
         return Ok(());
     }
     match rows.insert(at, executor) {
-        Ok(()) => Ok(()),
+        Ok(()) => {
+            *count += one_unsaid(&executor);
+            Ok(())
+        }
         Err(_) => Err(NoMemory),
     }
 }
 
-// The task's executor goes.
-fn forget(rows: &mut Vec<Executor>, task: Id)
-    requires { IsRising executor_task rows.old.items }
-    ensures { rows.new.items ≡ drop_row executor_task task rows.old.items }
+// The task's executor goes. The count goes along.
+fn forget(rows: &mut Vec<Executor>, count: &mut usize, task: Id)
+    requires rising { IsRising executor_task rows.old.items }
+    requires said { unsaid rows.old.items ≡ count.old }
+    ensures rows { rows.new.items ≡ drop_row executor_task task rows.old.items }
+    ensures said { unsaid rows.new.items ≡ count.new }
 {
     let at = lesser(rows.as_slice(), task);
     if is_at(rows.as_slice(), at, task) {
-        rows.remove(at);
+        let executor = rows.remove(at);
+        *count -= one_unsaid(&executor);
     }
 }
 
@@ -108,17 +132,15 @@ fn least_wake(rows: &[Executor]) -> Ms
     least
 }
 
-// So many executors are gone over at each step for the time until which they sleep. Of more it stays what it was: a
-// step doesn't cost more where there are many.
-const FEW: usize = 32;
-
 /// Executors, by rising task. Contracts see them as a list. Beside them stands a time until which all of them sleep:
 /// none has a step before it, and no timed phase ends before it. Most run and wait for nothing, so most questions for
-/// what is due end there.
+/// what is due end there. So do most for news and for what is to be forgotten, as it is counted how many have something
+/// to say.
 #[derive(Drop)]
 pub struct Executors {
     rows: Vec<Executor>,
     wakes: Ms,
+    unsaid: usize,
 }
 
 impl Model for Executors {
@@ -130,7 +152,7 @@ impl Model for Executors {
 
     ghost view = { λ e. e.rows.items };
 
-    ghost invariant = { λ e. AreKept e.rows.items e.wakes };
+    ghost invariant = { λ e. AreKept e.rows.items e.wakes e.unsaid };
 }
 
 impl Executors {
@@ -141,6 +163,7 @@ impl Executors {
         Executors {
             rows: Vec::new(alloc),
             wakes: Ms::MAX,
+            unsaid: 0,
         }
     }
 
@@ -149,6 +172,14 @@ impl Executors {
         ensures { AllSleepUntil result self.now }
     {
         self.wakes
+    }
+
+    /// Whether one of them has something to say: news, or that it is to be forgotten.
+    pub fn has_unsaid(&self) -> bool
+        ensures value { result ≡ list_any is_unsaid self.now }
+        ensures rising { IsRising executor_task self.now }
+    {
+        self.unsaid > 0
     }
 
     /// All of them, by rising task.
@@ -180,19 +211,26 @@ impl Executors {
         ensures { self.new ≡ change_executor executor.task (λ _. executor) self.old }
     {
         self.wakes = self.wakes.min(wake_time(&executor));
-        replace(&mut self.rows, executor);
+        replace(&mut self.rows, &mut self.unsaid, executor);
     }
 
-    // The time until which they sleep is found anew, as it may be later than what is remembered; not of many.
-    fn renew(&mut self)
+    // One of those after this task may have a step by now.
+    fn may_step_after(&self, after: Id, now: Ms) -> bool {
+        self.above(after).any(|executor| wake_time(executor) <= now)
+    }
+
+    // The time until which they sleep is found anew, as it may be later than what is remembered; not yet where one of
+    // those after this task may have a step by now.
+    fn renew_after(&mut self, task: Id, now: Ms)
         ensures { self.new ≡ self.old }
     {
-        if self.rows.len() <= FEW {
+        if !self.may_step_after(task, now) {
             self.wakes = least_wake(self.rows.as_slice());
         }
     }
 
-    /// The executor of the task makes the step that is due.
+    /// The executor of the task makes the step that is due. Steps of one time are made by rising task, so the time until
+    /// which all sleep is found anew at the last of them.
     pub fn step(&mut self, task: Id, now: Ms)
         requires near { list_all has_near_times self.old ≡ true }
         requires clock { now < far_end }
@@ -201,7 +239,7 @@ impl Executors {
         if let Some(mut executor) = executor_of(self, task) {
             make_step(&mut executor, now);
             self.set(executor);
-            self.renew();
+            self.renew_after(task, now);
         }
     }
 
@@ -221,7 +259,7 @@ impl Executors {
         ensures err { OnErr result (self.new ≡ self.old) }
     {
         self.wakes = self.wakes.min(wake_time(&executor));
-        put(&mut self.rows, executor)
+        put(&mut self.rows, &mut self.unsaid, executor)
     }
 
     /// Those that start or run fail, as their node loses its power.
@@ -230,6 +268,7 @@ impl Executors {
     {
         lose_all(self.rows.as_mut_slice());
         self.wakes = least_wake(self.rows.as_slice());
+        self.unsaid = count_unsaid(self.rows.as_slice());
     }
 
     /// Those of other tasks than these are gone.
@@ -238,13 +277,14 @@ impl Executors {
     {
         leave_all_out(named, self.rows.as_mut_slice());
         self.wakes = least_wake(self.rows.as_slice());
+        self.unsaid = count_unsaid(self.rows.as_slice());
     }
 
     /// The executor of the task goes.
     pub fn remove(&mut self, task: Id)
         ensures { self.new ≡ drop_row executor_task task self.old }
     {
-        forget(&mut self.rows, task);
+        forget(&mut self.rows, &mut self.unsaid, task);
     }
 }
 

@@ -1,15 +1,16 @@
 // What is due of executors, and what they wait for. Nothing here takes memory.
 ghost use Rattle.std.specs.Prelude.{◌≡◌, true};
 ghost use Rattle.std.specs.List.{list_all};
-ghost use Rattle.swarm_agent.specs.Agent.{first_task, has_news, least_phase, news_after};
+ghost use Rattle.swarm_agent.specs.Agent.{first_task, least_phase, news_after};
 ghost use Rattle.swarm_agent.specs.Agent.{phase_after, phase_cmp, phase_of};
 ghost use Rattle.swarm_objects.specs.Bounds.{has_near_times};
-ghost use Rattle.swarm_objects.specs.Loops.Agents.{has_step, is_forgotten, is_news};
+ghost use Rattle.swarm_objects.specs.Loops.Agents.{has_step, is_forgotten};
 ghost use Rattle.swarm_objects.specs.Rows.{IsRising, executor_task, keep_least, rows_above};
 
 use crate::executors::Executors;
+use crate::saying::{has_news, is_forgotten};
 use crate::steps::{has_step, phase_time};
-use swarm_objects::{Executor, Id, Ms, TaskState, rank};
+use swarm_objects::{Executor, Id, Ms, TaskState};
 
 /// The first executor after this task with a step that is due.
 pub fn first_step_above(executors: &Executors, after: Id, now: Ms) -> Option<Id>
@@ -26,18 +27,14 @@ pub fn first_step_above(executors: &Executors, after: Id, now: Ms) -> Option<Id>
     None
 }
 
-/// It is gone and has ended.
-pub fn is_forgotten(executor: &Executor) -> bool
-    ensures { result ≡ is_forgotten executor.now }
-{
-    executor.gone && rank(TaskState::Running) < rank(executor.state)
-}
-
 /// The first executor that is gone and has ended.
 pub fn first_forgotten(executors: &Executors) -> Option<Id>
     ensures order { IsRising executor_task executors.now }
     ensures value { result ≡ first_task is_forgotten executors.now }
 {
+    if !executors.has_unsaid() {
+        return None;
+    }
     for executor in executors.iter() {
         if is_forgotten(executor) {
             return Some(executor.task);
@@ -46,28 +43,14 @@ pub fn first_forgotten(executors: &Executors) -> Option<Id>
     None
 }
 
-/// The state is above the one that was reported.
-pub fn is_news(state: TaskState, reported: Option<TaskState>) -> bool
-    ensures { result ≡ is_news state reported }
-{
-    match reported {
-        None => true,
-        Some(told) => rank(told) < rank(state),
-    }
-}
-
-// It isn't gone, and its state is above the one that it reported.
-fn has_news(executor: &Executor) -> bool
-    ensures { result ≡ has_news executor.now }
-{
-    !executor.gone && is_news(executor.state, executor.reported)
-}
-
 /// The first executor after this task with a state to report.
 pub fn first_news(executors: &Executors, after: Id) -> Option<(Id, TaskState)>
     ensures order { IsRising executor_task executors.now }
     ensures value { result ≡ news_after after executors.now }
 {
+    if !executors.has_unsaid() {
+        return None;
+    }
     for executor in executors.above(after) {
         if has_news(executor) {
             return Some((executor.task, executor.state));

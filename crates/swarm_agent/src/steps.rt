@@ -1,7 +1,7 @@
 // The executors' steps, and the times of their phases.
-ghost use Rattle.std.specs.Prelude.{◌≡◌, ◌+◌, ◌<◌, ◌≤◌, IfSome, nat_le, true};
+ghost use Rattle.std.specs.Prelude.{◌≡◌, ◌+◌, ◌<◌, IfSome, nat_le, true};
 ghost use Rattle.std.specs.Option.{option_map};
-ghost use Rattle.swarm_agent.specs.Inside.Sleeping.{SleepsUntil};
+ghost use Rattle.swarm_agent.specs.Inside.Sleeping.{IsUntil, SleepsUntil};
 ghost use Rattle.swarm_objects.specs.Bounds.{has_near_times};
 ghost use Rattle.swarm_agent.specs.Steps.{at_time, taken};
 ghost use Rattle.swarm_objects.specs.Agents.Executors.{
@@ -25,6 +25,9 @@ ghost use Rattle.swarm_objects.specs.Bounds.{far_end};
 ghost use Rattle.swarm_objects.specs.Loops.Agents.{has_step, stepped};
 
 use swarm_objects::{Desired, End, Executor, Ms, TaskState, desired_rank, rank};
+
+// The last time at which a phase is said to end.
+const LAST_WAKE: Ms = Ms::MAX - 1;
 
 // What an executor does next.
 #[derive(Clone, Copy, PartialEq, Eq)]
@@ -257,23 +260,31 @@ pub fn phase_time(executor: &Executor) -> Option<Ms>
     plain_phase(executor)
 }
 
+// A time before which what began then doesn't end, where it takes this long. Times needn't be near here: what is later
+// than all times has the last one but one, as the last one says that no end is to come.
+fn end_wake(since: Ms, time: Ms) -> Ms
+    ensures { IsUntil result (since + time) }
+{
+    since.saturating_add(time).min(LAST_WAKE)
+}
+
 // A time before which the workload doesn't exit.
 fn exit_wake(executor: &Executor) -> Ms
-    ensures { IfSome (exit_time executor.now executor.now.workload.end) (λ ends. result ≤ ends) }
+    ensures { IfSome (exit_time executor.now executor.now.workload.end) (IsUntil result) }
 {
     match executor.workload.end {
-        End::Exit(time, _) => executor.since.saturating_add(time),
+        End::Exit(time, _) => end_wake(executor.since, time),
         End::Never | End::Reject => Ms::MAX,
     }
 }
 
 // A time before which the phase of an executor that neither stops nor wants to doesn't end.
 fn plain_wake(executor: &Executor) -> Ms
-    ensures { IfSome (plain_phase executor.now executor.now.state) (λ ends. result ≤ ends) }
+    ensures { IfSome (plain_phase executor.now executor.now.state) (IsUntil result) }
 {
     match executor.state {
-        TaskState::Preparing => executor.since.saturating_add(executor.workload.prepare),
-        TaskState::Starting => executor.since.saturating_add(executor.workload.start),
+        TaskState::Preparing => end_wake(executor.since, executor.workload.prepare),
+        TaskState::Starting => end_wake(executor.since, executor.workload.start),
         TaskState::Running => exit_wake(executor),
         _ => Ms::MAX,
     }
@@ -281,18 +292,17 @@ fn plain_wake(executor: &Executor) -> Ms
 
 // The same from its start on, where it may be stopping.
 fn late_wake(executor: &Executor) -> Ms
-    ensures { IfSome (late_phase executor.now executor.now.stopping) (λ ends. result ≤ ends) }
+    ensures { IfSome (late_phase executor.now executor.now.stopping) (IsUntil result) }
 {
     match executor.stopping {
-        Some(time) => time,
+        Some(time) => end_wake(time, 0),
         None => plain_wake(executor),
     }
 }
 
-// A time before which the executor's phase doesn't end. Times needn't be near here: what is later than all times has
-// the last one.
+// A time before which the executor's phase doesn't end; the last one of all only where it is in none.
 fn phase_wake(executor: &Executor) -> Ms
-    ensures { IfSome (phase_time executor.now) (λ ends. result ≤ ends) }
+    ensures { IfSome (phase_time executor.now) (IsUntil result) }
 {
     if is_late(executor.state) {
         late_wake(executor)
@@ -301,7 +311,8 @@ fn phase_wake(executor: &Executor) -> Ms
     }
 }
 
-/// A time until which the executor sleeps: it has no step before it, and its timed phase doesn't end before it.
+/// A time until which the executor sleeps: it has no step before it, and its timed phase doesn't end before it. It is
+/// below `u64::MAX` where there is such a phase.
 pub fn wake_time(executor: &Executor) -> Ms
     ensures { SleepsUntil result executor.now }
 {

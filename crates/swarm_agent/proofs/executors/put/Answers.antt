@@ -6,7 +6,8 @@ use Rattle.swarm_agent.proofs.executors.put.Goals as goal
 
 pub returns-then-is_at-clause-ok : goal.returns-then-is_at-clause-ok
 returns-then-is_at-clause-ok c =
-    (over_at executor_task c.args.executor c.args.rows.now.items c.as_slice.result.now c.as_slice-2.result.now
+    c.exchange.ensures.rows
+    ∙ (over_at executor_task c.args.executor c.args.rows.now.items c.as_slice.result.now c.as_slice-2.result.now
     c.lesser-at.result c.args.executor.task c.args.executor.task c.as_slice.ensures.value c.as_slice-2.ensures.value refl
     refl c.lesser-at.ensures.count
     (sym c.is_at.ensures ∙ c.if-is_at.true)).1

@@ -11,4 +11,5 @@ invariant_of-self c = record {
   sleeping = subst (λ w. AllSleepUntil w c.put.new.rows.items) (sym c.min-self-inside.ensures)
       (put-wakes c.put.result c.wake_time.result c.self.inside.wakes c.args.executor c.self.inside.rows.items
       c.put.new.rows.items c.wake_time.ensures c.self.invariant.sleeping c.put.ensures.ok c.put.ensures.err);
+  said = c.put.ensures.said;
 }

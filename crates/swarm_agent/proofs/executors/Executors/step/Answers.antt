@@ -11,7 +11,7 @@ make_step-requires-clause-near c =
 
 pub returns-in-Some : goal.returns-in-Some
 returns-in-Some c =
-    c.renew.ensures ∙ c.set.ensures
+    c.renew_after.ensures ∙ c.set.ensures
     ∙ set-is c.args.task (stepped c.args.now) c.in-Some.executor _ c.args.self.now c.executor_of.ensures.rising
     c.in-Some.ensures.value c.make_step.ensures (stepped-aim c.args.now c.in-Some.executor).0
 
