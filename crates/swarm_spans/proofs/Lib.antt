@@ -16,6 +16,7 @@ pub mod PutAnew
 pub mod Scheduling
 pub mod Services
 pub mod TasksCovered
+pub mod TasksRun
 pub mod Told
 pub mod Touches
 pub mod Waiting

@@ -11,6 +11,7 @@ use Rattle.swarm_objects.specs.declared.rows.Change.TheVariants as change
 use Rattle.swarm_objects.specs.declared.rows.Change.{Change}
 use Rattle.swarm_objects.specs.declared.services.Service.{Service}
 use Rattle.swarm_objects.specs.declared.tasks.Task.{Task}
+use Rattle.swarm_spans.proofs.Blocked.{by_service as blocked_by}
 use Rattle.swarm_spans.proofs.Grown.{wider_itself, wider_yet}
 use Rattle.swarm_spans.proofs.Services.GoesOn.{come_goes_on, create_goes_on, down_goes_on, leave_goes_on, next_goes_on, port_goes_on}
 use Rattle.swarm_spans.proofs.Services.Numbers.{touching_ends as numbers_end}
@@ -21,6 +22,7 @@ use Rattle.swarm_spans.proofs.Services.Trimming.{bounds_other, by_service as tri
 use Rattle.swarm_spans.proofs.Services.Updated.{update_goes_on}
 use Rattle.swarm_spans.proofs.TasksCovered.{addresses_on, deletes_on, expires_on, goes_on, notes_on, olds_on, orphans_on, raises_on, rejects_on, restarts_on, schedules_on, tasks_wider, to_allocate_on, to_schedule_on, to_wait_on}
 use Rattle.swarm_spans.proofs.Touches.{by_service_put, ready_service}
+use Rattle.swarm_spans.specs.Blocked.{TouchesAllBlocked, TouchesBlocked}
 use Rattle.swarm_spans.specs.Holding.{FreesNone}
 use Rattle.swarm_spans.specs.Lines.{addresses, AlikeThere, notes, olds, raises, restarts}
 use Rattle.swarm_spans.specs.Services.Lines.{MovedLaw, PlacedLaw, comes, creates, downs, job_creates, leaves, trims, updates}
@@ -60,6 +62,14 @@ none-ready s span = record { each = λ c h. one c h }
   where
     one : (c : Change) → Has (change.PutService s ∷ []) c → TouchesReady span c
     one c (inl is) = ready_service span c s (sym is)
+    one c (inr none) = absurd none
+
+none-blocked : (t : Tables) (s : Service) (waiting span : Span)
+    → TouchesAllBlocked t waiting span (change.PutService s ∷ [])
+none-blocked t s waiting span = inr (record { each = λ c h. one c h })
+  where
+    one : (c : Change) → Has (change.PutService s ∷ []) c → TouchesBlocked t waiting span c
+    one c (inl is) = blocked_by t waiting span c s (sym is)
     one c (inr none) = absurd none
 
 pub tasks_stay : (t : Tables) (spans : TaskSpans) (r a o d m n : Span) → IsWider r spans.restarts
@@ -104,7 +114,7 @@ tasks_put t spans id tasks r a o d m n usable has rs rt ws wt os ot ds dt ms mt 
           restarts_on t cs spans.restarts r usable after are.restarts rs
           (touches-put t s r (all-of _ t s id tasks r has is rt));
       raises =
-          raises_on spans.to_wait t cs spans.raises a usable after are.to_wait (λ e. absurd cc) are.raises ws
+          raises_on spans.to_wait t cs spans.raises a usable after are.to_wait (none-blocked t s spans.to_wait a) are.raises ws
           (touches-put t s a (all-of _ t s id tasks a has is wt));
       goes =
           goes_on t cs spans.goes spans.goes usable after are.goes (same spans.goes)

@@ -21,7 +21,7 @@ use Rattle.swarm_objects.specs.declared.rows.Change.{Change}
 use Rattle.swarm_objects.specs.declared.services.Service.{Service}
 use Rattle.swarm_objects.specs.declared.sessions.NodeSession.{NodeSession}
 use Rattle.swarm_objects.specs.declared.tasks.Task.{Task}
-use Rattle.swarm_spans.proofs.Blocked.{blocked_kept}
+use Rattle.swarm_spans.proofs.Blocked.{blocked_kept, blocked_yet}
 use Rattle.swarm_spans.proofs.Grown.{in-full, own-with, wider_itself, wider_with, wider_yet}
 use Rattle.swarm_spans.proofs.Holders.{freed_kept, held_kept}
 use Rattle.swarm_spans.proofs.Lines.{delete_goes_on, gone_goes_on, has-when, old_goes_on, orphan_goes_on, reject_goes_on, restart_goes_on, to_allocate_goes_on, to_schedule_goes_on, to_wait_goes_on}
@@ -30,7 +30,7 @@ use Rattle.swarm_spans.proofs.Moved.{moved_kept, sessions-left}
 use Rattle.swarm_spans.proofs.Services.Outcomes.{same-clock, same-settings}
 use Rattle.swarm_spans.proofs.Services.Spans.{is-below, near, tasks-full}
 use Rattle.swarm_spans.proofs.Waiting.{address_goes_on, expire_goes_on, note_goes_on, raise_goes_on, schedule_goes_on, waiting_keeps}
-use Rattle.swarm_spans.specs.Blocked.{unblocks}
+use Rattle.swarm_spans.specs.Blocked.{TouchesAllBlocked}
 use Rattle.swarm_spans.specs.Holding.{FreesNone, HoldsOn, TouchesWhere}
 use Rattle.swarm_spans.specs.Kept.{AlikeFor, KeepsNodes, KeepsServices, KeepsTasks}
 use Rattle.swarm_spans.specs.Lines.{addresses, AlikeCounting, AlikeDown, AlikeNumbered, AlikeOlds, AlikePlatform, AlikePorts, AlikeThere, AlikeValid, deletes, expires, goes, is_to_allocate, is_to_schedule, notes, olds, orphans, raises, rejects, restarts, ScheduledAsBefore, to_allocate, to_schedule, to_wait}
@@ -41,11 +41,6 @@ use Rattle.swarm_spans.specs.Touched.{HasTasksOnDown, TouchesAll, TouchesAllRead
 use Rattle.swarm_spans.specs.declared.span.Span.{Span}
 
 -- Widened twice.
-
-pub blocked_yet : (t : Tables) (cs : List Change) (span wide waiting : Span)
-    → (list_any (unblocks t) cs ≡ true → IsWider span waiting) → IsWider wide span
-    → list_any (unblocks t) cs ≡ true → IsWider wide waiting
-blocked_yet t cs span wide waiting all wider e = wider_yet waiting span wide (all e) wider
 
 pub ruleset raise_steps = (blocked_yet, wider_yet)
 
@@ -166,7 +161,7 @@ to_allocate_on t cs span wide before after c wider touches =
 
 pub raises_on : (waiting : Span) (t : Tables) (cs : List Change) (span wide : Span) → IsUsable t
     → IsUsable (apply_changes t cs) → CoversTasks to_wait t waiting
-    → (list_any (unblocks t) cs ≡ true → IsWider wide waiting) → CoversTasks raises t span → IsWider wide span
+    → TouchesAllBlocked t waiting wide cs → CoversTasks raises t span → IsWider wide span
     → TouchesAll is_to_wait (AlikeFor raises) AlikeCounting AlikeThere t wide cs
     → CoversTasks raises (apply_changes t cs) wide
 raises_on waiting t cs span wide before after waits all c wider touches =

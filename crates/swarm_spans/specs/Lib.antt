@@ -5,6 +5,7 @@ pub mod Holding
 pub mod Kept
 pub mod Lines
 pub mod Moved
+pub mod RunsOn
 pub mod Services
 pub mod Spans
 pub mod TasksCovered

@@ -4,6 +4,7 @@ use Rattle.std.specs.Prelude.{ℕ, Bool, List, Some, ◌≡◌, ◌⊎◌, ◌<�
 use Rattle.swarm_objects.specs.ChangeLists.{Makes}
 use Rattle.swarm_objects.specs.Nodes.Words.{is_down, is_ready}
 use Rattle.swarm_objects.specs.Rows.{Has, node_id, RisesFrom, row_at, service_id, task_id}
+use Rattle.swarm_objects.specs.Tasks.Words.{is_beside, is_to_wait}
 use Rattle.swarm_objects.specs.World.{Tables}
 use Rattle.swarm_objects.specs.declared.nodes.Node.{Node}
 use Rattle.swarm_objects.specs.declared.rows.Change.{Change}
@@ -21,6 +22,10 @@ pub record HasTasksOf (service : ℕ) (t : Tables) (wide : Span) : Type 0 where
 
 pub record HasTasksOn (node : ℕ) (t : Tables) (wide : Span) : Type 0 where
   pub tasks : (x : Task) → Has t.tasks x → x.node ≡ Some node → is_in wide x.id ≡ true
+
+-- each task to wait beside this one
+pub record HasWaitingBeside (z : Task) (t : Tables) (wide : Span) : Type 0 where
+  pub tasks : (x : Task) → Has t.tasks x → is_beside x z ≡ true → is_to_wait x ≡ true → is_in wide x.id ≡ true
 
 -- each task on a node that is DOWN
 pub record HasTasksOnDown (t : Tables) (wide : Span) : Type 0 where

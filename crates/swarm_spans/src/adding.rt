@@ -1,13 +1,14 @@
-// Spans that get the tasks of a service or on a node.
+// Spans that get the tasks of a service, beside another one or on a node.
 ghost use Rattle.std.specs.Prelude.{◌≡◌, true};
 ghost use Rattle.swarm_objects.specs.Nodes.Words.{is_down};
 ghost use Rattle.swarm_objects.specs.Usable.{IsUsable};
+ghost use Rattle.swarm_spans.specs.Blocked.{AddsToWait};
 ghost use Rattle.swarm_spans.specs.Spans.{IsWider};
-ghost use Rattle.swarm_spans.specs.Touched.{HasTasksOf, HasTasksOn, HasTasksOnDown};
+ghost use Rattle.swarm_spans.specs.Touched.{HasTasksOf, HasTasksOn, HasTasksOnDown, HasWaitingBeside};
 
 use crate::span::Span;
-use swarm_objects::walks::{nodes, tasks_of, tasks_on};
-use swarm_objects::{Id, Node, Rows};
+use swarm_objects::walks::{nodes, tasks_at, tasks_of, tasks_on};
+use swarm_objects::{Id, Node, Rows, Task};
 
 /// Each task of the service too.
 #[tactic(auto, using(crate::proofs::Grown::adding_steps))]
@@ -18,6 +19,29 @@ pub fn add_tasks_of<R: Rows>(rows: &R, service: Id, span: &mut Span)
 {
     for task in tasks_of(rows, service) {
         span.add(task.id);
+    }
+}
+
+// The task too, where it is to wait.
+#[tactic(auto, using(crate::proofs::Blocked::to_wait_steps))]
+fn add_to_wait(task: &Task, span: &mut Span)
+    ensures wider { IsWider span.new span.old }
+    ensures has { AddsToWait task.now span.new }
+{
+    if task.is_to_wait() {
+        span.add(task.id);
+    }
+}
+
+/// Each task to wait beside this one too.
+#[tactic(auto, using(crate::proofs::Blocked::beside_steps))]
+pub fn add_waiting_beside<R: Rows>(rows: &R, one: &Task, span: &mut Span)
+    requires { IsUsable (R.tables rows.now) }
+    ensures wider { IsWider span.new span.old }
+    ensures all { HasWaitingBeside one.now (R.tables rows.now) span.new }
+{
+    for task in tasks_at(rows, one.service, one.place) {
+        add_to_wait(task, span);
     }
 }
 

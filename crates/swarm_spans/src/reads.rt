@@ -8,7 +8,7 @@ use swarm_objects::{Node, Same, Service, Task};
 
 // They have the same service, iteration, place and node.
 #[tactic(auto, using(crate::proofs::Alike::stand_alike))]
-fn stand_alike(old: &Task, new: &Task) -> bool
+pub(crate) fn stand_alike(old: &Task, new: &Task) -> bool
     ensures { IsTrue result → StandAlike old.now new.now }
 {
     if old.id != new.id || old.service != new.service {

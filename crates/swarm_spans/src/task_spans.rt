@@ -6,8 +6,8 @@ ghost use Rattle.swarm_objects.specs.Loops.Scheduler.{schedule};
 ghost use Rattle.swarm_objects.specs.Tasks.Words.{is_to_wait};
 ghost use Rattle.swarm_objects.specs.Usable.{IsUsable};
 ghost use Rattle.swarm_objects.specs.World.{Tables};
-ghost use Rattle.swarm_spans.specs.Blocked.{unblocks};
-ghost use Rattle.swarm_spans.specs.Holding.{FreesNone, HoldsOn, TouchesWhere};
+ghost use Rattle.swarm_spans.specs.Blocked.{TouchesAllBlocked};
+ghost use Rattle.swarm_spans.specs.Holding.{EachPasses, FreesNone, HoldsOn, TouchesWhere};
 ghost use Rattle.swarm_spans.specs.Kept.{AlikeFor};
 ghost use Rattle.swarm_spans.specs.Lines.{
   addresses,
@@ -21,6 +21,7 @@ ghost use Rattle.swarm_spans.specs.Lines.{
   raises,
 };
 ghost use Rattle.swarm_spans.specs.Moved.{moves};
+ghost use Rattle.swarm_spans.specs.RunsOn.{PutsRunning};
 ghost use Rattle.swarm_spans.specs.Spans.{IsWider};
 ghost use Rattle.swarm_spans.specs.TasksCovered.{
   AreTasksCovered,
@@ -40,6 +41,7 @@ use crate::reads::{
     Notes, Numbered, Olds, Orphans, Ports, Raises, Rejects, Restarts, Schedules, ToAllocate,
     ToSchedule, ToWait, Validity,
 };
+use crate::running::put_running;
 use crate::span::Span;
 use crate::touching::{NodeReads, ServiceReads, TaskReads, touch_nodes, touch_tasks};
 use swarm_objects::{Change, Id, Rows};
@@ -99,12 +101,12 @@ fn touch_notes<R: Rows>(rows: &R, changes: &[Change], waiting: &Span, span: &mut
     touch_tasks::<Notes, Ports, AnyNode, R>(rows, changes, span);
 }
 
-// Of the tasks to raise, with all that wait where an earlier task of a place may be out of the way.
+// Of the tasks to raise, with those that wait where an earlier task of a place may be out of the way.
 #[tactic(auto, using(crate::proofs::TasksCovered::raise_steps))]
 fn touch_raises<R: Rows>(rows: &R, changes: &[Change], waiting: &Span, span: &mut Span)
     requires { IsUsable (R.tables rows.now) }
     ensures wider { IsWider span.new span.old }
-    ensures blocked { list_any (unblocks (R.tables rows.now)) changes.now ≡ true → IsWider span.new waiting.now }
+    ensures blocked { TouchesAllBlocked (R.tables rows.now) waiting.now span.new changes.now }
     ensures touches { let t = R.tables rows.now in
         TouchesAll is_to_wait (AlikeFor raises) AlikeCounting AlikeThere t span.new changes.now }
 {
@@ -150,9 +152,20 @@ impl TaskSpans {
         }
     }
 
-    /// With what these changes touch: asked before they are made. The spans then cover the rows as they are, and as the
-    /// changes make them.
-    pub fn touch<R: Rows>(&mut self, rows: &R, changes: &[Change])
+    // With what puts of tasks that run on touch: they may move where others go, and nothing else.
+    fn touch_running<R: Rows>(&mut self, rows: &R, changes: &[Change])
+        requires usable { IsUsable (R.tables rows.now) }
+        requires covers { AreTasksCovered (R.tables rows.now) self.old }
+        requires running { EachPasses (PutsRunning (R.tables rows.now)) changes.now }
+        ensures stays { AreTasksCovered (R.tables rows.now) self.new }
+        ensures goes_on { let u = apply_changes (R.tables rows.now) changes.now in
+            IsUsable u → AreTasksCovered u self.new }
+    {
+        touch_moved(rows, changes, &self.to_schedule, &mut self.schedules);
+    }
+
+    // With what any changes touch, line by line.
+    fn touch_each<R: Rows>(&mut self, rows: &R, changes: &[Change])
         requires usable { IsUsable (R.tables rows.now) }
         requires covers { AreTasksCovered (R.tables rows.now) self.old }
         ensures stays { AreTasksCovered (R.tables rows.now) self.new }
@@ -173,6 +186,22 @@ impl TaskSpans {
         touch_alone::<ToWait, R>(rows, changes, &mut self.to_wait);
         touch_alone::<ToSchedule, R>(rows, changes, &mut self.to_schedule);
         touch_alone::<ToAllocate, R>(rows, changes, &mut self.to_allocate);
+    }
+
+    /// With what these changes touch: asked before they are made. The spans then cover the rows as they are, and as the
+    /// changes make them.
+    pub fn touch<R: Rows>(&mut self, rows: &R, changes: &[Change])
+        requires usable { IsUsable (R.tables rows.now) }
+        requires covers { AreTasksCovered (R.tables rows.now) self.old }
+        ensures stays { AreTasksCovered (R.tables rows.now) self.new }
+        ensures goes_on { let u = apply_changes (R.tables rows.now) changes.now in
+            IsUsable u → AreTasksCovered u self.new }
+    {
+        if put_running(rows, changes) {
+            self.touch_running(rows, changes);
+        } else {
+            self.touch_each(rows, changes);
+        }
     }
 
     /// With what a service's row concerns that is put anew, whatever is in it: asked before it is put. That is the

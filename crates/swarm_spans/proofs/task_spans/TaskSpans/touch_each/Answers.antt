@@ -1,6 +1,6 @@
 use Rattle.swarm_objects.specs.Loops.Scheduler.{schedule}
 use Rattle.swarm_spans.proofs.TasksCovered.{addresses_on, deletes_on, expires_on, goes_on, nodes_wider, notes_on, olds_on, orphans_on, raises_on, rejects_on, restarts_on, schedules_on, tasks_wider, to_allocate_on, to_schedule_on, to_wait_on}
-use Rattle.swarm_spans.proofs.task_spans.TaskSpans.touch.Goals as goal
+use Rattle.swarm_spans.proofs.task_spans.TaskSpans.touch_each.Goals as goal
 use Rattle.swarm_spans.specs.Lines.{addresses, deletes, expires, goes, notes, olds, orphans, raises, rejects, restarts, to_allocate, to_schedule, to_wait}
 
 pub returns-clause-stays : goal.returns-clause-stays
