@@ -4,6 +4,7 @@ pub mod Aims
 pub mod Bound
 pub mod Calm
 mod ByNode
+mod BySession
 pub mod CleanTasks
 pub mod ClosedPlaces
 pub mod Closings
@@ -48,7 +49,6 @@ pub mod ShapeDuties
 pub mod ShapeLoops
 pub mod ShapeWords
 pub mod Shapes
-mod Silent
 mod Standing
 mod Starting
 pub mod Together

@@ -15,6 +15,7 @@ use Rattle.swarm_objects.specs.Agents.Executors.{phase_time}
 use Rattle.swarm_objects.specs.Loops.Agents.{is_mode_on}
 use Rattle.swarm_objects.specs.Rows.{keep_least, least_by}
 use Rattle.swarm_objects.specs.declared.agents.Executor.{Executor}
+use Rattle.swarm_objects.specs.declared.agents.NodeAgent.{NodeAgent}
 use Rattle.swarm_objects.specs.declared.duties.Cause.TheVariants as cause
 use Rattle.swarm_settle.proofs.LeastWaits.{least_step}
 use Rattle.swarm_settle.specs.Phases.{EndsBefore, awaited_phase, kept}
@@ -137,11 +138,11 @@ nothing_kept law best a time on before later =
     phase_kept law best a (least_phase a.executors) best on refl (kept_before best (least_phase a.executors) time before later)
 
 -- one agent more is gone through
-pub agent_step : (left rest : List (ℕ × AgentState)) (node : ℕ) (a : AgentState) (best next whole : Option Wait) →
-    left ≡ (node, a) ∷ rest →
-    ((n : ℕ) → next ≡ least_by wait_cmp best (executor_wait (seen_agent (at_node n a)))) →
-    least_by wait_cmp best (flat_map executor_wait (map agent_row left)) ≡ whole →
-    least_by wait_cmp next (flat_map executor_wait (map agent_row rest)) ≡ whole
-agent_step left rest node a best next whole is made so =
-    least_step wait_cmp executor_wait (map agent_row left) (map agent_row rest) (agent_row (node, a)) best next whole
-    (ap (map agent_row) is) (made node) so
+pub agent_step : (f : NodeAgent → List Wait) (left rest : List (ℕ × AgentState)) (node : ℕ) (a : AgentState)
+    (best next whole : Option Wait) → left ≡ (node, a) ∷ rest →
+    next ≡ least_by wait_cmp best (f (seen_agent (at_node node a))) →
+    least_by wait_cmp best (flat_map f (map agent_row left)) ≡ whole →
+    least_by wait_cmp next (flat_map f (map agent_row rest)) ≡ whole
+agent_step f left rest node a best next whole is made so =
+    least_step wait_cmp f (map agent_row left) (map agent_row rest) (agent_row (node, a)) best next whole
+    (ap (map agent_row) is) made so

@@ -2,11 +2,11 @@ pub mod Agents
 pub mod Aimed
 pub mod Bound
 pub mod ByNode
+pub mod BySession
 pub mod Flights
 pub mod Fresh
 pub mod Laws
 pub mod Matched
-pub mod OnAgents
 pub mod Phases
 pub mod Rest
 pub mod Sent

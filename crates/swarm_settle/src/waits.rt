@@ -1,6 +1,5 @@
 // What is waited for beside updates: tasks to be raised, executors, sessions, remote nodes.
 ghost use Rattle.std.specs.Prelude.{◌≡◌, ◌&&◌, IsTrue, filter, flat_map, nat_lt, not, ℕ};
-ghost use Rattle.std.specs.List.{list_all};
 ghost use Rattle.swarm_agent.specs.Agent.{at_node};
 ghost use Rattle.swarm_agent.specs.Times.{seen_agent};
 ghost use Rattle.swarm_model.specs.Settle.{
@@ -22,7 +21,7 @@ ghost use Rattle.swarm_objects.specs.Nodes.Words.{is_node_and};
 ghost use Rattle.swarm_objects.specs.Rows.{agent_node, is_row_and, least_by};
 ghost use Rattle.swarm_objects.specs.Tasks.Words.{is_live, is_on, is_to_wait};
 ghost use Rattle.swarm_objects.specs.Usable.{IsUsable};
-ghost use Rattle.swarm_settle.specs.OnAgents.{is_agent_on};
+ghost use Rattle.swarm_settle.specs.BySession.{session_waits_of};
 ghost use Rattle.swarm_settle.specs.ByNode.{remote_waits_on};
 ghost use Rattle.swarm_settle.specs.Phases.{EndsBefore, kept};
 ghost use Rattle.swarm_settle.specs.Standing.{AgreeOnLive, with_sessions, world_with};
@@ -108,7 +107,7 @@ fn ends_before(best: &Option<Wait>, time: Ms) -> bool
 }
 
 // The least of the best wait so far and those for the phases of the agent's executors, which aren't gone over where none
-// ends as soon.
+// is to come or none ends as soon.
 fn agent_wait(best: Option<Wait>, agent: &Agent) -> Option<Wait>
     ensures { (node : ℕ) → result ≡ least_by wait_cmp best (executor_wait (seen_agent (at_node node agent.now))) }
 {
@@ -116,7 +115,11 @@ fn agent_wait(best: Option<Wait>, agent: &Agent) -> Option<Wait>
     if !is_agent_on(agent) {
         return best;
     }
-    if ends_before(&best, agent.first_wake()) {
+    let wake = agent.first_wake();
+    if wake == Ms::MAX {
+        return best;
+    }
+    if ends_before(&best, wake) {
         return best;
     }
     keep_phase(best, agent.pending())
@@ -162,18 +165,6 @@ fn is_silent<R: Rows>(rows: &R, sessions: &Sessions, agents: &Agents, node: &Nod
     node.is_ready() && !node.remote && has_agent_off(agents, node.id)
 }
 
-// Each agent is on.
-fn are_on(agents: &Agents) -> bool
-    ensures { result ≡ list_all is_agent_on agents.now }
-{
-    for (_, agent) in agents.iter() {
-        if !is_agent_on(agent) {
-            return false;
-        }
-    }
-    true
-}
-
 fn session_wait<R: Rows>(
     rows: &R,
     sessions: &Sessions,
@@ -196,9 +187,29 @@ fn session_wait<R: Rows>(
     }
 }
 
-/// The least of the best wait so far and those for the sessions of nodes whose agents are silent. Where each agent is
-/// on, the nodes aren't gone over.
-#[tactic(auto, using(crate::proofs::Silent::none_waits))]
+// The same of the agent's node, where the agent isn't on: else its session isn't waited for.
+fn agent_session<R: Rows>(
+    rows: &R,
+    sessions: &Sessions,
+    agents: &Agents,
+    best: Option<Wait>,
+    id: Id,
+    agent: &Agent,
+) -> Option<Wait>
+    ensures { let w = world_with (R.tables rows.now) sessions.now agents.now in
+        result ≡ least_by wait_cmp best (session_waits_of w (seen_agent (at_node id agent.now))) }
+{
+    if is_agent_on(agent) {
+        return best;
+    }
+    match rows.node(id) {
+        Some(node) => session_wait(rows, sessions, agents, best, node),
+        None => best,
+    }
+}
+
+/// The least of the best wait so far and those for the sessions of nodes whose agents are silent. Nodes of agents that
+/// are on aren't looked at.
 pub fn session_waits<R: Rows>(
     rows: &R,
     sessions: &Sessions,
@@ -209,12 +220,9 @@ pub fn session_waits<R: Rows>(
     ensures { let t = R.tables rows.now in let w = world_with t sessions.now agents.now in
         result ≡ least_by wait_cmp best (flat_map (session_wait w) t.nodes) }
 {
-    if are_on(agents) {
-        return best;
-    }
     let mut least = best;
-    for node in nodes(rows) {
-        least = session_wait(rows, sessions, agents, least, node);
+    for (id, agent) in agents.iter() {
+        least = agent_session(rows, sessions, agents, least, *id, agent);
     }
     least
 }
