@@ -8,7 +8,7 @@ ghost use Rattle.swarm_update.specs.KnownSurvey.{has_service, is_suspect_of, ser
 
 use crate::known_survey::has_alike;
 use role_words::is_suspect;
-use swarm_objects::{Change, Id, Rows, Service, Task};
+use swarm_objects::{Change, Id, Rows, Task};
 
 // How many services are remembered.
 const SLOTS: usize = 8;
