@@ -1,20 +1,24 @@
 -- What is kept by owner and what is kept by time say the same, whatever is set or cleared.
-use Rattle.std.proofs.Common.{Bool, List, None, Option, Some, [], ap, arith, cond, eqb, false, inl, inr, refl, subst, sym, true, ℕ, ◌∙◌, ◌∷◌, ◌≡◌, ◌&&◌, ◌||◌}
+use Rattle.std.proofs.Common.{Bool, List, None, Option, Some, [], ap, arith, cond, eqb, false, inl, inr, refl, subst, sym, true, ℕ, ◌∙◌, ◌∷◌, ◌≡◌, ◌&&◌, ◌||◌, ◌⊎◌}
 use Rattle.std.proofs.lemmas.Bool.Decides.{nat_tests}
 use Rattle.std.specs.BTreeMap.{insert_entry, is_at}
 use Rattle.std.specs.BTreeSet.{BTreeSet, contains}
 use Rattle.std.specs.Map.{lookup, remove_entry}
 use Rattle.std.specs.Option.{option_map}
-use Rattle.std.specs.Ordering.{is_gt, nat_cmp}
-use Rattle.std.specs.Prelude.{not}
+use Rattle.std.specs.List.{AllByRecursion, list_any}
+use Rattle.std.specs.List.Sorted.{IsStrictlySortedBy}
+use Rattle.std.specs.Ordering.{is_gt, is_lt, nat_cmp}
+use Rattle.std.specs.Prelude.{not, ◌↔◌}
+use Rattle.std.specs.declared.cmp.Ordering.TheVariants.{Less}
+use Rattle.swarm_objects.proofs.Gaps.{IsRising-with_row}
 use Rattle.swarm_objects.proofs.MapEntries.{entries-rise, lookup-entry, put-entry, put-rising, remove-entry, remove-rising}
 use Rattle.swarm_objects.proofs.RowChanges.{row_at-with_row}
 use Rattle.swarm_objects.proofs.RowLemmas.{Has-from_row_at, number_above, row_at-Some}
 use Rattle.swarm_objects.specs.MapEntries.{entry_key}
 use Rattle.swarm_objects.specs.Rows.{Has, IsRising, drop_row, is_some_and, row_at}
 use Rattle.swarm_timers.proofs.Firsts.{NotAfter, first-is, first-of, same-timer}
-use Rattle.swarm_timers.specs.Inside.{AddsTime, AreSame, DropsTime, IsFirstTime, KeepsTimes, LeavesFormer, has_time, is_at_time, is_former, same_time, time_cmp, timer_at, timer_of, timers_of}
-use Rattle.swarm_timers.specs.Timers.{Timer, first_timer, timer_owner, with_time, without_time}
+use Rattle.swarm_timers.specs.Inside.{AddsTime, AreSame, DropsTime, IsFirstTime, KeepsTimes, LeavesFormer, has_time, is_at_time, is_former, same_time, timer_at, timer_of, timers_of}
+use Rattle.swarm_timers.specs.Timers.{AreInOrder, Timer, first_timer, time_cmp, timer_owner, timer_time, with_time, without_time}
 
 abbrev Entries : Type 0
 Entries = List (ℕ × ℕ)
@@ -234,3 +238,77 @@ first-same (e ∷ es) times None s none =
 first-same es times (Some p) s h =
     sym (first-is (timers_of es) (timer_at p) (first-of (timers_of es) (timer_at p) (member-has es times p.0 p.1 s h.0)
     (λ t k. not-greater p t (h.1 t.at t.owner (has-member es times t s k)))))
+
+-- the owners rise
+
+pub owners-rise : (es after : Entries) (times : Times) → AreSame es times → after ≡ es →
+    IsRising timer_owner (timers_of after)
+owners-rise es after times s e =
+    subst (λ (xs : Entries). IsRising timer_owner (timers_of xs)) (sym e)
+    (entries-rise timer_owner timer_of (λ x. refl) es s.rises)
+
+pub owners-rise-set : (owner at : ℕ) (es after : Entries) (times : Times) → AreSame es times →
+    after ≡ insert_entry nat_cmp es owner at → IsRising timer_owner (timers_of after)
+owners-rise-set owner at es after times s e =
+    subst (IsRising timer_owner) (sym (set-is owner at es after e))
+    (IsRising-with_row timer_owner (timer_of (owner, at)) (timers_of es) (owners-rise es es times s refl))
+
+-- a look-up
+
+pub get-is : (owner : ℕ) (es : Entries) (at : Option ℕ) → at ≡ lookup (is_at (nat_cmp owner)) es →
+    at ≡ option_map timer_time (row_of es owner)
+get-is owner es at e = time at ∙ ap (option_map timer_time) (sym (found owner es at e))
+  where
+    time : (o : Option ℕ) → o ≡ option_map timer_time (option_map (λ (a : ℕ). timer_of (owner, a)) o)
+    time None = refl
+    time (Some a) = refl
+
+-- a walk
+
+any-of : (at owner : ℕ) (ps : List (ℕ × ℕ)) → Has ps (at, owner) → list_any (is_at (time_cmp (at, owner))) ps ≡ true
+any-of at owner [] h = absurd h
+any-of at owner (p ∷ ps) (inl e) =
+    ap (λ (q : ℕ × ℕ). is_at (time_cmp (at, owner)) q || list_any (is_at (time_cmp (at, owner))) ps) e
+    ∙ ap (λ b. b || list_any (is_at (time_cmp (at, owner))) ps)
+    (let is : is_at (time_cmp (at, owner)) (at, owner) ≡ true = grind (arith, nat_tests) in is)
+any-of at owner (p ∷ ps) (inr h) = go (is_at (time_cmp (at, owner)) p) (any-of at owner ps h)
+  where
+    go : (b : Bool) → list_any (is_at (time_cmp (at, owner))) ps ≡ true →
+        (b || list_any (is_at (time_cmp (at, owner))) ps) ≡ true
+    go true rest = refl
+    go false rest = rest
+
+of-any : (at owner : ℕ) (ps : List (ℕ × ℕ)) → list_any (is_at (time_cmp (at, owner))) ps ≡ true → Has ps (at, owner)
+of-any at owner [] e = let no : false ≡ true = e in absurd cc
+of-any at owner (p ∷ ps) e = go (is_at (time_cmp (at, owner)) p) refl e (of-any at owner ps)
+  where
+    pair : (q : ℕ × ℕ) → q.0 ≡ at → q.1 ≡ owner → q ≡ (at, owner)
+    pair q a o = ap (λ (x : ℕ). (x, q.1)) a ∙ ap (λ (x : ℕ). (at, x)) o
+
+    go : (b : Bool) → is_at (time_cmp (at, owner)) p ≡ b → (b || list_any (is_at (time_cmp (at, owner))) ps) ≡ true →
+        (list_any (is_at (time_cmp (at, owner))) ps ≡ true → Has ps (at, owner)) → (p ≡ (at, owner)) ⊎ Has ps (at, owner)
+    go true is or rest = inl (pair p (grind (arith, nat_tests, is)) (grind (arith, nat_tests, is)))
+    go false is or rest = inr (rest or)
+
+pub walk-all : (es : Entries) (times : Times) (rest : List (ℕ × ℕ)) (timers : List Timer) → AreSame es times →
+    rest ≡ times.keys → timers_of es ≡ timers → (at owner : ℕ) → Has rest (at, owner) ↔ Has timers (timer_at (at, owner))
+walk-all es times rest timers s e v at owner = (
+  λ h.
+      subst (λ list. Has list (timer_at (at, owner))) v
+      (member-has es times at owner s (any-of at owner times.keys (subst (λ list. Has list (at, owner)) e h))),
+  λ h.
+      subst (λ list. Has list (at, owner)) (sym e)
+      (of-any at owner times.keys
+      (has-member es times (timer_at (at, owner)) s (subst (λ list. Has list (timer_at (at, owner))) (sym v) h))),
+)
+
+later : (p q : ℕ × ℕ) (ps : List (ℕ × ℕ)) → AllByRecursion (λ y. time_cmp p y ≡ Less) ps → Has ps q →
+    is_lt (time_cmp p q) ≡ true
+later p q [] all h = absurd h
+later p q (x ∷ ps) all (inl e) = ap is_lt (ap (time_cmp p) (sym e) ∙ all.0)
+later p q (x ∷ ps) all (inr h) = later p q ps all.1 h
+
+pub walk-order : (ps : List (ℕ × ℕ)) → IsStrictlySortedBy time_cmp ps → AreInOrder ps
+unfolding IsStrictlySortedBy
+walk-order [] r = tt
+walk-order (p ∷ ps) r = (λ q h. later p q ps r.0 h, walk-order ps r.1)

@@ -1,11 +1,10 @@
 -- The two forms in which times are kept: by owner, and by time.
 use Rattle.std.specs.Prelude.{ℕ, ◌≡◌, ◌==◌, ◌&&◌, ◌||◌, Bool, false, true, not, List, map, Option, None, Some}
 use Rattle.std.specs.BTreeSet.{BTreeSet, contains}
-use Rattle.std.specs.Ordering.{is_gt, nat_cmp, ordering_then}
-use Rattle.std.specs.declared.cmp.Ordering.{Ordering}
+use Rattle.std.specs.Ordering.{is_gt}
 use Rattle.swarm_objects.specs.MapEntries.{entry_key}
 use Rattle.swarm_objects.specs.Rows.{IsRising, is_some_and, row_at}
-use Rattle.swarm_timers.specs.Timers.{Timer, timer_owner}
+use Rattle.swarm_timers.specs.Timers.{Timer, time_cmp, timer_owner}
 
 -- by owner
 
@@ -17,9 +16,6 @@ abbrev pub timers_of : List (ℕ × ℕ) → List Timer
 timers_of entries = map timer_of entries
 
 -- by time
-
-abbrev pub time_cmp : ℕ × ℕ → ℕ × ℕ → Ordering
-time_cmp x y = ordering_then (nat_cmp x.0 y.0) (nat_cmp x.1 y.1)
 
 -- a time and its owner
 abbrev pub timer_at : ℕ × ℕ → Timer

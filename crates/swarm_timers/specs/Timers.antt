@@ -1,9 +1,9 @@
 -- Owners with times, by rising owner.
-use Rattle.std.specs.Prelude.{ℕ, Bool, List, Option, None, filter, nat_le}
+use Rattle.std.specs.Prelude.{ℕ, ◌≡◌, Bool, List, [], ◌∷◌, Option, None, filter, nat_le, true, ⊤}
 use Rattle.std.specs.Option.{option_map}
-use Rattle.std.specs.Ordering.{nat_cmp, ordering_then}
+use Rattle.std.specs.Ordering.{is_lt, nat_cmp, ordering_then}
 use Rattle.std.specs.declared.cmp.Ordering.{Ordering}
-use Rattle.swarm_objects.specs.Rows.{drop_row, least_by, with_row}
+use Rattle.swarm_objects.specs.Rows.{Has, drop_row, least_by, with_row}
 
 -- an owner with its time
 pub record Timer : Type 0 where
@@ -43,3 +43,13 @@ has_come now t = nat_le t.at now
 -- of those whose time has come, the owner of the first
 abbrev pub due_owner : ℕ → List Timer → Option ℕ
 due_owner now timers = option_map timer_owner (first_timer (filter (has_come now) timers))
+
+-- times with their owners, in the order of a walk
+
+abbrev pub time_cmp : ℕ × ℕ → ℕ × ℕ → Ordering
+time_cmp x y = ordering_then (nat_cmp x.0 y.0) (nat_cmp x.1 y.1)
+
+-- each comes before all that follow it: the times rise, and at one time the owners do
+abbrev pub AreInOrder : List (ℕ × ℕ) → Type 0
+AreInOrder [] = ⊤
+AreInOrder (p ∷ ps) = ((q : ℕ × ℕ) → Has ps q → is_lt (time_cmp p q) ≡ true) × AreInOrder ps

@@ -1,12 +1,15 @@
 // Times of owners.
-ghost use Rattle.std.specs.Prelude.{◌≡◌, [], OnErr, OnOk};
+ghost use Rattle.std.specs.Prelude.{◌≡◌, ◌↔◌, [], OnErr, OnOk, ℕ};
 ghost use Rattle.std.specs.Option.{option_map};
+ghost use Rattle.swarm_objects.specs.Rows.{Has, IsRising, row_at};
 ghost use Rattle.swarm_timers.specs.Inside.{LeavesFormer, timer_at};
-ghost use Rattle.swarm_timers.specs.Timers.{due_owner, first_timer, next_time, with_time, without_time};
+ghost use Rattle.swarm_timers.specs.Timers.{AreInOrder, due_owner, first_timer, next_time};
+ghost use Rattle.swarm_timers.specs.Timers.{timer_owner, timer_time, with_time, without_time};
 
 use crate::times::Times;
 use std::alloc::Global;
 use std::collections::BTreeMap;
+use std::collections::btree_set::Iter;
 use std::marker::Model;
 use swarm_objects::{Id, Ms, NoMemory};
 
@@ -54,6 +57,7 @@ impl Timers {
     pub fn set(&mut self, owner: Id, at: Ms) -> Result<(), NoMemory>
         ensures ok { OnOk result (self.new ≡ with_time owner at self.old) }
         ensures err { OnErr result (self.new ≡ self.old) }
+        ensures rises { IsRising timer_owner self.new }
     {
         // All that may be refused comes first.
         let Ok(()) = self.by_time.add(at, owner) else {
@@ -78,6 +82,24 @@ impl Timers {
         if let Some(at) = self.by_owner.remove(&owner) {
             self.by_time.remove(at, owner);
         }
+    }
+
+    /// The owner's time.
+    pub fn get(&self, owner: Id) -> Option<Ms>
+        ensures { result ≡ option_map timer_time (row_at timer_owner owner self.now) }
+    {
+        match self.by_owner.get(&owner) {
+            Some(at) => Some(*at),
+            None => None,
+        }
+    }
+
+    /// The times with their owners: by rising time, and at one time by rising owner.
+    pub fn iter(&self) -> Iter<'_, (Ms, Id)>
+        ensures all { (at owner : ℕ) → Has result (at, owner) ↔ Has self.now (record { owner = owner; at = at }) }
+        ensures order { AreInOrder result }
+    {
+        self.by_time.iter()
     }
 
     // The first time with its owner.

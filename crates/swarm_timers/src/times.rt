@@ -1,9 +1,12 @@
 // Times with their owners, in the order of the times.
 ghost use Rattle.std.specs.Prelude.{◌≡◌, OnErr, OnOk, ℕ, false};
+ghost use Rattle.std.specs.BTreeSet.{IsOrdered};
 ghost use Rattle.swarm_timers.specs.Inside.{AddsTime, DropsTime, IsFirstTime, KeepsTimes, has_time};
+ghost use Rattle.swarm_timers.specs.Timers.{time_cmp};
 
 use std::alloc::Global;
 use std::collections::BTreeSet;
+use std::collections::btree_set::Iter;
 use swarm_objects::{Id, Ms, NoMemory};
 
 #[derive(Drop)]
@@ -47,5 +50,13 @@ impl Times {
             Some(first) => Some(*first),
             None => None,
         }
+    }
+
+    // All, by rising time, and at one time by rising owner.
+    pub fn iter(&self) -> Iter<'_, (Ms, Id)>
+        ensures rest { result ≡ self.now.set.keys }
+        ensures order { IsOrdered time_cmp self.now.set }
+    {
+        self.set.iter()
     }
 }
