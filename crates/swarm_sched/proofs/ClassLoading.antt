@@ -14,7 +14,7 @@ use Rattle.swarm_objects.proofs.WalkLemmas.{count_by_no, count_by_yes}
 use Rattle.swarm_objects.specs.Nodes.BestNode.{agrees, branch_load}
 use Rattle.swarm_objects.specs.Nodes.Filters.{here}
 use Rattle.swarm_objects.specs.Nodes.Holdings.{is_placed_on}
-use Rattle.swarm_objects.specs.Rows.{Has, is_row_and, is_some_and, node_id, row_at}
+use Rattle.swarm_objects.specs.Rows.{is_row_and, is_some_and, node_id, row_at}
 use Rattle.swarm_objects.specs.Same.{same_number}
 use Rattle.swarm_objects.specs.Tasks.Words.{is_live, is_of, is_on, is_placed}
 use Rattle.swarm_objects.specs.Usable.{IsUsable}
@@ -232,33 +232,26 @@ pub most_of : (sorted : List ClassedNode) (tasks : List Task) (loads : List ℕ)
     AreMost sorted tasks loads
 most_of sorted tasks loads so = record { each = λ k lt. omega (arith, so.each k lt); all = so.all }
 
-pub none_here : (t : Tables) (service : ℕ) (keys : List Key) (sorted : List ClassedNode) (most : List ℕ) (i : ℕ)
-    (d : ClassedNode) (n : Node) → IsUsable t → AreSorted t.nodes keys sorted →
-    AreMost sorted (filter (is_of service) t.tasks) most → i < length sorted →
-    row_at node_id (get_or sorted i d).id t.nodes ≡ Some n → IsTrue (eqb (get_or most (get_or sorted i d).class 0) 0) →
-    here t n.id service ≡ 0
-none_here t service keys sorted most i d n usable are so lt row zero =
+pub none_here : (t : Tables) (service : ℕ) (keys : List Key) (sorted : List ClassedNode) (most : List ℕ)
+    (c : ClassedNode) (n : Node) → IsUsable t → AreSorted t.nodes keys sorted →
+    AreMost sorted (filter (is_of service) t.tasks) most → IsEntry t.nodes sorted c n →
+    IsTrue (eqb (get_or most c.class 0) 0) → here t n.id service ≡ 0
+none_here t service keys sorted most c n usable are so entry zero =
     omega (
       arith,
       none,
-      so.each c.class (are.few c there),
+      so.each c.class (are.few c entry.there),
       count-among (λ x. is_of service x && is_live x && is_placed_on n.id x) (is_of_class sorted c.class)
           (is_of service) t.tasks counts,
     )
   where
-    c : ClassedNode
-    c = get_or sorted i d
-
     none : get_or most c.class 0 ≡ 0
     none = grind (arith, nat_tests, zero)
 
-    there : Has sorted c
-    there = at_place sorted i d lt
-
     found : row_at entry_id n.id sorted ≡ Some c
     found =
-        ap (λ k. row_at entry_id k sorted) (Has-from_row_at node_id c.id t.nodes n row).1
-        ∙ row_at-Some entry_id 0 sorted c (entries_rise 0 sorted t.nodes are.ids usable.sound.ordered.nodes) there
+        ap (λ k. row_at entry_id k sorted) entry.same
+        ∙ row_at-Some entry_id 0 sorted c (entries_rise 0 sorted t.nodes are.ids usable.sound.ordered.nodes) entry.there
 
     own : (k : ℕ) → option_eq same_number (Some k) (Some k) ≡ true
     own k = grind (arith, nat_tests)

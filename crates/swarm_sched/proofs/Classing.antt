@@ -2,16 +2,16 @@
 use Rattle.std.proofs.lemmas.Bool.Decides.{nat_tests}
 use Rattle.std.proofs.lemmas.List.Sums.{fails_before_first}
 use Rattle.std.specs.List.{position_or_len}
-use Rattle.std.proofs.Common.{None, ltb, ◌≡◌, ◌∙◌, ◌<◌, ◌≤◌, ◌∷◌, ◌⊎◌, ℕ, Bool, List, Option, Some, [], ap, arith}
-use Rattle.std.proofs.Common.{cond, false, get_or, inl, inr, length, length-append, map, refl, subst, sym, true}
+use Rattle.std.proofs.Common.{None, ltb, ◌≡◌, ◌∙◌, ◌+◌, ◌<◌, ◌≤◌, ◌∷◌, ◌⊎◌, ℕ, Bool, List, Option, Some, [], ap, arith}
+use Rattle.std.proofs.Common.{cond, false, get_or, inl, inr, length, length-append, map, refl, subst, suc, sym, true}
 use Rattle.std.proofs.lemmas.List.Quantifiers.{position-Some}
-use Rattle.std.proofs.lemmas.List.{append-nil, get_or_append_left}
+use Rattle.std.proofs.lemmas.List.{append-nil, get_or_append_left, get_or_default}
 use Rattle.std.proofs.Math.Seq.{get_or-append_seam}
 use Rattle.std.proofs.lemmas.Slice.Eq.{bytes_eq-Decides}
 use Rattle.std.specs.Borrow.{Bor}
 use Rattle.std.specs.Cmp.Lexicographic.{slice_cmp}
 use Rattle.std.specs.List.{list_any, position}
-use Rattle.std.specs.Ordering.{nat_cmp}
+use Rattle.std.specs.Ordering.{nat_cmp, ord_max}
 use Rattle.std.specs.Prelude.{◌&&◌, ◌++◌}
 use Rattle.std.specs.Str.{bytes_eq}
 use Rattle.std.specs.declared.cmp.Ordering.TheVariants.{Less}
@@ -29,11 +29,12 @@ use Rattle.swarm_objects.specs.declared.nodes.Node.{Node}
 use Rattle.swarm_objects.specs.declared.rows.Change.TheVariants as change
 use Rattle.swarm_objects.specs.declared.rows.Change.{Change}
 use Rattle.swarm_objects.specs.declared.templates.Key.{Key}
-use Rattle.swarm_sched.proofs.Branching.{agree-alike}
-use Rattle.swarm_sched.specs.Inside.Bounds.{AreLeast}
+use Rattle.swarm_sched.proofs.Branching.{agree-alike, at_place}
+use Rattle.swarm_sched.proofs.Knowing.{decide}
 use Rattle.swarm_sched.specs.Inside.ClassTable.{AreRows, value_order}
-use Rattle.swarm_sched.specs.Inside.Classes.{AreClasses, AreSorted, AreSorting, AreValues, HaveClasses, IsEntry}
-use Rattle.swarm_sched.specs.Inside.Classes.{IsMore, IsOf, entry_id, puts_node, sorted_by}
+use Rattle.swarm_sched.specs.Inside.Classes.{AreBelow, AreClasses, AreFew, AreSorted, AreSorting, AreValues}
+use Rattle.swarm_sched.specs.Inside.Classes.{HaveClasses, IsEntry, IsMore, IsOf, entry_id, puts_node, sorted_by}
+use Rattle.swarm_sched.specs.Inside.Ranks.{AreRanks, Ranking}
 use Rattle.swarm_sched.specs.declared.classes.ClassedNode.{ClassedNode}
 use Rattle.swarm_sched.specs.declared.classes.SortedNodes.{SortedNodes}
 use Rattle.swarm_sched.specs.declared.classes.Sorting.TheVariants as sorting
@@ -59,27 +60,27 @@ nodes-left (c ∷ cs) t none =
     nodes-left cs (apply_change t c) (neither_right (puts_node c) (list_any puts_node cs) none)
     ∙ change-left t c (neither_left (puts_node c) (list_any puts_node cs) none)
 
--- what is sorted stays so, where it goes on being known what the nodes have at least
+-- what is sorted stays so, where the nodes of each class are kept by rising live tasks
 pub classes_alike : (t u : Tables) (keys : List Key) (nodes : List ClassedNode) (count : ℕ)
-    (values : List (List Ordering)) (before after : List (List (Option ℕ))) → u.nodes ≡ t.nodes →
-    AreSorted t.nodes keys nodes × AreLeast t nodes before × HaveClasses count nodes
+    (values : List (List Ordering)) (before after : Ranking) → u.nodes ≡ t.nodes →
+    AreSorted t.nodes keys nodes × AreRanks t nodes before × HaveClasses count nodes
     × AreValues t.nodes keys nodes values →
-    AreLeast u nodes after →
-    AreSorted u.nodes keys nodes × AreLeast u nodes after × HaveClasses count nodes
+    AreRanks u nodes after →
+    AreSorted u.nodes keys nodes × AreRanks u nodes after × HaveClasses count nodes
     × AreValues u.nodes keys nodes values
-classes_alike t u keys nodes count values before after same are least = (
+classes_alike t u keys nodes count values before after same are ranks = (
   subst (λ list. AreSorted list keys nodes) (sym same) are.0,
-  least,
+  ranks,
   are.2,
   subst (λ list. AreValues list keys nodes values) (sym same) are.3,
 )
 
 pub classes_left : (t : Tables) (cs : List Change) (keys : List Key) (nodes : List ClassedNode) (count : ℕ)
-    (values : List (List Ordering)) (before after : List (List (Option ℕ))) → list_any puts_node cs ≡ false →
-    AreSorted t.nodes keys nodes × AreLeast t nodes before × HaveClasses count nodes
+    (values : List (List Ordering)) (before after : Ranking) → list_any puts_node cs ≡ false →
+    AreSorted t.nodes keys nodes × AreRanks t nodes before × HaveClasses count nodes
     × AreValues t.nodes keys nodes values →
-    AreLeast (apply_changes t cs) nodes after →
-    AreSorted (apply_changes t cs).nodes keys nodes × AreLeast (apply_changes t cs) nodes after
+    AreRanks (apply_changes t cs) nodes after →
+    AreSorted (apply_changes t cs).nodes keys nodes × AreRanks (apply_changes t cs) nodes after
     × HaveClasses count nodes × AreValues (apply_changes t cs).nodes keys nodes values
 classes_left t cs keys nodes count values before after none =
     classes_alike t (apply_changes t cs) keys nodes count values before after (nodes-left cs t none)
@@ -87,9 +88,59 @@ classes_left t cs keys nodes count values before after none =
 -- what is kept is of the sorted nodes
 pub sorted_done : (t : Tables) (keys : List Key) (s : Sorting) (n : SortedNodes) → s ≡ sorting.Done n →
     AreClasses t (sorted_by keys s) →
-    AreSorted t.nodes keys n.nodes × AreLeast t n.nodes n.bounds × HaveClasses n.table.count n.nodes
+    AreSorted t.nodes keys n.nodes × AreRanks t n.nodes n.ranks × HaveClasses n.table.count n.nodes
     × AreValues t.nodes keys n.nodes n.table.values
 sorted_done t keys s n is = subst (λ r. AreClasses t (sorted_by keys r)) is
+
+-- How many classes there are.
+
+pub class_small : (nodes : List ClassedNode) (i : ℕ) (d : ClassedNode) → AreFew nodes → i < length nodes →
+    (get_or nodes i d).class < CLASSES
+class_small nodes i d few lt = few (get_or nodes i d) (at_place nodes i d lt)
+
+-- up to this place all classes are among so many
+pub record AreBelowUpTo (sorted : List ClassedNode) (i count : ℕ) : Type 0 where
+  pub few : count ≤ CLASSES
+  pub each : (j : ℕ) (d : ClassedNode) → j < i → (get_or sorted j d).class < count
+
+pub below_none : (sorted : List ClassedNode) → AreBelowUpTo sorted 0 0
+below_none sorted = record { few = omega arith; each = λ j d lt. absurd (omega (arith, lt)) }
+
+pub below_one : (sorted : List ClassedNode) (i count after : ℕ) (e : ClassedNode) → AreBelowUpTo sorted i count →
+    count ≤ after → (get_or sorted i e).class < after → after ≤ CLASSES → i < length sorted →
+    AreBelowUpTo sorted (i + 1) after
+below_one sorted i count after e so more own few there = record {
+  few = few;
+  each = λ j d lt.
+      elim (decide j i) [
+        | inl same ↦
+            subst (λ (c : ClassedNode). c.class < after)
+            (get_or_default sorted i e d there ∙ ap (λ k. get_or sorted k d) (sym same)) own
+        | inr other ↦ omega (arith, more, so.each j d (omega (arith, lt, other)))
+      ];
+}
+
+pub greater_of : (a b r n : ℕ) → r ≡ ord_max nat_cmp a b → a ≤ n → b ≤ n → (a ≤ r) × (b ≤ r) × (r ≤ n)
+greater_of a b r n is one other =
+    (grind (arith, nat_tests, is), grind (arith, nat_tests, is), grind (arith, nat_tests, is, one, other))
+
+-- where it stands
+place-of : (xs : List ClassedNode) (x : ClassedNode) → Has xs x → (i : ℕ) × ((i < length xs) × (get_or xs i x ≡ x))
+place-of [] x h = absurd h
+place-of (y ∷ xs) x (inl e) = (0, (omega arith, e))
+place-of (y ∷ xs) x (inr h) =
+    let at = place-of xs x h in (suc at.0, (omega (arith, at.1.0), at.1.1))
+
+pub below_all : (sorted : List ClassedNode) (i count : ℕ) → length sorted ≤ i → AreBelowUpTo sorted i count →
+    HaveClasses count sorted
+below_all sorted i count all so = (all-below, so.few)
+  where
+    all-below : AreBelow count sorted
+    all-below c h =
+        let at = place-of sorted c h in
+        subst (λ (e : ClassedNode). e.class < count) (at.1.1) (so.each at.0 c (omega (arith, all, at.1.0)))
+
+pub ruleset count_steps = (below_none, below_one, below_all)
 
 -- A class among its heads.
 

@@ -7,23 +7,19 @@ use Rattle.std.specs.Ordering.{nat_cmp, ordering_then}
 use Rattle.std.specs.Prelude.{IfSome, filter}
 use Rattle.std.specs.declared.cmp.Ordering.TheVariants.{Equal, Greater, Less}
 use Rattle.std.specs.declared.cmp.Ordering.{Ordering}
-use Rattle.swarm_objects.proofs.RowLemmas.{Has-from_row_at}
 use Rattle.swarm_objects.specs.Nodes.BestNode.{branch_load, spread_cmp}
-use Rattle.swarm_objects.specs.Rows.{Has, node_id, row_at}
 use Rattle.swarm_objects.specs.Tasks.Words.{is_of}
 use Rattle.swarm_objects.specs.Usable.{IsUsable}
 use Rattle.swarm_objects.specs.World.{Tables}
 use Rattle.swarm_objects.specs.declared.nodes.Node.{Node}
 use Rattle.swarm_objects.specs.declared.tasks.Task.{Task}
 use Rattle.swarm_objects.specs.declared.templates.Key.{Key}
-use Rattle.swarm_sched.proofs.Branching.{at_place}
 use Rattle.swarm_sched.proofs.ClassLoading.{told_load}
 use Rattle.swarm_sched.proofs.Knowing.{decide}
 use Rattle.swarm_sched.specs.Inside.Branches.{preferences}
 use Rattle.swarm_sched.specs.Inside.ClassLoads.{AreLoads}
-use Rattle.swarm_sched.specs.Inside.ClassTable.{AreRows, IsRow, IsTold, value_order}
+use Rattle.swarm_sched.specs.Inside.ClassTable.{AreRows, AreTold, IsRow, IsTold, value_order}
 use Rattle.swarm_sched.specs.Inside.Classes.{AreOrders, AreSorted, AreValues, HaveClasses, IsEntry, IsOrder}
-use Rattle.swarm_sched.specs.Inside.Orders.{AreTold}
 use Rattle.swarm_sched.specs.declared.classes.ClassedNode.{ClassedNode}
 use Rattle.swarm_sched.specs.declared.classes.TheConstants.{CLASSES}
 
@@ -140,29 +136,20 @@ told_order t service (k ∷ []) sorted loads values c e b n o usable are so coun
 told_order t service (k ∷ l ∷ keys) sorted loads values c e b n o usable are so counted best own told = absurd told
 
 pub orders_told : (t : Tables) (x : Task) (sorted : List ClassedNode) (count : ℕ) (loads : List ℕ)
-    (values : List (List Ordering)) (each : List (Option Ordering)) (i : ℕ) (d : ClassedNode) (b : Node)
+    (values : List (List Ordering)) (each : List (Option Ordering)) (c : ClassedNode) (b : Node)
     (seen : List Key) → IsUsable t → AreSorted t.nodes x.template.spread sorted →
     AreValues t.nodes x.template.spread sorted values → HaveClasses count sorted →
-    ((x.template.spread ≡ [] → ⊥) → AreLoads sorted (filter (is_of x.service) t.tasks) loads) → i < length sorted →
-    row_at node_id (get_or sorted i d).id t.nodes ≡ Some b → seen ≡ x.template.spread →
+    ((x.template.spread ≡ [] → ⊥) → AreLoads sorted (filter (is_of x.service) t.tasks) loads) →
+    IsEntry t.nodes sorted c b → seen ≡ x.template.spread →
     ((k : ℕ) → k < count → IfSome (get_or each k None)
-    (IsTold seen loads (get_or values (get_or sorted i d).class []) (get_or sorted i d).class k)) →
+    (IsTold seen loads (get_or values c.class []) c.class k)) →
     AreOrders (preferences t x) sorted each (Some b)
-orders_told t x sorted count loads values each i d b seen usable are so few counted lt row same told = record {
+orders_told t x sorted count loads values each c b seen usable are so few counted best same told = record {
   each = λ e n own. go e n own (get_or each e.class None) (told e.class (few.0 e own.there));
 }
   where
     keys : List Key
     keys = x.template.spread
-
-    c : ClassedNode
-    c = get_or sorted i d
-
-    at : Has t.nodes b × (b.id ≡ c.id)
-    at = Has-from_row_at node_id c.id t.nodes b row
-
-    best : IsEntry t.nodes sorted c b
-    best = record { there = at_place sorted i d lt; row = at.0; same = at.1 }
 
     go : (e : ClassedNode) (n : Node) → IsEntry t.nodes sorted e n → (r : Option Ordering) →
         IfSome r (IsTold seen loads (get_or values c.class []) c.class e.class) →

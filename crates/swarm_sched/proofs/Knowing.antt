@@ -20,7 +20,7 @@ use Rattle.swarm_objects.specs.World.{Tables}
 use Rattle.swarm_objects.specs.declared.rows.Change.TheVariants as change
 use Rattle.swarm_objects.specs.declared.rows.Change.{Change}
 use Rattle.swarm_objects.specs.declared.tasks.Task.{Task}
-use Rattle.swarm_sched.specs.Inside.Known.{AreCounted, AreFewer, AreMoved, Forgets, ForgetsAll, ForgetsChange, Forgetting, IsExchanged, Knows, adds, if_of, one_if, recalled}
+use Rattle.swarm_sched.specs.Inside.Known.{AreCounted, AreFewer, AreMoved, AreSpared, CountsAlike, Forgets, ForgetsAll, ForgetsChange, Forgetting, IsExchanged, Knows, adds, if_of, one_if, recalled}
 use Rattle.swarm_sched.specs.declared.known.Moved.{Moved}
 use Rattle.swarm_sched.specs.declared.known.NodeTotals.{NodeTotals}
 
@@ -416,6 +416,67 @@ pub ruleset moved_steps = (none_moved, one_moved, alone_moved)
 pub moved_knows : (t : Tables) (m : Moved) → AreMoved t m → IfSome m.from (λ k. AreCounted t k.node k) × IfSome m.to (λ k. AreCounted t k.node k)
 moved_knows t m are = (are.from, are.to)
 
+-- A task that counts as the one that it replaces leaves all sums as they are.
+
+pub adds-alike : (f : Task → ℕ) (node : ℕ) (old new : Task) → CountsAlike old new → f new ≡ f old →
+    adds f node old ≡ adds f node new
+adds-alike f node old new alike same =
+    sym
+    (ap (λ b. cond (b && is_on node new) (f new) 0) alike.placed
+    ∙ ap (λ o. cond (is_placed old && option_eq same_number o (Some node)) (f new) 0) alike.node
+    ∙ ap (λ (n : ℕ). cond (is_placed_on node old) n 0) same)
+
+alike-exchanged : (k : NodeTotals) (old new : Task) → CountsAlike old new → IsExchanged k old new k
+alike-exchanged k old new alike =
+    let sums = λ (f : Task → ℕ). adds-alike f k.node old new alike in
+    let live : one_if is_live new ≡ one_if is_live old = ap (λ b. cond b 1 0) alike.live in
+    let own : Task → Bool = λ x. is_of k.service x && is_live x in
+    let own-same : one_if own new ≡ one_if own old =
+    ap (λ (n : ℕ). cond (eqb n k.service && is_live new) 1 0) alike.service
+    ∙ ap (λ b. cond (is_of k.service old && b) 1 0) alike.live in
+    record {
+      node = refl;
+      service = refl;
+      cpu = ap (λ n. k.totals.cpu + n) (sums task_cpu alike.cpu);
+      mem = ap (λ n. k.totals.mem + n) (sums task_mem alike.mem);
+      load = ap (λ n. k.totals.load + n) (sums (one_if is_live) live);
+      here = ap (λ n. k.here + n) (sums (one_if own) own-same);
+    }
+
+pub spared_knows : (t : Tables) (cs : List Change) (all : List (Option NodeTotals)) → IsUsable t → Knows t all →
+    AreSpared t cs → Knows (apply_changes t cs) all
+spared_knows t cs all usable knows spared =
+    subst (λ l. Knows (apply_changes t l) all) (sym spared.one) (record { each = λ m. go m (recalled all m) refl })
+  where
+    u : Tables
+    u = apply_changes t (change.PutTask spared.new ∷ [])
+
+    go : (m : ℕ) (o : Option NodeTotals) → recalled all m ≡ o → IfSome o (AreCounted u m)
+    go m None is = tt
+    go m (Some k) is =
+        subst (λ n. AreCounted u n k) (if-own m (get_or all (m % length all) None) k (sym is))
+        (exchanged_counted t all m spared.new spared.old k k usable knows spared.row (sym is)
+        (alike-exchanged k spared.old spared.new spared.alike))
+
+pub put_spared : (t : Tables) (c : Change) (old new : Task) → c ≡ change.PutTask new →
+    Some old ≡ row_at task_id new.id t.tasks → CountsAlike old new → AreSpared t (c ∷ [])
+put_spared t c old new is row alike = record {
+  old = old;
+  new = new;
+  one = ap (λ d. d ∷ []) is;
+  row = sym row;
+  alike = alike;
+}
+
+pub alone_spared : (t : Tables) (cs others : List Change) (c : Change) → cs ≡ c ∷ others → length others ≡ 0 →
+    AreSpared t (c ∷ []) → AreSpared t cs
+alone_spared t cs others c is none =
+    subst (AreSpared t) (ap (λ l. c ∷ l) (sym (is-empty others none)) ∙ sym is)
+
+pub ruleset spared_steps = (put_spared, alone_spared)
+
+-- What is remembered before and after changes.
+
 misses-known : (t : Tables) (all : List (Option NodeTotals)) (node : ℕ) (k : NodeTotals) (c : Change) → IsUsable t →
     recalled all node ≡ Some k → ForgetsChange t all c → Misses (is_placed_on node) t.tasks c
 misses-known t all node k c usable known gone = record {
@@ -462,7 +523,7 @@ changed_knows t cs all usable knows gone = record { each = λ m. go m (recalled 
         counted-alike t u m k
         (changes-leave (is_placed_on m) cs t (λ c h. misses-known t all m k c usable is (gone.each c h))) so
 
-pub ruleset changed_steps = (fewer_knows, changed_knows)
+pub ruleset changed_steps = (fewer_knows, changed_knows, spared_knows, none_moved)
 
 -- what is remembered of a node is so
 pub recalled_are : (t : Tables) (all : List (Option NodeTotals)) (node : ℕ) (k : NodeTotals) → Knows t all →

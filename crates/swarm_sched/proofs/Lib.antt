@@ -1,7 +1,8 @@
-mod Bounding
 mod Branching
 mod ClassOrders
 mod ClassLoading
+mod ClassSearching
+mod ClassTurns
 mod Classing
 mod Comparing
 mod Halving
@@ -9,10 +10,11 @@ mod Knowing
 pub mod KnownAlike
 mod LastRefusing
 mod OneAnswer
+mod Ordering
 mod Nearing
 mod Preferring
+mod Ranking
 mod Refusing
 mod Remembering
-mod Rivals
 mod Scheduling
 mod Totalling

@@ -14,8 +14,8 @@ use crate::classes::{CLASSES, ClassedNode};
 use swarm_objects::walks::tasks_of;
 use swarm_objects::{Id, Rows, Task};
 
-// The entry of the node with this id, by halving.
-fn entry_of(sorted: &[ClassedNode], node: Id) -> Option<&ClassedNode>
+/// The entry of the node with this id, by halving.
+pub fn entry_of(sorted: &[ClassedNode], node: Id) -> Option<&ClassedNode>
     requires { RisesFrom entry_id 0 sorted.now }
     ensures { option_copied result ≡ row_at entry_id node sorted.now }
 {

@@ -69,20 +69,40 @@ impl ClassTable {
         ClassTable { count, values }
     }
 
+    /// A class that is thought to have the best node, where there is any: by one placement preference it is told without
+    /// a look at nodes which one comes first.
+    pub fn leading(&self, keys: &[Key], loads: &[u64; CLASSES]) -> usize
+        requires { self.now.count ≤ CLASSES }
+        ensures { 0 < self.now.count → result < self.now.count }
+    {
+        let mut lead = 0;
+        if keys.len() != 1 {
+            return lead;
+        }
+        for class in 1..self.count {
+            let order = loads[class]
+                .cmp(&loads[lead])
+                .then(self.values[lead][class]);
+            if order == Ordering::Less {
+                lead = class;
+            }
+        }
+        lead
+    }
+
     /// How the classes compare with a best node of this class, as far as it is told without a look at nodes: by one
     /// placement preference it is. By none they are all alike.
     pub fn orders(&self, keys: &[Key], loads: &[u64; CLASSES], class: usize) -> Orders
         requires few { self.now.count ≤ CLASSES }
         requires class { class < CLASSES }
-        ensures told { (k : ℕ) → k < self.now.count → IfSome (get_or result.each k None)
+        ensures told { (k : ℕ) → k < self.now.count → IfSome (get_or result k None)
             (IsTold keys.now loads.now (get_or self.now.values class []) class k) }
-        ensures count { result.count ≡ self.now.count }
-        ensures all { length result.each ≡ CLASSES }
+        ensures all { length result ≡ CLASSES }
     {
         match keys {
-            [] => Orders::alike(self.count),
+            [] => Orders::alike(),
             [_] => Orders::told(self.count, loads, loads[class], &self.values[class]),
-            _ => Orders::new(self.count),
+            _ => Orders::new(),
         }
     }
 }

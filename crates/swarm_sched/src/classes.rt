@@ -6,17 +6,17 @@ ghost use Rattle.swarm_objects.specs.ChangeLists.{apply_changes};
 ghost use Rattle.swarm_objects.specs.Nodes.BestNode.{agrees, best_node};
 ghost use Rattle.swarm_objects.specs.Usable.{IsUsable};
 ghost use Rattle.swarm_sched.specs.Inside.Classes.{AreClasses, AreFew, AreSorted, AreValues, HaveClasses};
-ghost use Rattle.swarm_sched.specs.Inside.Classes.{IsMore, IsOf, IsServed, classes, puts_node};
+ghost use Rattle.swarm_sched.specs.Inside.Classes.{IsMore, IsOf, IsServed, classes, puts_node, sorted_by};
 ghost use Rattle.swarm_sched.specs.Inside.Known.{Knows};
 ghost use Rattle.swarm_sched.specs.Inside.KnownRefusals.{KnowsOwn};
 ghost use Rattle.swarm_sched.specs.declared.classes.TheConstants.{CLASSES};
 
-use crate::bounds::Bounds;
 use crate::class_table::ClassTable;
 use crate::keys::agrees;
 use crate::known::KnownTotals;
 use crate::known_refusals::Group;
 use crate::placing::best_of_classes;
+use crate::ranks::Ranks;
 use std::alloc::Global;
 use std::marker::Model;
 use swarm_objects::walks::nodes;
@@ -36,8 +36,8 @@ pub struct ClassedNode {
 #[derive(Drop)]
 struct SortedNodes {
     nodes: List<ClassedNode>,
-    bounds: Bounds,
     table: ClassTable,
+    ranks: Ranks,
 }
 
 // Whether the nodes are sorted.
@@ -127,7 +127,7 @@ fn sorted_nodes<R: Rows>(
 }
 
 // How many classes they are of.
-#[tactic(auto, using(crate::proofs::Bounding::count_steps))]
+#[tactic(auto, using(crate::proofs::Classing::count_steps))]
 fn class_count(sorted: &[ClassedNode]) -> usize
     requires { AreFew sorted.now }
     ensures { HaveClasses result sorted.now }
@@ -139,6 +139,24 @@ fn class_count(sorted: &[ClassedNode]) -> usize
     count
 }
 
+// The same as it is kept, where nothing is known so far of how many live tasks they have.
+fn sorting_of<R: Rows>(alloc: Global, rows: &R, keys: &[Key]) -> Sorting
+    requires { IsUsable (R.tables rows.now) }
+    ensures { AreClasses (R.tables rows.now) (sorted_by keys.now result) }
+{
+    let Some((nodes, table)) = sorted_nodes(alloc, rows, keys) else {
+        return Sorting::InVain;
+    };
+    match Ranks::new(alloc, nodes.as_slice()) {
+        Some(ranks) => Sorting::Done(SortedNodes {
+            nodes,
+            table,
+            ranks,
+        }),
+        None => Sorting::InVain,
+    }
+}
+
 impl Asked {
     // The nodes of a class have the same values for these keys too. Where there are none, so have any nodes.
     fn is_for(&self, keys: &List<Key>) -> bool
@@ -147,7 +165,8 @@ impl Asked {
         keys.is_empty() || keys.same(&self.keys)
     }
 
-    // The best of the nodes for the task, where they are sorted by its preferences.
+    // The best of the nodes for the task, where they are sorted by its preferences, and it is known how many live tasks
+    // they have.
     fn best<'a, R: Rows>(
         &mut self,
         rows: &'a R,
@@ -168,15 +187,22 @@ impl Asked {
             return None;
         }
         match &mut self.sorting {
-            Sorting::Done(sorted) => Some(best_of_classes(
-                rows,
-                known,
-                group,
-                sorted.nodes.as_slice(),
-                &mut sorted.bounds,
-                &sorted.table,
-                task,
-            )),
+            Sorting::Done(sorted) => {
+                let nodes = sorted.nodes.as_slice();
+                if !sorted.ranks.refresh(rows, known, task.service, nodes) {
+                    return None;
+                }
+                let best = best_of_classes(
+                    rows,
+                    known,
+                    group,
+                    nodes,
+                    &sorted.ranks,
+                    &sorted.table,
+                    task,
+                );
+                Some(best)
+            }
             Sorting::NotYet | Sorting::InVain => None,
         }
     }
@@ -189,18 +215,31 @@ impl Asked {
         }
     }
 
-    // Of the nodes that may have fewer live tasks after the changes nothing is known.
-    fn lower<R: Rows>(&mut self, rows: &R, changes: &[Change])
+    // It is noted which nodes may have another number of live tasks after the changes; false where it can't be.
+    fn note<R: Rows>(&mut self, rows: &R, changes: &[Change]) -> bool
+        requires usable { IsUsable (R.tables rows.now) }
+        requires knows { AreClasses (R.tables rows.now) (classes self.old) }
+        requires spares { list_any puts_node changes.now ≡ false }
+        ensures stays { IsTrue result → AreClasses (R.tables rows.now) (classes self.new) }
+        ensures goes_on { IsTrue result →
+            AreClasses (apply_changes (R.tables rows.now) changes.now) (classes self.new) }
+    {
+        match &mut self.sorting {
+            Sorting::Done(sorted) => sorted.ranks.touch(rows, changes),
+            Sorting::NotYet | Sorting::InVain => true,
+        }
+    }
+
+    // The same. Where it can't be, the nodes are sorted anew when they are asked for again.
+    fn touch<R: Rows>(&mut self, rows: &R, changes: &[Change])
         requires usable { IsUsable (R.tables rows.now) }
         requires knows { AreClasses (R.tables rows.now) (classes self.old) }
         requires spares { list_any puts_node changes.now ≡ false }
         ensures stays { AreClasses (R.tables rows.now) (classes self.new) }
         ensures goes_on { AreClasses (apply_changes (R.tables rows.now) changes.now) (classes self.new) }
     {
-        if let Sorting::Done(sorted) = &mut self.sorting {
-            sorted
-                .bounds
-                .lower_changed(sorted.nodes.as_slice(), rows, changes);
+        if !self.note(rows, changes) {
+            self.sorting = Sorting::NotYet;
         }
     }
 
@@ -211,14 +250,7 @@ impl Asked {
         ensures { AreClasses (R.tables rows.now) (classes self.new) }
     {
         if let Sorting::NotYet = self.sorting {
-            self.sorting = match sorted_nodes(alloc, rows, self.keys.as_slice()) {
-                Some((nodes, table)) => Sorting::Done(SortedNodes {
-                    table,
-                    bounds: Bounds::new(alloc, nodes.len()),
-                    nodes,
-                }),
-                None => Sorting::InVain,
-            };
+            self.sorting = sorting_of(alloc, rows, self.keys.as_slice());
         }
     }
 }
@@ -289,7 +321,7 @@ impl NodeClasses {
             return;
         }
         if let Some(asked) = &mut self.asked {
-            asked.lower(rows, changes);
+            asked.touch(rows, changes);
         }
     }
 

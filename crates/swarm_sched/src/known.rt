@@ -1,5 +1,5 @@
 // What the tasks on nodes come to, as far as it is remembered from one placement to the next.
-ghost use Rattle.std.specs.Prelude.{◌≡◌, ◌≤◌, ◌+◌, ◌&&◌, ◌∷◌, [], IfSome, None, Some, length};
+ghost use Rattle.std.specs.Prelude.{◌≡◌, ◌≤◌, ◌+◌, ◌&&◌, ◌∷◌, [], IfSome, IsTrue, None, Some, length};
 ghost use Rattle.swarm_objects.specs.ChangeLists.{apply_changes};
 ghost use Rattle.swarm_objects.specs.Nodes.BestNode.{load};
 ghost use Rattle.swarm_objects.specs.Nodes.Filters.{here};
@@ -9,8 +9,9 @@ ghost use Rattle.swarm_objects.specs.declared.rows.Change.TheVariants as change;
 ghost use Rattle.swarm_objects.specs.Rows.{row_at, task_id};
 ghost use Rattle.swarm_objects.specs.Usable.{IsUsable};
 ghost use Rattle.swarm_objects.specs.World.{Tables};
-ghost use Rattle.swarm_sched.specs.Inside.Known.{AreCounted, AreFewer, AreMoved, Forgets, ForgetsAll, ForgetsChange};
-ghost use Rattle.swarm_sched.specs.Inside.Known.{IsExchanged, Knows, adds, if_of, one_if, recalled};
+ghost use Rattle.swarm_sched.specs.Inside.Known.{AreCounted, AreFewer, AreMoved, AreSpared, CountsAlike, Forgets};
+ghost use Rattle.swarm_sched.specs.Inside.Known.{ForgetsAll, ForgetsChange, IsExchanged, Knows, adds, if_of};
+ghost use Rattle.swarm_sched.specs.Inside.Known.{one_if, recalled};
 ghost use Rattle.swarm_sched.specs.Inside.Totals.{AreTotals};
 
 use crate::totals::{Totals, count_up};
@@ -18,7 +19,7 @@ use std::alloc::Global;
 use std::marker::Model;
 use swarm_objects::loads::Loads;
 use swarm_objects::placed::{here, load, reserved_cpu, reserved_mem};
-use swarm_objects::{Change, Id, Rows, Task};
+use swarm_objects::{Change, Id, Rows, Same, Task};
 
 // How many slots there are at first.
 const SLOTS: usize = 64;
@@ -175,6 +176,45 @@ impl NodeTotals {
             service,
             here,
         })
+    }
+}
+
+// The task counts for every node as the one that it replaces.
+fn counts_alike(old: &Task, new: &Task) -> bool
+    ensures { IsTrue result → CountsAlike old.now new.now }
+{
+    new.node == old.node
+        && new.service == old.service
+        && new.is_placed() == old.is_placed()
+        && new.is_live() == old.is_live()
+        && new.template.cpu == old.template.cpu
+        && new.template.mem == old.template.mem
+        && new.template.host_ports.same(&old.template.host_ports)
+}
+
+// The change puts a task that counts as the one that it replaces.
+#[tactic(auto, using(crate::proofs::Knowing::spared_steps))]
+fn is_spared<R: Rows>(rows: &R, change: &Change) -> bool
+    ensures { IsTrue result → AreSpared (R.tables rows.now) (change.now ∷ []) }
+{
+    let Change::PutTask(new) = change else {
+        return false;
+    };
+    match rows.task(new.id) {
+        Some(old) => counts_alike(old, new),
+        None => false,
+    }
+}
+
+/// The changes are one that puts a task which counts as the one that it replaces. Half of all are so: they only take a
+/// task from one state to the next on its node.
+#[tactic(auto, using(crate::proofs::Knowing::spared_steps))]
+pub fn are_spared<R: Rows>(rows: &R, changes: &[Change]) -> bool
+    ensures { IsTrue result → AreSpared (R.tables rows.now) changes.now }
+{
+    match changes.split_first() {
+        Some((change, others)) => others.is_empty() && is_spared(rows, change),
+        None => false,
     }
 }
 
@@ -432,6 +472,9 @@ impl KnownTotals {
         ensures goes_on { Knows (apply_changes (R.tables rows.now) changes.now) self.new }
         ensures moved { AreMoved (apply_changes (R.tables rows.now) changes.now) result }
     {
+        if are_spared(rows, changes) {
+            return Moved::NONE;
+        }
         let moved = self.moved(rows, changes);
         self.forget_each(rows, changes);
         moved

@@ -3,10 +3,10 @@
 #![tactic(auto)]
 
 mod alike;
-mod bounds;
 mod branches;
 mod changing;
 mod class_loads;
+mod class_search;
 mod class_table;
 mod classes;
 mod filters;
@@ -18,6 +18,7 @@ mod last_group;
 mod near;
 mod orders;
 mod placing;
+mod ranks;
 mod refused;
 mod totals;
 mod touching;

@@ -2,7 +2,7 @@
 use Rattle.std.specs.Borrow.{Bor}
 use Rattle.std.specs.Cmp.Lexicographic.{slice_cmp}
 use Rattle.std.specs.Ordering.{nat_cmp, ordering_then}
-use Rattle.std.specs.Prelude.{List, [], get_or, length, ℕ, ◌<◌, ◌∷◌, ◌≡◌}
+use Rattle.std.specs.Prelude.{List, None, Option, Some, [], get_or, length, ℕ, ◌<◌, ◌∷◌, ◌≡◌, ◌≤◌}
 use Rattle.std.specs.declared.cmp.Ordering.TheVariants.{Equal, Less}
 use Rattle.std.specs.declared.cmp.Ordering.{Ordering}
 use Rattle.swarm_objects.specs.Nodes.Constraints.{key_value}
@@ -33,3 +33,12 @@ IsTold [] loads values best class o = o ≡ Equal
 IsTold (k ∷ []) loads values best class o =
     o ≡ ordering_then (nat_cmp (get_or loads class 0) (get_or loads best 0)) (get_or values class Less)
 IsTold (k ∷ l ∷ keys) loads values best class o = ⊥
+
+-- so many classes compare by their tasks with one that has so many, or else as these values say, and of the others
+-- nothing is known
+pub record AreTold (loads : List ℕ) (load : ℕ) (values : List Ordering) (count : ℕ) (each : List (Option Ordering)) :
+    Type 0 where
+  pub told : (class : ℕ) → class < count →
+      get_or each class None ≡ Some (ordering_then (nat_cmp (get_or loads class 0) load) (get_or values class Less))
+  pub left : (class : ℕ) → count ≤ class → get_or each class None ≡ None
+  pub all : length each ≡ CLASSES

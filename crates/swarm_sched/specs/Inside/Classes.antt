@@ -1,7 +1,7 @@
 -- Nodes sorted by their values for placement preferences.
 use Rattle.std.specs.Borrow.{Bor}
-use Rattle.std.specs.Prelude.{Bool, IfSome, List, None, Option, Some, [], false, get_or, length, map, true, ℕ}
-use Rattle.std.specs.Prelude.{◌++◌, ◌<◌, ◌∷◌, ◌≡◌, ◌≤◌, ◌⊎◌}
+use Rattle.std.specs.Prelude.{Bool, IfSome, List, None, Option, Some, [], false, get_or, if◌then◌else◌, length, map}
+use Rattle.std.specs.Prelude.{nat_le, true, ℕ, ◌++◌, ◌-◌, ◌<◌, ◌==◌, ◌∷◌, ◌≡◌, ◌≤◌, ◌⊎◌}
 use Rattle.std.specs.declared.cmp.Ordering.TheVariants.{Less}
 use Rattle.std.specs.declared.cmp.Ordering.{Ordering}
 use Rattle.swarm_objects.specs.Nodes.BestNode.{agrees, spread_cmp}
@@ -11,23 +11,23 @@ use Rattle.swarm_objects.specs.declared.nodes.Node.{Node}
 use Rattle.swarm_objects.specs.declared.rows.Change.TheVariants as change
 use Rattle.swarm_objects.specs.declared.rows.Change.{Change}
 use Rattle.swarm_objects.specs.declared.templates.Key.{Key}
-use Rattle.swarm_sched.specs.Inside.Bounds.{AreLeast}
 use Rattle.swarm_sched.specs.Inside.Branches.{Preferences}
 use Rattle.swarm_sched.specs.Inside.ClassTable.{value_order}
+use Rattle.swarm_sched.specs.Inside.Ranks.{AreRanks, Ranking}
 use Rattle.swarm_sched.specs.declared.classes.Asked.{Asked}
 use Rattle.swarm_sched.specs.declared.classes.ClassedNode.{ClassedNode}
 use Rattle.swarm_sched.specs.declared.classes.Sorting.TheVariants as sorting
 use Rattle.swarm_sched.specs.declared.classes.Sorting.{Sorting}
 use Rattle.swarm_sched.specs.declared.classes.TheConstants.{CLASSES}
 
--- preferences, the nodes sorted by them into so many classes, how the values of these compare, and how many live tasks
--- the nodes have at least
+-- preferences, the nodes sorted by them into so many classes, how the values of these compare, and the nodes of each by
+-- rising live tasks
 pub record Classes : Type 0 where
   pub keys : List Key
   pub nodes : List ClassedNode
   pub count : ℕ
   pub values : List (List Ordering)
-  pub bounds : List (List (Option ℕ))
+  pub ranks : Ranking
 
 abbrev pub sorted_by : List Key → Sorting → Option Classes
 sorted_by keys sorting.NotYet = None
@@ -36,7 +36,7 @@ sorted_by keys (sorting.Done s) = Some (record {
   nodes = s.nodes;
   count = s.table.count;
   values = s.table.values;
-  bounds = s.bounds;
+  ranks = s.ranks;
 })
 sorted_by keys sorting.InVain = None
 
@@ -86,7 +86,7 @@ pub record AreValues (nodes : List Node) (keys : List Key) (sorted : List Classe
 -- so are those that are kept
 abbrev pub AreClasses : Tables → Option Classes → Type 0
 AreClasses t o =
-    IfSome o (λ k. AreSorted t.nodes k.keys k.nodes × AreLeast t k.nodes k.bounds × HaveClasses k.count k.nodes
+    IfSome o (λ k. AreSorted t.nodes k.keys k.nodes × AreRanks t k.nodes k.ranks × HaveClasses k.count k.nodes
     × AreValues t.nodes k.keys k.nodes k.values)
 
 -- what is sorted by these keys is sorted by those
@@ -131,3 +131,7 @@ pub record AreOrders
     Type 0 where
   pub each : (c : ClassedNode) (n : Node) → IsEntry p.tables.nodes sorted c n →
       IfSome (get_or orders c.class None) (λ o. IsOrder p o n best)
+
+-- the class whose turn it is, where this one is the first
+abbrev pub class_in_turn : ℕ → ℕ → ℕ
+class_in_turn lead turn = if turn == 0 then lead else if nat_le turn lead then turn - 1 else turn

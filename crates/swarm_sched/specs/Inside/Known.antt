@@ -1,10 +1,10 @@
 -- What is remembered of the tasks on nodes.
 use Rattle.std.specs.Prelude.{Bool, IfSome, List, None, Option, Some, Vec, [], false, get_or, if◌then◌else◌, length}
-use Rattle.std.specs.Prelude.{true, ℕ, ◌%◌, ◌==◌, ◌≡◌, ◌⊎◌, ◌+◌, ◌&&◌}
+use Rattle.std.specs.Prelude.{true, ℕ, ◌%◌, ◌==◌, ◌≡◌, ◌⊎◌, ◌+◌, ◌&&◌, ◌∷◌}
 use Rattle.swarm_objects.specs.Nodes.Filters.{here}
 use Rattle.swarm_objects.specs.Nodes.Holdings.{is_placed_on, task_cpu, task_mem}
 use Rattle.swarm_objects.specs.Rows.{Has, row_at, task_id}
-use Rattle.swarm_objects.specs.Tasks.Words.{is_live, is_of, is_on}
+use Rattle.swarm_objects.specs.Tasks.Words.{is_live, is_of, is_on, is_placed}
 use Rattle.swarm_objects.specs.World.{Tables}
 use Rattle.swarm_objects.specs.declared.rows.Change.{Change}
 use Rattle.swarm_objects.specs.declared.rows.Change.TheVariants as change
@@ -52,6 +52,24 @@ pub record IsExchanged (k : NodeTotals) (old new : Task) (r : NodeTotals) : Type
   pub load : r.totals.load + adds (one_if is_live) k.node old ≡ k.totals.load + adds (one_if is_live) k.node new
   pub here : let own = one_if (λ x. is_of k.service x && is_live x) in
       r.here + adds own k.node old ≡ k.here + adds own k.node new
+
+-- the new task counts for every node as the old one
+pub record CountsAlike (old new : Task) : Type 0 where
+  pub node : new.node ≡ old.node
+  pub service : new.service ≡ old.service
+  pub placed : is_placed new ≡ is_placed old
+  pub live : is_live new ≡ is_live old
+  pub cpu : task_cpu new ≡ task_cpu old
+  pub mem : task_mem new ≡ task_mem old
+  pub ports : new.template.host_ports ≡ old.template.host_ports
+
+-- the changes are one that puts a task which counts as the one that it replaces
+pub record AreSpared (t : Tables) (cs : List Change) : Type 0 where
+  pub old : Task
+  pub new : Task
+  pub one : cs ≡ change.PutTask new ∷ []
+  pub row : row_at task_id new.id t.tasks ≡ Some old
+  pub alike : CountsAlike old new
 
 -- what will be known of the nodes that a task leaves and enters
 pub record AreMoved (t : Tables) (m : Moved) : Type 0 where

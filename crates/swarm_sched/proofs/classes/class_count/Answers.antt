@@ -1,5 +1,5 @@
 use Rattle.std.proofs.Common.{arith, get_or, ◌+◌}
-use Rattle.swarm_sched.proofs.Bounding.{below_all, below_one, class_small, greater_of}
+use Rattle.swarm_sched.proofs.Classing.{below_all, below_one, class_small, greater_of}
 use Rattle.swarm_sched.proofs.classes.class_count.Goals as goal
 use Rattle.swarm_sched.specs.declared.classes.ClassedNode.{ClassedNode}
 use Rattle.swarm_sched.specs.declared.classes.TheConstants.{CLASSES}

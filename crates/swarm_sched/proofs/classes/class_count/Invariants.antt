@@ -1,4 +1,4 @@
-use Rattle.swarm_sched.proofs.Bounding.{AreBelowUpTo}
+use Rattle.swarm_sched.proofs.Classing.{AreBelowUpTo}
 use Rattle.swarm_sched.proofs.classes.class_count.Given as goal
 
 abbrev pub invariant-loop-entry : goal.invariant-loop-entry

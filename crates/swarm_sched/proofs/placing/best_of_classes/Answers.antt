@@ -1,277 +1,160 @@
-use Rattle.std.proofs.Common.{None, ap, arith, get_or, inl, inr, refl, subst, sym, ◌∙◌}
+use Rattle.std.proofs.Common.{Some, ap, arith, inl, inr, length, subst, sym, true, ◌∙◌, ◌≡◌, ◌⊎◌}
+use Rattle.std.specs.Borrow.{Bor}
 use Rattle.std.specs.Option.{option_copied}
-use Rattle.std.specs.Prelude.{is_some}
-use Rattle.swarm_objects.specs.Rows.{node_id}
-use Rattle.swarm_filters.proofs.Filtering.{best_is}
-use Rattle.swarm_sched.proofs.ClassLoading.{none_here, place_few}
-use Rattle.swarm_sched.proofs.ClassOrders.{at_entry, none_there, searched_behind, searched_best, searched_greater}
-use Rattle.swarm_sched.proofs.ClassOrders.{searched_none, searched_past, searched_refused, searched_worse}
-use Rattle.swarm_objects.proofs.RowLemmas.{Has-from_row_at}
+use Rattle.std.specs.declared.cmp.Ordering.TheVariants.{Equal}
+use Rattle.swarm_objects.specs.Rows.{has_row}
+use Rattle.swarm_objects.specs.declared.nodes.Node.{Node}
+use Rattle.swarm_objects.specs.declared.templates.Template.{Template}
+use Rattle.swarm_sched.proofs.ClassTurns.{at_class, class_none, found_entry, none_of, turn_small, turned_all}
+use Rattle.swarm_sched.proofs.ClassTurns.{turned_better, turned_empty, turned_past, turned_worse}
 use Rattle.swarm_sched.proofs.Comparing.{orders_told}
-use Rattle.swarm_sched.proofs.Halving.{entries_rise}
-use Rattle.swarm_sched.proofs.LastRefusing.{if_there, row_shut}
 use Rattle.swarm_sched.proofs.Preferring.{is_equal}
 use Rattle.swarm_sched.proofs.placing.best_of_classes.Goals as goal
-use Rattle.swarm_sched.specs.Inside.Classes.{AreBelow}
-use Rattle.swarm_sched.specs.Inside.Orders.{ClassOrders}
-use Rattle.swarm_sched.specs.Inside.Placing.{AreBehind, IsSearched, block_end}
-use Rattle.swarm_objects.specs.declared.templates.Template.{Template}
-use Rattle.swarm_sched.specs.declared.classes.ClassedNode.{ClassedNode}
-use Rattle.swarm_sched.specs.declared.placing.Leader.{Leader}
+use Rattle.swarm_sched.proofs.placing.best_of_classes.Goals.{else-ne, then-ne}
+use Rattle.swarm_sched.specs.Inside.Branches.{preferences}
+use Rattle.swarm_sched.specs.Inside.ClassSearch.{found_node}
+use Rattle.swarm_sched.specs.Inside.Classes.{AreOrders}
+use Rattle.swarm_sched.specs.Inside.Ranks.{IsFound}
+use Rattle.swarm_sched.specs.declared.classes.TheConstants.{CLASSES}
+use Rattle.swarm_sched.specs.declared.placing.NodeLoad.{NodeLoad}
+use Rattle.swarm_timers.specs.Timers.{timer_owner}
 
-pub loop-place-init : goal.loop-place-init
-loop-place-init g c =
-    let t = g.R.Rows.tables c.args.rows.now in
-    let x = c.args.task.now in
-    record {
-      searched =
-          subst (λ (o : ClassOrders). IsSearched t x c.args.nodes.now o.each None 0) (sym c.new-orders.ensures)
-          (searched_none t x c.args.nodes.now (best_is t x));
-      count = ap (λ (o : ClassOrders). o.count) c.new-orders.ensures;
-      held = tt;
-      knows = c.requires.knows;
-      own = c.branches_of-branches.ensures.branches;
-      group = c.requires.own;
-      least = c.requires.least;
-    }
-
-pub leads_block-requires-clause-rises : goal.leads_block-requires-clause-rises
-leads_block-requires-clause-rises g c =
-    let t = g.R.Rows.tables c.args.rows.now in
-    entries_rise 0 c.args.nodes.now t.nodes c.requires.sorted.ids c.requires.usable.sound.ordered.nodes
-
-pub loop-place-preserved-then-leads_block : goal.loop-place-preserved-then-leads_block
-loop-place-preserved-then-leads_block g c =
-    let t = g.R.Rows.tables c.args.rows.now in
-    let x = c.args.task.now in
-    let d : ClassedNode = record { id = 0; class = 0 } in
-    record {
-      searched =
-          searched_behind t x c.args.nodes.now c.loop-place.orders.each (option_copied c.loop-place.best) c.loop-place.place
-          c.block_end-place.result d c.requires.sorted
-          (subst (AreBehind t x.service c.args.nodes.now c.loop-place.orders.each (option_copied c.loop-place.best)
-          c.loop-place.place) (sym c.block_end-place.ensures.is)
-          (subst (λ (l : Leader). AreBehind t x.service c.args.nodes.now l.orders.now.each (option_copied l.best)
-          c.loop-place.place (block_end c.args.nodes.now c.loop-place.place)) c.new-leader.ensures
-          (c.leads_block.ensures.behind c.if-leads_block.true)))
-          (omega (arith, c.block_end-place.ensures.more)) c.block_end-place.ensures.fits
-          c.loop-place.invariant.searched;
-      count = c.loop-place.invariant.count;
-      held = c.loop-place.invariant.held;
-      knows = c.leads_block.ensures.knows;
-      own = c.loop-place.invariant.own;
-      group = c.loop-place.invariant.group;
-      least = c.leads_block.ensures.least;
-    }
-
-pub is_behind-requires : goal.is_behind-requires
-is_behind-requires g c =
-    place_few (g.R.Rows.tables c.args.rows.now).nodes c.args.task.now.template.spread c.args.nodes.now
-    c.loop-place.place (record { id = 0; class = 0 }) c.requires.sorted c.loop-place-test.true
-
-pub loop-place-preserved-then-is_behind : goal.loop-place-preserved-then-is_behind
-loop-place-preserved-then-is_behind g c =
+pub loop-turn-preserved-then-is_behind : goal.loop-turn-preserved-then-is_behind
+loop-turn-preserved-then-is_behind g c =
     let t = g.R.Rows.tables c.args.rows.now in
     record {
-      searched =
-          searched_greater t c.args.task.now c.args.nodes.now c.loop-place.orders.each (option_copied c.loop-place.best)
-          c.loop-place.place (record { id = 0; class = 0 }) c.requires.sorted c.loop-place.invariant.searched
-          c.loop-place-test.true (c.is_behind.ensures c.if-is_behind.true);
-      count = c.loop-place.invariant.count;
-      held = c.loop-place.invariant.held;
-      knows = c.leads_block.ensures.knows;
-      own = c.loop-place.invariant.own;
-      group = c.loop-place.invariant.group;
-      least = c.leads_block.ensures.least;
+      turned =
+          turned_past t c.args.task.now c.args.nodes.now c.loop-turn.orders (option_copied c.loop-turn.best)
+          c.leading-lead.result c.loop-turn.turn c.class_in_turn-class.result c.class_in_turn-class.ensures
+          (c.is_behind.ensures c.if-is_behind.true) c.loop-turn.invariant.turned;
+      held = c.loop-turn.invariant.held;
+      knows = c.loop-turn.invariant.knows;
+      own = c.loop-turn.invariant.own;
+      group = c.loop-turn.invariant.group;
     }
 
-pub orders-orders-requires-clause-class : goal.orders-orders-requires-clause-class
-orders-orders-requires-clause-class g c =
-    place_few (g.R.Rows.tables c.args.rows.now).nodes c.args.task.now.template.spread c.args.nodes.now
-    c.loop-place.place (record { id = 0; class = 0 }) c.requires.sorted c.loop-place-test.true
-
-pub class_order-spread-requires : goal.class_order-spread-requires
-class_order-spread-requires g c =
-    place_few (g.R.Rows.tables c.args.rows.now).nodes c.args.task.now.template.spread c.args.nodes.now
-    c.loop-place.place (record { id = 0; class = 0 }) c.requires.sorted c.loop-place-test.true
-
-pub leads_block-requires-clause-below : goal.leads_block-requires-clause-below
-leads_block-requires-clause-below g c =
-    subst (λ n. AreBelow n c.args.nodes.now)
-    (sym (ap (λ (l : Leader). l.orders.now.count) c.new-leader.ensures ∙ c.loop-place.invariant.count))
-    c.requires.classes.0
-
-pub loop-place-preserved-then-not-is_rival : goal.loop-place-preserved-then-not-is_rival
-loop-place-preserved-then-not-is_rival g c =
+pub loop-turn-preserved-in_default : goal.loop-turn-preserved-in_default
+loop-turn-preserved-in_default g c =
     let t = g.R.Rows.tables c.args.rows.now in
-    let x = c.args.task.now in
-    let d : ClassedNode = record { id = 0; class = 0 } in
-    let e : ClassedNode = get_or c.args.nodes.now c.loop-place.place d in
-    let at = at_entry t x c.loop-place.branches c.args.nodes.now c.loop-place.orders.each c.class_order-spread.new.orders.each
-    (option_copied c.loop-place.best) c.loop-place.place d c.class_order-spread.result c.requires.usable
-    c.loop-place.invariant.own c.requires.sorted c.loop-place.invariant.searched c.loop-place-test.true
-    c.class_order-spread.ensures.order (ap (λ (o : ClassOrders). o.each) c.class_order-spread.ensures.orders) in
     record {
-      searched =
-          searched_past t x c.args.nodes.now c.loop-place.orders.each c.class_order-spread.new.orders.each
-          (option_copied c.loop-place.best)
-          c.loop-place.place e c.class_order-spread.result at c.loop-place.invariant.searched
-          (c.is_rival.ensures.ruled_out c.if-not-is_rival.true);
-      count = ap (λ (o : ClassOrders). o.count) c.class_order-spread.ensures.orders ∙ c.loop-place.invariant.count;
-      held = c.loop-place.invariant.held;
-      knows = c.is_rival.ensures.knows;
-      own = c.class_order-spread.ensures.same ∙ c.loop-place.invariant.own;
-      group = c.loop-place.invariant.group;
-      least = c.leads_block.ensures.least;
+      turned =
+          turned_empty t c.args.task.now c.args.nodes.now c.args.ranks.now c.loop-turn.orders
+          (option_copied c.loop-turn.best) c.leading-lead.result c.loop-turn.turn c.class_in_turn-class.result
+          c.class_in_turn-class.ensures c.requires.ranked
+          (none_of c.args.ranks.now c.class_in_turn-class.result c.of.result c.in_default.is c.of.ensures.there)
+          c.loop-turn.invariant.turned;
+      held = c.loop-turn.invariant.held;
+      knows = c.loop-turn.invariant.knows;
+      own = c.loop-turn.invariant.own;
+      group = c.loop-turn.invariant.group;
     }
 
-pub loop-place-preserved-then-is_refused : goal.loop-place-preserved-then-is_refused
-loop-place-preserved-then-is_refused g c =
+pub loop-turn-preserved-in_default-any_of : goal.loop-turn-preserved-in_default-any_of
+loop-turn-preserved-in_default-any_of g c =
     let t = g.R.Rows.tables c.args.rows.now in
-    let x = c.args.task.now in
-    let d : ClassedNode = record { id = 0; class = 0 } in
-    let e : ClassedNode = get_or c.args.nodes.now c.loop-place.place d in
-    let at = at_entry t x c.loop-place.branches c.args.nodes.now c.loop-place.orders.each c.class_order-spread.new.orders.each
-    (option_copied c.loop-place.best) c.loop-place.place d c.class_order-spread.result c.requires.usable
-    c.loop-place.invariant.own c.requires.sorted c.loop-place.invariant.searched c.loop-place-test.true
-    c.class_order-spread.ensures.order (ap (λ (o : ClassOrders). o.each) c.class_order-spread.ensures.orders) in
     record {
-      searched =
-          searched_refused t x c.args.nodes.now c.loop-place.orders.each c.class_order-spread.new.orders.each
-          (option_copied c.loop-place.best)
-          c.loop-place.place e c.class_order-spread.result at c.loop-place.invariant.searched
-          (λ n row. row_shut t x e.id n c.loop-place.group row c.loop-place.invariant.group
-          (c.is_refused.ensures c.if-is_refused.true));
-      count = ap (λ (o : ClassOrders). o.count) c.class_order-spread.ensures.orders ∙ c.loop-place.invariant.count;
-      held = c.loop-place.invariant.held;
-      knows = c.is_rival.ensures.knows;
-      own = c.class_order-spread.ensures.same ∙ c.loop-place.invariant.own;
-      group = c.loop-place.invariant.group;
-      least = c.leads_block.ensures.least;
+      turned =
+          turned_empty t c.args.task.now c.args.nodes.now c.args.ranks.now c.loop-turn.orders
+          (option_copied c.loop-turn.best) c.leading-lead.result c.loop-turn.turn c.class_in_turn-class.result
+          c.class_in_turn-class.ensures c.requires.ranked
+          (sym c.in-Some.ensures.own ∙ c.any_of.ensures.none c.in_default-any_of.is) c.loop-turn.invariant.turned;
+      held = c.loop-turn.invariant.held;
+      knows = c.loop-turn.invariant.knows;
+      own = c.loop-turn.invariant.own;
+      group = c.loop-turn.invariant.group;
     }
 
-pub if_better-requires-clause-row : goal.if_better-requires-clause-row
-if_better-requires-clause-row g c =
-    let t = g.R.Rows.tables c.args.rows.now in
-    let d : ClassedNode = record { id = 0; class = 0 } in
-    if_there c.loop-place.group
-    (Has-from_row_at node_id (get_or c.args.nodes.now c.loop-place.place d).id t.nodes c.in-Some.node.now
-    (sym c.node.ensures ∙ ap option_copied c.in-Some.is)).0
+pub best_of_class-requires-clause-none : goal.best_of_class-requires-clause-none
+best_of_class-requires-clause-none g c = λ empty n row own.
+    class_none (g.R.Rows.tables c.args.rows.now) c.args.task.now c.args.nodes.now c.args.ranks.now
+    c.branches_of-branches.result.1 c.class_in_turn-class.result c.requires.usable c.requires.sorted c.requires.ranked
+    c.branches_of-branches.ensures.most empty n row
+    (subst (λ rows. has_row timer_owner n.id rows ≡ true) c.in-Some.ensures.own own)
 
-pub loop-place-preserved-in_default : goal.loop-place-preserved-in_default
-loop-place-preserved-in_default g c =
+pub loop-turn-preserved-in_default-best_of_class : goal.loop-turn-preserved-in_default-best_of_class
+loop-turn-preserved-in_default-best_of_class g c =
     let t = g.R.Rows.tables c.args.rows.now in
     let x = c.args.task.now in
-    let d : ClassedNode = record { id = 0; class = 0 } in
-    let e : ClassedNode = get_or c.args.nodes.now c.loop-place.place d in
-    let at = at_entry t x c.loop-place.branches c.args.nodes.now c.loop-place.orders.each c.class_order-spread.new.orders.each
-    (option_copied c.loop-place.best) c.loop-place.place d c.class_order-spread.result c.requires.usable
-    c.loop-place.invariant.own c.requires.sorted c.loop-place.invariant.searched c.loop-place-test.true
-    c.class_order-spread.ensures.order (ap (λ (o : ClassOrders). o.each) c.class_order-spread.ensures.orders) in
-    none_there t x c.args.nodes.now c.class_order-spread.new.orders.each (option_copied c.loop-place.best)
-    c.loop-place.place e
-    c.class_order-spread.result at (sym c.node.ensures ∙ ap option_copied c.in_default.is)
-
-pub loop-place-preserved-then-ne : goal.loop-place-preserved-then-ne
-loop-place-preserved-then-ne g c =
-    let t = g.R.Rows.tables c.args.rows.now in
-    let x = c.args.task.now in
-    let d : ClassedNode = record { id = 0; class = 0 } in
-    let e : ClassedNode = get_or c.args.nodes.now c.loop-place.place d in
-    let at = at_entry t x c.loop-place.branches c.args.nodes.now c.loop-place.orders.each c.class_order-spread.new.orders.each
-    (option_copied c.loop-place.best) c.loop-place.place d c.class_order-spread.result c.requires.usable
-    c.loop-place.invariant.own c.requires.sorted c.loop-place.invariant.searched c.loop-place-test.true
-    c.class_order-spread.ensures.order (ap (λ (o : ClassOrders). o.each) c.class_order-spread.ensures.orders) in
+    let class = c.class_in_turn-class.result in
+    let small = turn_small c.leading-lead.result c.loop-turn.turn c.args.table.now.count c.leading-lead.ensures
+    c.loop-turn-test.true in
+    let at = at_class t x c.loop-turn.branches c.args.nodes.now c.args.ranks.now c.loop-turn.orders
+    c.class_order-spread.new.orders (option_copied c.loop-turn.best) class c.in-Some-any_of.id
+    c.class_order-spread.result c.requires.usable c.loop-turn.invariant.own c.requires.sorted c.requires.ranked
+    c.loop-turn.invariant.turned.known c.loop-turn.invariant.turned.all
+    (omega (arith, small, c.class_in_turn-class.ensures, c.requires.classes.1))
+    (subst (λ rows. has_row timer_owner c.in-Some-any_of.id rows ≡ true) c.in-Some.ensures.own
+    c.in-Some-any_of.ensures.there)
+    c.class_order-spread.ensures.order c.class_order-spread.ensures.orders in
+    let found = subst (λ rows. IsFound t x rows c.class_order-spread.result (option_copied c.loop-turn.best)
+    (found_node c.best_of_class.result)) c.in-Some.ensures.own c.best_of_class.ensures.found in
     record {
-      searched =
-          searched_best t x c.args.nodes.now c.loop-place.orders.each c.class_order-spread.new.orders.each
-          c.orders-orders.result.each (option_copied c.loop-place.best)
-          c.loop-place.place e c.class_order-spread.result c.in-Some.node.now at c.loop-place.invariant.searched
-          (sym c.node.ensures ∙ ap option_copied c.in-Some.is)
-          (sym c.if_better.ensures.better ∙ ap is_some c.in-Some-if_better.is)
-          (inl (
-            orders_told t x c.args.nodes.now c.args.table.now.count c.branches_of-branches.result.1
-                c.args.table.now.values c.orders-orders.result.each c.loop-place.place d c.in-Some.node.now
-                c.as_slice.result.now c.requires.usable c.requires.sorted c.requires.values c.requires.classes
-                c.branches_of-branches.ensures.loads c.loop-place-test.true
-                (sym c.node.ensures ∙ ap option_copied c.in-Some.is)
-                (c.as_slice.ensures ∙ ap (λ (t : Template). t.spread) c.deref.ensures) c.orders-orders.ensures.told,
-            c.orders-orders.ensures.all,
-          ));
-      count = c.orders-orders.ensures.count;
-      held = c.in-Some-if_better.ensures.load;
-      knows = c.if_better.ensures.knows;
-      own = c.class_order-spread.ensures.same ∙ c.loop-place.invariant.own;
-      group = c.if_better.ensures.own;
-      least = c.leads_block.ensures.least;
+      turned =
+          turned_worse t x c.args.nodes.now c.args.ranks.now c.loop-turn.orders c.class_order-spread.new.orders
+          (option_copied c.loop-turn.best) c.best_of_class.result c.leading-lead.result c.loop-turn.turn class
+          c.class_order-spread.result c.class_in_turn-class.ensures c.requires.ranked at found
+          c.in_default-best_of_class.is c.loop-turn.invariant.turned;
+      held = c.loop-turn.invariant.held;
+      knows = c.best_of_class.ensures.knows;
+      own = c.class_order-spread.ensures.same ∙ c.loop-turn.invariant.own;
+      group = c.best_of_class.ensures.own;
     }
 
-pub loop-place-preserved-else-ne : goal.loop-place-preserved-else-ne
-loop-place-preserved-else-ne g c =
+pub loop-turn-preserved : goal.loop-turn-preserved
+loop-turn-preserved g c =
     let t = g.R.Rows.tables c.args.rows.now in
     let x = c.args.task.now in
-    let d : ClassedNode = record { id = 0; class = 0 } in
-    let e : ClassedNode = get_or c.args.nodes.now c.loop-place.place d in
-    let at = at_entry t x c.loop-place.branches c.args.nodes.now c.loop-place.orders.each c.class_order-spread.new.orders.each
-    (option_copied c.loop-place.best) c.loop-place.place d c.class_order-spread.result c.requires.usable
-    c.loop-place.invariant.own c.requires.sorted c.loop-place.invariant.searched c.loop-place-test.true
-    c.class_order-spread.ensures.order (ap (λ (o : ClassOrders). o.each) c.class_order-spread.ensures.orders) in
+    let class = c.class_in_turn-class.result in
+    let small = turn_small c.leading-lead.result c.loop-turn.turn c.args.table.now.count c.leading-lead.ensures
+    c.loop-turn-test.true in
+    let at = at_class t x c.loop-turn.branches c.args.nodes.now c.args.ranks.now c.loop-turn.orders
+    c.class_order-spread.new.orders (option_copied c.loop-turn.best) class c.in-Some-any_of.id
+    c.class_order-spread.result c.requires.usable c.loop-turn.invariant.own c.requires.sorted c.requires.ranked
+    c.loop-turn.invariant.turned.known c.loop-turn.invariant.turned.all
+    (omega (arith, small, c.class_in_turn-class.ensures, c.requires.classes.1))
+    (subst (λ rows. has_row timer_owner c.in-Some-any_of.id rows ≡ true) c.in-Some.ensures.own
+    c.in-Some-any_of.ensures.there)
+    c.class_order-spread.ensures.order c.class_order-spread.ensures.orders in
+    let found = subst (λ rows. IsFound t x rows c.class_order-spread.result (option_copied c.loop-turn.best)
+    (found_node c.best_of_class.result)) c.in-Some.ensures.own c.best_of_class.ensures.found in
+    let node = c.in-Some-best_of_class.node in
+    let best : Bor Node × NodeLoad = (node, c.in-Some-best_of_class.load) in
+    let left : (AreOrders (preferences t x) c.args.nodes.now c.if-ne.orders (Some node.now)
+    × (length c.if-ne.orders ≡ CLASSES))
+    ⊎ ((c.class_order-spread.result ≡ Equal) × (c.if-ne.orders ≡ c.class_order-spread.new.orders)) =
+    elim c.if-ne.branch [
+      | then-ne w ↦
+          inl (
+            subst (λ list. AreOrders (preferences t x) c.args.nodes.now list (Some node.now)) (sym w.orders-is)
+                (orders_told t x c.args.nodes.now c.args.table.now.count c.branches_of-branches.result.1
+                c.args.table.now.values w.orders-orders.result (record { id = node.now.id; class = class }) node.now
+                c.as_slice-keys.result.now c.requires.usable c.requires.sorted c.requires.values c.requires.classes
+                c.branches_of-branches.ensures.loads
+                (found_entry t x c.args.nodes.now c.args.ranks.now (option_copied c.loop-turn.best)
+                c.best_of_class.result best class c.class_order-spread.result c.requires.ranked found
+                c.in-Some-best_of_class.is)
+                (c.as_slice-keys.ensures ∙ ap (λ (m : Template). m.spread) c.deref.ensures)
+                w.orders-orders.ensures.told),
+            ap length w.orders-is ∙ w.orders-orders.ensures.all,
+          )
+      | else-ne w ↦
+          inr (is_equal c.class_order-spread.result c.ne.result c.ne.ensures w.if-ne.false, w.orders-is)
+    ] in
     record {
-      searched =
-          searched_best t x c.args.nodes.now c.loop-place.orders.each c.class_order-spread.new.orders.each
-          c.class_order-spread.new.orders.each (option_copied c.loop-place.best)
-          c.loop-place.place e c.class_order-spread.result c.in-Some.node.now at c.loop-place.invariant.searched
-          (sym c.node.ensures ∙ ap option_copied c.in-Some.is)
-          (sym c.if_better.ensures.better ∙ ap is_some c.in-Some-if_better.is)
-          (inr (is_equal c.class_order-spread.result c.ne.result c.ne.ensures c.if-ne.false, refl));
-      count = ap (λ (o : ClassOrders). o.count) c.class_order-spread.ensures.orders ∙ c.loop-place.invariant.count;
-      held = c.in-Some-if_better.ensures.load;
-      knows = c.if_better.ensures.knows;
-      own = c.class_order-spread.ensures.same ∙ c.loop-place.invariant.own;
-      group = c.if_better.ensures.own;
-      least = c.leads_block.ensures.least;
+      turned =
+          turned_better t x c.args.nodes.now c.args.ranks.now c.loop-turn.orders c.class_order-spread.new.orders
+          c.if-ne.orders (option_copied c.loop-turn.best) c.best_of_class.result best c.leading-lead.result
+          c.loop-turn.turn class c.class_order-spread.result c.class_in_turn-class.ensures c.requires.sorted
+          c.requires.ranked at found c.in-Some-best_of_class.is left c.loop-turn.invariant.turned;
+      held = c.in-Some-best_of_class.ensures.load;
+      knows = c.best_of_class.ensures.knows;
+      own = c.class_order-spread.ensures.same ∙ c.loop-turn.invariant.own;
+      group = c.best_of_class.ensures.own;
     }
 
-pub loop-place-preserved : goal.loop-place-preserved
-loop-place-preserved g c =
-    let t = g.R.Rows.tables c.args.rows.now in
-    let x = c.args.task.now in
-    let d : ClassedNode = record { id = 0; class = 0 } in
-    let e : ClassedNode = get_or c.args.nodes.now c.loop-place.place d in
-    let at = at_entry t x c.loop-place.branches c.args.nodes.now c.loop-place.orders.each c.class_order-spread.new.orders.each
-    (option_copied c.loop-place.best) c.loop-place.place d c.class_order-spread.result c.requires.usable
-    c.loop-place.invariant.own c.requires.sorted c.loop-place.invariant.searched c.loop-place-test.true
-    c.class_order-spread.ensures.order (ap (λ (o : ClassOrders). o.each) c.class_order-spread.ensures.orders) in
-    record {
-      searched =
-          searched_worse t x c.args.nodes.now c.loop-place.orders.each c.class_order-spread.new.orders.each
-          (option_copied c.loop-place.best)
-          c.loop-place.place e c.class_order-spread.result c.in-Some.node.now at c.loop-place.invariant.searched
-          (sym c.node.ensures ∙ ap option_copied c.in-Some.is)
-          (sym c.if_better.ensures.better ∙ ap is_some c.in_default-if_better.is);
-      count = ap (λ (o : ClassOrders). o.count) c.class_order-spread.ensures.orders ∙ c.loop-place.invariant.count;
-      held = c.loop-place.invariant.held;
-      knows = c.if_better.ensures.knows;
-      own = c.class_order-spread.ensures.same ∙ c.loop-place.invariant.own;
-      group = c.if_better.ensures.own;
-      least = c.leads_block.ensures.least;
-    }
-
-pub bounds-most-entry : goal.bounds-most-entry
-bounds-most-entry g c =
-    place_few (g.R.Rows.tables c.args.rows.now).nodes c.args.task.now.template.spread c.args.nodes.now
-    c.loop-place.place (record { id = 0; class = 0 }) c.requires.sorted c.loop-place-test.true
-
-pub offset_bounds-most-entry : goal.offset_bounds-most-entry
-offset_bounds-most-entry g c =
-    let few =
-    place_few (g.R.Rows.tables c.args.rows.now).nodes c.args.task.now.template.spread c.args.nodes.now
-    c.loop-place.place (record { id = 0; class = 0 }) c.requires.sorted c.loop-place-test.true in
-    omega (arith, few)
-
-pub if_better-requires-clause-none : goal.if_better-requires-clause-none
-if_better-requires-clause-none g c =
-    none_here (g.R.Rows.tables c.args.rows.now) c.args.task.now.service c.args.task.now.template.spread
-    c.args.nodes.now c.branches_of-branches.result.1 c.loop-place.place (record { id = 0; class = 0 })
-    c.in-Some.node.now c.requires.usable c.requires.sorted c.branches_of-branches.ensures.most c.loop-place-test.true
-    (sym c.node.ensures ∙ ap option_copied c.in-Some.is)
+pub returns-clause-best : goal.returns-clause-best
+returns-clause-best g c =
+    turned_all (g.R.Rows.tables c.args.rows.now) c.args.task.now c.args.nodes.now c.loop-turn.orders
+    (option_copied c.loop-turn.best) c.leading-lead.result c.loop-turn.turn c.args.table.now.count c.requires.usable
+    c.requires.sorted c.requires.classes c.leading-lead.ensures (omega (arith, c.loop-turn-test.false))
+    c.loop-turn.invariant.turned
