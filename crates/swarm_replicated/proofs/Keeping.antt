@@ -1,11 +1,11 @@
 -- What is remembered of services, and changes that touch one of them.
-use Rattle.std.proofs.Common.{Bool, List, None, Option, Some, [], ap, arith, cond, eqb, false, get_or, is_some, length}
-use Rattle.std.proofs.Common.{not, refl, set, subst, suc, sym, true, zero, ℕ, ◌%◌, ◌<◌, ◌∙◌, ◌∷◌, ◌≡◌, ◌≢◌, ◌⊎◌, inl}
+use Rattle.std.proofs.Common.{Bool, List, None, Option, Some, ap, arith, cond, eqb, false, get_or, length}
+use Rattle.std.proofs.Common.{not, refl, set, subst, sym, true, ℕ, ◌%◌, ◌<◌, ◌∙◌, ◌≡◌, ◌≢◌, ◌⊎◌, inl}
 use Rattle.std.proofs.Common.{inr}
 use Rattle.std.proofs.lemmas.Bool.Decides.{nat_tests}
-use Rattle.std.proofs.lemmas.List.{get_or-set_other, get_or-set_same}
+use Rattle.std.proofs.lemmas.List.{get_or-replicate, get_or-set_other, get_or-set_same}
 use Rattle.std.specs.List.{list_all}
-use Rattle.std.specs.Prelude.{IfSome, ◌&&◌, ◌||◌}
+use Rattle.std.specs.Prelude.{IfSome, replicate, ◌&&◌, ◌||◌}
 use Rattle.role_words.proofs.Numbers.{number_equal, same_number}
 use Rattle.role_words.specs.Marks.{stands}
 use Rattle.swarm_objects.proofs.RowLemmas.{Has-from_row_at}
@@ -29,7 +29,8 @@ use Rattle.swarm_replicated.proofs.Leaving.{not-of, service-stays}
 use Rattle.swarm_replicated.proofs.Recounting.{all-spared}
 use Rattle.swarm_replicated.proofs.PlaceSteps.{is-it}
 use Rattle.swarm_replicated.specs.Inside.Touches.{is_same_standing, keeps_standing, touches_only, was_other}
-use Rattle.swarm_replicated.specs.Inside.PlaceChanges.{goes_on, is_alike, is_elsewhere, is_it, spares, was_elsewhere}
+use Rattle.swarm_replicated.specs.Inside.PlaceChanges.{goes_on, is_alike, is_elsewhere, is_it, keeps_places, spares}
+use Rattle.swarm_replicated.specs.Inside.PlaceChanges.{was_elsewhere}
 use Rattle.swarm_replicated.specs.Inside.Reach.{reach_only}
 use Rattle.swarm_replicated.specs.KnownPlaces.{AreCounted, IsCounted, IsKept, Knows, entry, of_service}
 use Rattle.swarm_replicated.specs.declared.known_places.Counted.{Counted}
@@ -135,7 +136,8 @@ kept-standing t s x e = go (stands s x) refl
 spared-other : (t : Tables) (s : Service) (o : Option ℕ) (c : Change) → touches_only t o c ≡ true → (o ≡ Some s.id → ⊥) →
     spares t s None c ≡ true
 spared-other t s o (change.PutNode n) e apart = refl
-spared-other t s o (change.PutService v) e apart = yes-no (eqb v.id s.id) (go (eqb v.id s.id) refl)
+spared-other t s o (change.PutService v) e apart =
+    or_left (not (eqb v.id s.id)) (keeps_places s v) (yes-no (eqb v.id s.id) (go (eqb v.id s.id) refl))
   where
     go : (b : Bool) → eqb v.id s.id ≡ b → b ≡ false
     go true is = absurd (apart (is-it o v.id e ∙ ap Some (same_number v.id s.id is)))
@@ -197,7 +199,7 @@ knows_same t u known services tasks knows = record {
 
 -- The slots.
 
-pub within : (service slot : ℕ) → slot ≡ service % SLOTS → slot < SLOTS
+within : (service slot : ℕ) → slot ≡ service % SLOTS → slot < SLOTS
 within service slot is = omega (arith, is)
 
 goes-on : (t : Tables) (o : Option ℕ) (cs : List Change) (slot : ℕ) (p : Option Counted) → IsUsable t →
@@ -219,30 +221,52 @@ none-touched t known r cs usable is all knows = record {
     none : (k : Counted) → None ≡ Some k.service → ⊥
     none k e = absurd cc
 
--- where one is, and its slot is filled or emptied
-pub one-touched : (t : Tables) (known : KnownPlaces) (service slot : ℕ) (cs : List Change) (p : Option Counted) → IsUsable t →
-    slot ≡ service % SLOTS → slot < SLOTS → length known.counted ≡ SLOTS →
-    list_all (touches_only t (Some service)) cs ≡ true → Knows t known →
-    IfSome p (IsKept (apply_changes t cs) slot) →
-    Knows (apply_changes t cs) (record { counted = set known.counted slot p })
-one-touched t known service slot cs p usable is within wide all knows kept = record {
-  each = λ j lt. go j lt (eqb j slot) refl;
+-- nothing is remembered
+pub none-known : (t : Tables) → Knows t (record { counted = replicate SLOTS None })
+none-known t = record {
+  each = λ slot lt. subst (λ o. IfSome o (IsKept t slot)) (sym (get_or-replicate SLOTS slot none none lt)) tt;
 }
   where
+    none : Option Counted
+    none = None
+
+-- one slot is put anew, and the others go on
+put-slot : (t : Tables) (known : KnownPlaces) (slot : ℕ) (p : Option Counted) → slot < SLOTS →
+    length known.counted ≡ SLOTS →
+    ((j : ℕ) → j < SLOTS → j ≢ slot → IfSome (get_or known.counted j None) (IsKept t j)) → IfSome p (IsKept t slot) →
+    Knows t (record { counted = set known.counted slot p })
+put-slot t known slot p within wide others kept = record { each = λ j lt. go j lt (eqb j slot) refl }
+  where
     go : (j : ℕ) → j < SLOTS → (b : Bool) → eqb j slot ≡ b →
-        IfSome (get_or (set known.counted slot p) j None) (IsKept (apply_changes t cs) j)
+        IfSome (get_or (set known.counted slot p) j None) (IsKept t j)
     go j lt true e =
         let same : slot ≡ j = grind (arith, nat_tests, e) in
-        subst (λ n. IfSome (get_or (set known.counted slot p) n None) (IsKept (apply_changes t cs) n)) same
-        (subst (λ q. IfSome q (IsKept (apply_changes t cs) slot)) (sym (get_or-set_same known.counted slot p None (omega (arith, within, wide)))) kept)
+        subst (λ n. IfSome (get_or (set known.counted slot p) n None) (IsKept t n)) same
+        (subst (λ q. IfSome q (IsKept t slot)) (sym (get_or-set_same known.counted slot p None (omega (arith, within, wide)))) kept)
     go j lt false e =
         let differ : j ≢ slot = grind (arith, nat_tests, e) in
-        subst (λ q. IfSome q (IsKept (apply_changes t cs) j)) (sym (get_or-set_other known.counted slot j p None differ))
-        (goes-on t (Some service) cs j (get_or known.counted j None) usable all (apart differ) (knows.each j lt))
-      where
-        apart : j ≢ slot → (k : Counted) → k.service % SLOTS ≡ j → Some service ≡ Some k.service → ⊥
-        apart differ k at same =
-            let one : service ≡ k.service = cc in differ (sym at ∙ ap (λ n. n % SLOTS) (sym one) ∙ sym is)
+        subst (λ q. IfSome q (IsKept t j)) (sym (get_or-set_other known.counted slot j p None differ)) (others j lt differ)
+
+-- what is so of a service is put into its slot
+pub slot-filled : (t : Tables) (known : KnownPlaces) (slot : ℕ) (k : Counted) → slot ≡ k.service % SLOTS →
+    length known.counted ≡ SLOTS → Knows t known → IsCounted t k →
+    Knows t (record { counted = set known.counted slot (Some k) })
+slot-filled t known slot k is wide knows counted =
+    put-slot t known slot (Some k) (within k.service slot is) wide (λ j lt differ. knows.each j lt)
+    (record { counted = counted; stands = sym is })
+
+-- where one service is touched, and its slot is emptied
+pub one-touched : (t : Tables) (known : KnownPlaces) (service slot : ℕ) (cs : List Change) → IsUsable t →
+    slot ≡ service % SLOTS → length known.counted ≡ SLOTS → list_all (touches_only t (Some service)) cs ≡ true →
+    Knows t known → Knows (apply_changes t cs) (record { counted = set known.counted slot None })
+one-touched t known service slot cs usable is wide all knows =
+    put-slot (apply_changes t cs) known slot None (within service slot is) wide
+    (λ j lt differ.
+    goes-on t (Some service) cs j (get_or known.counted j None) usable all (apart j differ) (knows.each j lt)) tt
+  where
+    apart : (j : ℕ) → j ≢ slot → (k : Counted) → k.service % SLOTS ≡ j → Some service ≡ Some k.service → ⊥
+    apart j differ k at same =
+        let one : service ≡ k.service = cc in differ (sym at ∙ ap (λ n. n % SLOTS) (sym one) ∙ sym is)
 
 -- What is remembered of one service.
 
@@ -316,25 +340,3 @@ other-touched t known service cs usable none all knows = record {
       counted = untouched t k (Some service) cs usable kept.counted all (apart j k at kept.stands);
       stands = kept.stands;
     }
-
--- what is made of it
-pub kept-after : (u : Tables) (slot service : ℕ) (w : Counted) (o : Option Counted) → slot ≡ service % SLOTS →
-    w.service ≡ service → IfSome o (IsCounted u) → IfSome o (λ k. k.service ≡ w.service) → IfSome o (IsKept u slot)
-kept-after u slot service w None at is counted same = tt
-kept-after u slot service w (Some k) at is counted same =
-    record { counted = counted; stands = ap (λ n. n % SLOTS) (same ∙ is) ∙ sym at }
-
--- Nothing is remembered.
-
-none-at : (all : List (Option Counted)) (slot : ℕ) → list_all (λ o. not (is_some o)) all ≡ true →
-    get_or all slot None ≡ None
-none-at [] slot e = refl
-none-at (None ∷ all) zero e = refl
-none-at (None ∷ all) (suc slot) e = none-at all slot e
-none-at (Some k ∷ all) slot e = absurd cc
-
-pub empty-knows : (t : Tables) (known : KnownPlaces) → list_all (λ o. not (is_some o)) known.counted ≡ true →
-    Knows t known
-empty-knows t known empty = record {
-  each = λ slot lt. subst (λ o. IfSome o (IsKept t slot)) (sym (none-at known.counted slot empty)) tt;
-}

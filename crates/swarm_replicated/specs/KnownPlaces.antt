@@ -6,6 +6,7 @@ use Rattle.swarm_objects.specs.World.{Tables}
 use Rattle.swarm_objects.specs.declared.services.Service.{Service}
 use Rattle.swarm_replicated.specs.declared.known_places.Counted.{Counted}
 use Rattle.swarm_replicated.specs.declared.known_places.KnownPlaces.{KnownPlaces}
+use Rattle.swarm_replicated.specs.declared.known_places.PlacesAfter.{PlacesAfter}
 use Rattle.swarm_replicated.specs.declared.known_places.TheConstants.{SLOTS}
 
 -- these numbers are held: so many, and the least from 1 on that isn't
@@ -25,6 +26,10 @@ pub record IsKept (t : Tables) (slot : ℕ) (k : Counted) : Type 0 where
 -- whatever is remembered is so
 pub record Knows (t : Tables) (known : KnownPlaces) : Type 0 where
   pub each : (slot : ℕ) → slot < SLOTS → IfSome (get_or known.counted slot None) (IsKept t slot)
+
+-- what it says of its service is so
+abbrev pub IsAfter : Tables → PlacesAfter → Type 0
+IsAfter t after = IfSome after.counted (IsCounted t)
 
 -- where it is of this service
 abbrev pub of_service : ℕ → Option Counted → Option Counted

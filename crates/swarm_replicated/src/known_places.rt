@@ -1,5 +1,5 @@
 // What is remembered of the places of some services, so that they aren't counted again for each of their tasks.
-ghost use Rattle.std.specs.Prelude.{◌%◌, ◌≡◌, IfSome, List, Some, false, is_some, length, nat_lt, not, true, ℕ};
+ghost use Rattle.std.specs.Prelude.{◌%◌, ◌≡◌, IfSome, List, Some, false, length, nat_lt, true, ℕ};
 ghost use Rattle.std.specs.List.{list_all};
 ghost use Rattle.swarm_objects.specs.ChangeLists.{apply_changes};
 ghost use Rattle.swarm_objects.specs.Loops.Replicated.{create_duty, down_duty};
@@ -7,7 +7,7 @@ ghost use Rattle.swarm_objects.specs.Rows.{Has, IsRising, first_gap, first_of, i
 ghost use Rattle.swarm_objects.specs.Tasks.Places.{held_places, is_held_place};
 ghost use Rattle.swarm_objects.specs.Usable.{IsUsable};
 ghost use Rattle.swarm_objects.specs.World.{Tables};
-ghost use Rattle.swarm_replicated.specs.KnownPlaces.{AreCounted, IsCounted, Knows, entry};
+ghost use Rattle.swarm_replicated.specs.KnownPlaces.{AreCounted, IsAfter, IsCounted, Knows, entry};
 ghost use Rattle.swarm_replicated.specs.Inside.PlaceChanges.{spares};
 ghost use Rattle.swarm_replicated.specs.Inside.Touches.{touches_only};
 
@@ -26,8 +26,8 @@ struct Counted {
     gap: u64,
 }
 
-// How many services are remembered.
-const SLOTS: usize = 8;
+// How many services are remembered: as many may be updated at once without being counted again and again.
+const SLOTS: usize = 128;
 
 // How many numbers behind the gap are asked for one by one, before passes over the service's tasks tell the next gap.
 const ASKED: u64 = 8;
@@ -37,6 +37,12 @@ const ASKED: u64 = 8;
 #[derive(Drop)]
 pub struct KnownPlaces {
     counted: [Option<Counted>; SLOTS],
+}
+
+/// What will be known of one service's places once changes are made.
+#[derive(Clone, Copy, Drop)]
+pub struct PlacesAfter {
+    counted: Option<Counted>,
 }
 
 // The service's slot.
@@ -183,6 +189,11 @@ impl Counted {
     }
 }
 
+impl PlacesAfter {
+    // Of no service.
+    const NONE: PlacesAfter = PlacesAfter { counted: None };
+}
+
 impl KnownPlaces {
     /// Nothing is remembered.
     pub fn none() -> KnownPlaces
@@ -198,13 +209,6 @@ impl KnownPlaces {
         ensures { (t : Tables) → Knows t self.new }
     {
         *self = KnownPlaces::none();
-    }
-
-    // Nothing is remembered.
-    fn is_empty(&self) -> bool
-        ensures { result ≡ list_all (λ slot. not (is_some slot)) self.now.counted }
-    {
-        self.counted.iter().all(|slot| slot.is_none())
     }
 
     // What is remembered of the service with this id.
@@ -229,7 +233,7 @@ impl KnownPlaces {
     }
 
     // Remembers what was counted of the service.
-    fn remember<R: Rows>(&mut self, rows: &R, service: &Service, counted: Counted)
+    fn remember_count<R: Rows>(&mut self, rows: &R, service: &Service, counted: Counted)
         requires knows { Knows (R.tables rows.now) self.old }
         requires row { row_at service_id service.now.id (R.tables rows.now).services ≡ Some service.now }
         requires service { counted.service ≡ service.now.id }
@@ -257,7 +261,7 @@ impl KnownPlaces {
             held: places.held,
             gap: places.gap,
         };
-        self.remember(rows, service, counted);
+        self.remember_count(rows, service, counted);
         counted
     }
 
@@ -273,48 +277,50 @@ impl KnownPlaces {
         replicas < held_bound(rows, service) && replicas < self.count(rows, service).held
     }
 
-    // Goes over the slot of the one service that these changes touch, before they are made.
-    fn go_over_slot<R: Rows>(&mut self, rows: &R, changes: &[Change], service: Id) -> KnownPlaces
+    // Forgets the one service that these changes touch, before they are made. Gives what is known of it once they are.
+    fn forget_one<R: Rows>(&mut self, rows: &R, changes: &[Change], service: Id) -> PlacesAfter
         requires usable { IsUsable (R.tables rows.now) }
         requires knows { Knows (R.tables rows.now) self.old }
         requires touched { list_all (touches_only (R.tables rows.now) (Some service)) changes.now ≡ true }
         ensures stays { Knows (R.tables rows.now) self.new }
         ensures goes_on { Knows (apply_changes (R.tables rows.now) changes.now) self.new }
-        ensures after { Knows (apply_changes (R.tables rows.now) changes.now) result }
+        ensures after { IsAfter (apply_changes (R.tables rows.now) changes.now) result }
     {
-        let mut then = KnownPlaces {
-            counted: self.counted,
-        };
         let Some(counted) = self.entry(service) else {
-            return then;
+            return PlacesAfter::NONE;
         };
-        let slot = slot_of(service);
-        then.counted[slot] = counted.after(rows, changes);
-        self.counted[slot] = None;
-        then
+        let after = PlacesAfter {
+            counted: counted.after(rows, changes),
+        };
+        self.counted[slot_of(service)] = None;
+        after
     }
 
     /// Forgets what these changes may change, before they are made. Gives what is known once they are: where they
     /// matter in one place of one service at most, and it is sure whether that is held then, it is counted in or out.
-    pub fn forget_changed<R: Rows>(&mut self, rows: &R, changes: &[Change]) -> KnownPlaces
+    pub fn forget_changed<R: Rows>(&mut self, rows: &R, changes: &[Change]) -> PlacesAfter
         requires usable { IsUsable (R.tables rows.now) }
         requires knows { Knows (R.tables rows.now) self.old }
         ensures stays { Knows (R.tables rows.now) self.new }
         ensures goes_on { Knows (apply_changes (R.tables rows.now) changes.now) self.new }
-        ensures after { Knows (apply_changes (R.tables rows.now) changes.now) result }
+        ensures after { IsAfter (apply_changes (R.tables rows.now) changes.now) result }
     {
-        if self.is_empty() {
-            return KnownPlaces::none();
-        }
         match touched_together(rows, changes) {
-            Reach::Nothing => KnownPlaces {
-                counted: self.counted,
-            },
-            Reach::One(service) => self.go_over_slot(rows, changes, service),
+            Reach::Nothing => PlacesAfter::NONE,
+            Reach::One(service) => self.forget_one(rows, changes, service),
             Reach::More => {
                 self.forget_all();
-                KnownPlaces::none()
+                PlacesAfter::NONE
             }
+        }
+    }
+
+    /// Remembers what is so by now.
+    pub fn remember(&mut self, after: PlacesAfter)
+        ensures { (t : Tables) → Knows t self.old → IsAfter t after → Knows t self.new }
+    {
+        if let Some(counted) = after.counted {
+            self.counted[slot_of(counted.service)] = Some(counted);
         }
     }
 }

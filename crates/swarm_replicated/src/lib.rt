@@ -25,7 +25,7 @@ ghost use Rattle.swarm_objects.specs.Usable.{IsUsable};
 
 pub use changing::changes;
 use known_places::{create_duty, down_duty};
-pub use known_places::{KnownPlaces, create_duty_by, down_duty_by};
+pub use known_places::{KnownPlaces, PlacesAfter, create_duty_by, down_duty_by};
 use swarm_objects::walks::{services, tasks};
 use swarm_objects::{Duty, Rows, Task};
 

@@ -6,13 +6,14 @@ ghost use Rattle.swarm_objects.specs.ChangeLists.{apply_changes};
 ghost use Rattle.swarm_objects.specs.Tasks.Places.{is_held_place};
 ghost use Rattle.swarm_objects.specs.Usable.{IsUsable};
 ghost use Rattle.swarm_replicated.specs.Inside.PlaceChanges.{fills, holds, is_alike, is_emptied, is_filled, is_kept};
-ghost use Rattle.swarm_replicated.specs.Inside.PlaceChanges.{is_named, leaves_full, may_hold, may_stay, names};
+ghost use Rattle.swarm_replicated.specs.Inside.PlaceChanges.{is_named, is_replicated, keeps_places, leaves_full};
+ghost use Rattle.swarm_replicated.specs.Inside.PlaceChanges.{may_hold, may_stay, names};
 ghost use Rattle.swarm_replicated.specs.Inside.PlaceChanges.{place_of, puts_none, spares};
 ghost use Rattle.swarm_replicated.specs.Inside.Reach.{passes, reach_only};
 
 use crate::reach::Reach;
 use role_words::place_tasks;
-use swarm_objects::{Change, Id, Rows, Service, Task};
+use swarm_objects::{Change, Id, Mode, Rows, Service, Task};
 
 /// The task stands in the service's place with its number.
 pub fn stands(service: &Service, task: &Task) -> bool
@@ -79,6 +80,23 @@ fn places_dropped<R: Rows>(rows: &R, service: &Service, id: Id) -> Reach
     }
 }
 
+fn is_replicated(mode: Mode) -> bool
+    ensures { result ≡ is_replicated mode }
+{
+    match mode {
+        Mode::Replicated(_) => true,
+        Mode::Global | Mode::Job { .. } => false,
+    }
+}
+
+// With this row as its own the service has the same places: slots, whose tasks are those of its id. How many there are
+// to be doesn't matter.
+fn keeps_places(service: &Service, put: &Service) -> bool
+    ensures { result ≡ keeps_places service.now put.now }
+{
+    is_replicated(service.spec.mode) && is_replicated(put.spec.mode)
+}
+
 // The places of the service in which the change may matter: all others are held after it as before.
 fn places_changed<R: Rows>(rows: &R, service: &Service, change: &Change) -> Reach
     ensures { passes (λ place. spares (R.tables rows.now) service.now place change.now) result ≡ true }
@@ -86,10 +104,10 @@ fn places_changed<R: Rows>(rows: &R, service: &Service, change: &Change) -> Reac
     match change {
         Change::PutNode(_) | Change::Keep(_) => Reach::Nothing,
         Change::PutService(put) => {
-            if put.id == service.id {
-                Reach::More
-            } else {
+            if put.id != service.id || keeps_places(service, put) {
                 Reach::Nothing
+            } else {
+                Reach::More
             }
         }
         Change::PutTask(task) => places_put(rows, service, task),

@@ -6,7 +6,7 @@ ghost use Rattle.swarm_world.specs.Inside.Known.{AreForeseen, ForgetsServices, K
 
 use std::alloc::Global;
 use swarm_objects::{Change, Rows};
-use swarm_replicated::KnownPlaces;
+use swarm_replicated::{KnownPlaces, PlacesAfter};
 use swarm_sched::{KnownNodes, Moved};
 use swarm_update::KnownSurvey;
 
@@ -23,7 +23,7 @@ pub struct Known {
 #[derive(Drop)]
 pub struct Foreseen {
     nodes: Moved,
-    places: KnownPlaces,
+    places: PlacesAfter,
 }
 
 impl Known {
@@ -70,7 +70,7 @@ impl Known {
         ensures { (t : Tables) → KnowsAll t self.old → AreForeseen t foreseen → KnowsAll t self.new }
     {
         self.nodes.remember(foreseen.nodes);
-        self.places = foreseen.places;
+        self.places.remember(foreseen.places);
     }
 
     /// Goes on as time goes by.

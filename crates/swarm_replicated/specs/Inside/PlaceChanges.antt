@@ -10,6 +10,8 @@ use Rattle.swarm_objects.specs.Tasks.Words.{is_live}
 use Rattle.swarm_objects.specs.World.{Tables}
 use Rattle.swarm_objects.specs.declared.rows.Change.{Change}
 use Rattle.swarm_objects.specs.declared.rows.Change.TheVariants as change
+use Rattle.swarm_objects.specs.declared.services.Mode.TheVariants as mode
+use Rattle.swarm_objects.specs.declared.services.Mode.{Mode}
 use Rattle.swarm_objects.specs.declared.services.Service.{Service}
 use Rattle.swarm_objects.specs.declared.tasks.Task.{Task}
 use Rattle.swarm_replicated.specs.declared.reach.Reach.TheVariants as reach
@@ -44,10 +46,19 @@ is_alike s x y =
 abbrev pub goes_on : Tables → Service → Task → Bool
 goes_on t s x = is_row_and task_id (is_alike s x) t.tasks x.id
 
+abbrev pub is_replicated : Mode → Bool
+is_replicated (mode.Replicated replicas) = true
+is_replicated mode.Global = false
+is_replicated (mode.Job concurrent total) = false
+
+-- with this row as its own the service has the same places: slots, whose tasks are those of its id
+abbrev pub keeps_places : Service → Service → Bool
+keeps_places s v = is_replicated s.spec.mode && is_replicated v.spec.mode
+
 -- each place of the service but this one is held after the change as before
 abbrev pub spares : Tables → Service → Option ℕ → Change → Bool
 spares t s place (change.PutNode n) = true
-spares t s place (change.PutService v) = not (v.id == s.id)
+spares t s place (change.PutService v) = not (v.id == s.id) || keeps_places s v
 spares t s place (change.PutTask x) =
     goes_on t s x || (not (is_elsewhere s place x) && not (was_elsewhere t s place x.id))
 spares t s place (change.DropTask id) = not (was_elsewhere t s place id)

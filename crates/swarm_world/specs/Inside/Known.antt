@@ -1,7 +1,7 @@
 -- What is remembered of the rows.
 use Rattle.std.specs.Prelude.{ℕ, ◌≡◌, ◌≤◌}
 use Rattle.swarm_objects.specs.World.{Tables}
-use Rattle.swarm_replicated.specs.KnownPlaces.{Knows}
+use Rattle.swarm_replicated.specs.KnownPlaces.{IsAfter, Knows}
 use Rattle.swarm_sched.specs.Inside.Known.{AreMoved}
 use Rattle.swarm_sched.specs.Inside.KnownNodes.{KnowsNodes}
 use Rattle.swarm_spans.specs.TasksCovered.{at_time}
@@ -18,7 +18,7 @@ pub record KnowsAll (t : Tables) (k : Known) : Type 0 where
 -- and whatever will be
 pub record AreForeseen (t : Tables) (f : Foreseen) : Type 0 where
   pub nodes : AreMoved t f.nodes
-  pub places : Knows t f.places
+  pub places : IsAfter t f.places
 
 -- what is remembered after it is so as time goes by
 abbrev pub PassesTime : Known → Known → Type 0
