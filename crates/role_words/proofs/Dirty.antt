@@ -2,7 +2,6 @@
 use Rattle.std.proofs.Common.{◌≡◌, ℕ, Bool, true, false, cond, List, [], ◌∷◌, refl}
 use Rattle.std.specs.List.{list_any}
 use Rattle.std.specs.Prelude.{◌||◌, filter, is_some}
-use Rattle.role_words.proofs.NoSuspects.{none_waiting}
 use Rattle.swarm_objects.proofs.Few.{few_numbers, length_no, length_yes}
 use Rattle.swarm_objects.specs.Rows.{first_of}
 
@@ -17,5 +16,3 @@ any_first p (k ∷ ks) = go (p k) (any_first p ks)
     go false e = e
 
 pub ruleset count_steps = (few_numbers, length_yes, length_no)
-
-pub ruleset waiting_steps = (any_first, none_waiting)

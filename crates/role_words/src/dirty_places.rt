@@ -61,22 +61,29 @@ fn is_to_replace<R: Rows>(
     mark_of(window, rows, service, number).is_to_replace()
 }
 
+/// A place of the service is dirty: by the window.
+pub fn has_dirty_place_in<R: Rows>(window: &mut UpdateWindow, rows: &R, service: &Service) -> bool
+    requires usable { IsUsable (R.tables rows.now) }
+    requires shows { let t = R.tables rows.now in ShowsUpdates window.old t service.now t.tasks }
+    ensures shows { let t = R.tables rows.now in ShowsUpdates window.new t service.now t.tasks }
+    ensures is { result ≡ has_dirty_place (R.tables rows.now) service.now }
+{
+    for number in place_numbers(rows, service) {
+        if is_dirty_place(window, rows, service, number) {
+            return true;
+        }
+    }
+    false
+}
+
 /// A place of the service is dirty. Where none of its tasks may make one so, the places aren't gone over.
 #[tactic(auto, using(crate::proofs::NoSuspects::none_suspect))]
 pub fn has_dirty_place<R: Rows>(rows: &R, service: &Service) -> bool
     requires { IsUsable (R.tables rows.now) }
     ensures { result ≡ has_dirty_place (R.tables rows.now) service.now }
 {
-    if !has_suspect(rows, service) {
-        return false;
-    }
-    let mut window = update_places(rows, service);
-    for number in place_numbers(rows, service) {
-        if is_dirty_place(&mut window, rows, service, number) {
-            return true;
-        }
-    }
-    false
+    has_suspect(rows, service)
+        && has_dirty_place_in(&mut update_places(rows, service), rows, service)
 }
 
 /// How many places of the service are dirty.
@@ -110,30 +117,43 @@ pub fn first_to_swap<R: Rows>(rows: &R, service: &Service) -> Option<u64>
     None
 }
 
-/// The least place of the service that is dirty, without a clean live task.
-pub fn first_to_replace<R: Rows>(rows: &R, service: &Service) -> Option<u64>
-    requires { IsUsable (R.tables rows.now) }
-    ensures { let t = R.tables rows.now in
+// The least place of the service that is dirty, without a clean live task: by the window.
+fn first_to_replace_in<R: Rows>(
+    window: &mut UpdateWindow,
+    rows: &R,
+    service: &Service,
+) -> Option<u64>
+    requires usable { IsUsable (R.tables rows.now) }
+    requires shows { let t = R.tables rows.now in ShowsUpdates window.old t service.now t.tasks }
+    ensures shows { let t = R.tables rows.now in ShowsUpdates window.new t service.now t.tasks }
+    ensures first { let t = R.tables rows.now in
         result ≡ first_of (filter (is_to_replace t service.now) (place_numbers t service.now)) }
 {
-    let mut window = update_places(rows, service);
     for number in place_numbers(rows, service) {
-        if is_to_replace(&mut window, rows, service, number) {
+        if is_to_replace(window, rows, service, number) {
             return Some(number);
         }
     }
     None
 }
 
-/// A place of the service is to be replaced. Where none of its tasks may make one dirty, the places aren't gone over.
-#[tactic(auto, using(crate::proofs::Dirty::waiting_steps))]
-pub fn has_waiting_place<R: Rows>(rows: &R, service: &Service) -> bool
+/// The least place of the service that is dirty, without a clean live task.
+pub fn first_to_replace<R: Rows>(rows: &R, service: &Service) -> Option<u64>
     requires { IsUsable (R.tables rows.now) }
     ensures { let t = R.tables rows.now in
+        result ≡ first_of (filter (is_to_replace t service.now) (place_numbers t service.now)) }
+{
+    first_to_replace_in(&mut update_places(rows, service), rows, service)
+}
+
+/// A place of the service is to be replaced.
+#[tactic(auto, using(crate::proofs::Dirty::any_first))]
+pub fn has_waiting_place<R: Rows>(window: &mut UpdateWindow, rows: &R, service: &Service) -> bool
+    requires usable { IsUsable (R.tables rows.now) }
+    requires shows { let t = R.tables rows.now in ShowsUpdates window.old t service.now t.tasks }
+    ensures shows { let t = R.tables rows.now in ShowsUpdates window.new t service.now t.tasks }
+    ensures is { let t = R.tables rows.now in
         result ≡ list_any (is_to_replace t service.now) (place_numbers t service.now) }
 {
-    if !has_suspect(rows, service) {
-        return false;
-    }
-    first_to_replace(rows, service).is_some()
+    first_to_replace_in(window, rows, service).is_some()
 }

@@ -14,13 +14,13 @@ mod window;
 mod windows;
 
 pub use dirty_places::{
-    dirty_count, first_to_replace, first_to_swap, has_dirty_place, has_waiting_place,
-    is_running_clean,
+    dirty_count, first_to_replace, first_to_swap, has_dirty_place, has_dirty_place_in,
+    has_waiting_place, is_running_clean,
 };
 pub use place_effects::{create_task, remove_place};
 pub use places::{PlaceTasks, has_live, is_held_place, newest, place_tasks, tasks_of_place};
 pub use reading::{ServiceSlots, slots_among};
-pub use runs::{has_room, is_flying, is_in_flight, is_of_version, is_watched};
+pub use runs::{has_room, is_flying, is_in_flight, is_of_version, is_starting, is_watched};
 pub use service_words::{has_open_run, is_under_way};
 pub use suspects::{has_suspect, is_suspect};
 pub use tallies::{Tally, tally_of};

@@ -9,7 +9,7 @@ ghost use Rattle.swarm_objects.specs.Usable.{IsUsable};
 ghost use Rattle.role_words.specs.UpdateMarks.{ShowsUpdates};
 
 use crate::places::tasks_of_place;
-use crate::update_window::{UpdateWindow, mark_of, update_places};
+use crate::update_window::{UpdateWindow, mark_of};
 use swarm_objects::{Place, Replaced, Rows, Service, Task, UpdateRun};
 
 /// It is a run to the service's present template.
@@ -76,14 +76,20 @@ pub fn is_in_flight<R: Rows>(
 }
 
 // How many of the replaced places are in flight.
-fn in_flight<R: Rows>(rows: &R, service: &Service, run: &UpdateRun) -> usize
-    requires { IsUsable (R.tables rows.now) }
-    ensures { result ≡ in_flight (R.tables rows.now) service.now run.now }
+fn in_flight<R: Rows>(
+    window: &mut UpdateWindow,
+    rows: &R,
+    service: &Service,
+    run: &UpdateRun,
+) -> usize
+    requires usable { IsUsable (R.tables rows.now) }
+    requires shows { let t = R.tables rows.now in ShowsUpdates window.old t service.now t.tasks }
+    ensures shows { let t = R.tables rows.now in ShowsUpdates window.new t service.now t.tasks }
+    ensures count { result ≡ in_flight (R.tables rows.now) service.now run.now }
 {
-    let mut window = update_places(rows, service);
     let mut count = 0;
     for item in run.replaced.as_slice() {
-        if is_in_flight(&mut window, rows, service, item) {
+        if is_in_flight(window, rows, service, item) {
             count += 1;
         }
     }
@@ -91,12 +97,19 @@ fn in_flight<R: Rows>(rows: &R, service: &Service, run: &UpdateRun) -> usize
 }
 
 /// The parallelism lets one more place be in flight. A parallelism of 0 is none: any number may be.
-pub fn has_room<R: Rows>(rows: &R, service: &Service, run: &UpdateRun) -> bool
-    requires { IsUsable (R.tables rows.now) }
-    ensures { result ≡ has_room (R.tables rows.now) service.now run.now }
+pub fn has_room<R: Rows>(
+    window: &mut UpdateWindow,
+    rows: &R,
+    service: &Service,
+    run: &UpdateRun,
+) -> bool
+    requires usable { IsUsable (R.tables rows.now) }
+    requires shows { let t = R.tables rows.now in ShowsUpdates window.old t service.now t.tasks }
+    ensures shows { let t = R.tables rows.now in ShowsUpdates window.new t service.now t.tasks }
+    ensures is { result ≡ has_room (R.tables rows.now) service.now run.now }
 {
     let parallelism = service.spec.update.parallelism;
-    parallelism == 0 || (in_flight(rows, service, run) as u64) < parallelism
+    parallelism == 0 || (in_flight(window, rows, service, run) as u64) < parallelism
 }
 
 /// The new task of the place was watched for the monitor time, which begins where the task was made.

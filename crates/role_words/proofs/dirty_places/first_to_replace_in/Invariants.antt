@@ -4,7 +4,7 @@ use Rattle.swarm_objects.specs.Loops.Update.{is_to_replace}
 use Rattle.swarm_objects.specs.Rows.{first_of}
 use Rattle.swarm_objects.specs.Tasks.Places.{place_numbers}
 use Rattle.role_words.specs.UpdateMarks.{ShowsUpdates}
-use Rattle.role_words.proofs.dirty_places.first_to_replace.Given as goal
+use Rattle.role_words.proofs.dirty_places.first_to_replace_in.Given as goal
 
 abbrev pub invariant-loop-number : goal.invariant-loop-number
 invariant-loop-number g l =
