@@ -1,6 +1,6 @@
 -- The task that holds an update up is among the service's own.
 use Rattle.std.proofs.Common.{Bool, List, Option, Some, [], ◌∷◌, ap, cond, false, refl, sym, true, ◌≡◌, ◌∙◌}
-use Rattle.std.specs.Prelude.{filter, find, ◌&&◌}
+use Rattle.std.specs.Prelude.{filter, find}
 use Rattle.swarm_model.specs.Settle.{is_holding}
 use Rattle.swarm_objects.specs.Tasks.Words.{is_of}
 use Rattle.swarm_objects.specs.declared.services.Service.{Service}

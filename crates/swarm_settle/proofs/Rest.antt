@@ -1,5 +1,5 @@
 -- The settle answer taken apart: what is empty in a world at rest, in a quiet one and in a settled one.
-use Rattle.std.proofs.Common.{Bool, List, None, Option, Some, [], cond, false, inl, inr, refl, true, ◌++◌, ◌∙◌, ◌∷◌, ◌≡◌}
+use Rattle.std.proofs.Common.{Bool, List, None, Option, Some, [], ap, cond, false, inl, inr, refl, sym, true, ◌++◌, ◌∙◌, ◌∷◌, ◌≡◌}
 use Rattle.std.specs.Option.{option_map}
 use Rattle.std.specs.Prelude.{find, flat_map, option_to_list}
 use Rattle.std.specs.declared.cmp.Ordering.{Ordering}
@@ -7,12 +7,13 @@ use Rattle.std.specs.Ordering.{is_lt}
 use Rattle.swarm_settle.specs.Rest.{IsAtRest, IsQuiet, IsSettled}
 use Rattle.swarm_model.proofs.Base.IsDuty.{IsDuty}
 use Rattle.swarm_model.proofs.Base.ToLists.{Has-IsDuty}
+use Rattle.swarm_model.proofs.Following.First.{first_of_named}
 use Rattle.swarm_model.proofs.SettleLaws.{nothing_first}
-use Rattle.swarm_model.specs.Settle.{Wait, executor_wait, first_wait, held_answer, held_by, idle_answer, is_holding, is_paused, paused_by, remote_wait, session_wait, start_wait, update_wait, wait_cmp, waiting_answer, waits}
+use Rattle.swarm_model.specs.Settle.{Wait, executor_wait, first_wait, held_answer, held_by, idle_answer, is_holding, is_paused, paused_by, remote_wait, session_wait, settle_answer, start_wait, update_wait, wait_cmp, waiting_answer, waits}
 use Rattle.swarm_objects.proofs.Empty.{append_empty, empty-has, flat_map_empty}
 use Rattle.swarm_objects.proofs.RowLemmas.{Has-append_cases, Has-flat_map_cases}
 use Rattle.swarm_objects.specs.Duties.{duties, first_duty}
-use Rattle.swarm_objects.specs.Kinds.{role_of, roles}
+use Rattle.swarm_objects.specs.Kinds.{duty_named, role_of, roles}
 use Rattle.swarm_objects.specs.Rows.{Has, first_of, least_by, on_row}
 use Rattle.swarm_objects.specs.Services.Runs.{has_open_run}
 use Rattle.swarm_objects.specs.World.{World}
@@ -45,6 +46,15 @@ has-role role.Agents = inr (inr (inr (inr (inr (inr (inr (inr (inr (inr (inl ref
 pub no-duty : (w : World) → IsAtRest w → (d : Duty) → ¬ (IsDuty w d)
 no-duty w e d is =
     empty-has (duties (role_of d) w) d (nothing_first w roles (role_of d) e (has-role (role_of d))) (Has-IsDuty w d is)
+
+-- nor does its settle test name one
+pub names-none : (w : World) → IsAtRest w → duty_named (settle_answer w) ≡ None
+names-none w e = go (duty_named (settle_answer w)) refl
+  where
+    go : (o : Option Duty) → duty_named (settle_answer w) ≡ o → o ≡ None
+    go None is = refl
+    go (Some d) is =
+        sym (first_of_named w d is) ∙ ap first_of (nothing_first w roles (role_of d) e (has-role (role_of d)))
 
 -- The answer.
 

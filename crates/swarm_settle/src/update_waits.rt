@@ -1,5 +1,5 @@
 // What updates under way wait for: places in flight, and the watching of new tasks.
-ghost use Rattle.std.specs.Prelude.{◌≡◌, ◌&&◌, ◌+◌, flat_map, true};
+ghost use Rattle.std.specs.Prelude.{◌≡◌, ◌&&◌, ◌+◌, ◌++◌, false, flat_map, true};
 ghost use Rattle.std.specs.Ordering.{nat_cmp};
 ghost use Rattle.swarm_model.specs.Settle.{
   has_waiting_place,
@@ -14,6 +14,7 @@ ghost use Rattle.swarm_model.specs.Settle.{
 };
 ghost use Rattle.swarm_objects.specs.Bounds.{is_near_run, is_near_service, is_near_task};
 ghost use Rattle.swarm_objects.specs.Rows.{keep_least, least_by};
+ghost use Rattle.swarm_objects.specs.Tasks.Places.{has_dirty_place};
 ghost use Rattle.swarm_objects.specs.Services.Runs.{is_flying};
 ghost use Rattle.swarm_objects.specs.Tasks.Words.{is_running};
 ghost use Rattle.swarm_objects.specs.Usable.{IsUsable};
@@ -22,8 +23,8 @@ ghost use Rattle.swarm_settle.specs.Flights.{item_times, task_times};
 
 use crate::wait::{Wait, wait_till};
 use role_words::{
-    UpdateWindow, has_dirty_place, has_room, has_waiting_place, is_flying, is_in_flight,
-    is_under_way, is_watched, tasks_of_place, update_places,
+    UpdateWindow, has_dirty_place_in, has_room, has_suspect, has_waiting_place, is_flying,
+    is_in_flight, is_under_way, is_watched, tasks_of_place, update_places,
 };
 use swarm_objects::walks::services;
 use swarm_objects::{Cause, Ms, Replaced, Rows, Service, Task, UpdateRun};
@@ -104,21 +105,27 @@ fn flying_time<R: Rows>(
 }
 
 // The same of all places that the run replaced.
-fn flight_time<R: Rows>(rows: &R, service: &Service, run: &UpdateRun) -> Option<Ms>
+fn flight_time<R: Rows>(
+    window: &mut UpdateWindow,
+    rows: &R,
+    service: &Service,
+    run: &UpdateRun,
+) -> Option<Ms>
     requires usable { IsUsable (R.tables rows.now) }
     requires service { is_near_service service.now ≡ true }
+    requires shows { let t = R.tables rows.now in ShowsUpdates window.old t service.now t.tasks }
     ensures { result ≡ least_time (flight_times (R.tables rows.now) service.now run.now) }
 {
-    let mut window = update_places(rows, service);
     let mut least = None;
     for item in run.replaced.as_slice() {
-        least = flying_time(&mut window, rows, service, item, least);
+        least = flying_time(window, rows, service, item, least);
     }
     least
 }
 
 // A place that is to be replaced is held back by parallelism.
 fn flight_wait<R: Rows>(
+    window: &mut UpdateWindow,
     rows: &R,
     best: Option<Wait>,
     service: &Service,
@@ -126,13 +133,14 @@ fn flight_wait<R: Rows>(
 ) -> Option<Wait>
     requires usable { IsUsable (R.tables rows.now) }
     requires service { is_near_service service.now ≡ true }
+    requires shows { let t = R.tables rows.now in ShowsUpdates window.old t service.now t.tasks }
     requires waits { has_waiting_place (R.tables rows.now) service.now ≡ true }
     ensures { result ≡ least_by wait_cmp best (flight_wait (R.tables rows.now) service.now run.now) }
 {
-    if has_room(rows, service, run) {
+    if has_room(window, rows, service, run) {
         return best;
     }
-    let time = flight_time(rows, service, run);
+    let time = flight_time(window, rows, service, run);
     wait_till(best, Cause::Update, service.id, time)
 }
 
@@ -160,20 +168,41 @@ fn watch_wait<R: Rows>(
     service: &Service,
     run: &UpdateRun,
 ) -> Option<Wait>
-    requires usable { IsUsable (R.tables rows.now) }
     requires service { is_near_service service.now ≡ true }
     requires run { is_near_run run.now ≡ true }
+    requires clean { has_dirty_place (R.tables rows.now) service.now ≡ false }
     ensures { result ≡ least_by wait_cmp best (watch_wait (R.tables rows.now) service.now run.now) }
 {
-    if has_dirty_place(rows, service) {
-        return best;
-    }
     let time = watch_time(rows, service, run);
     wait_till(best, Cause::Update, service.id, time)
 }
 
-// A place that is to be replaced is dirty, so that new tasks aren't watched where there is one.
+// Where places may be dirty: one window shows all that is asked of them. A place that is to be replaced is dirty, so
+// that new tasks aren't watched where there is one.
 #[tactic(auto, using(crate::proofs::Waiting::waiting_is_dirty))]
+fn places_wait<R: Rows>(
+    rows: &R,
+    best: Option<Wait>,
+    service: &Service,
+    run: &UpdateRun,
+) -> Option<Wait>
+    requires usable { IsUsable (R.tables rows.now) }
+    requires service { is_near_service service.now ≡ true }
+    requires run { is_near_run run.now ≡ true }
+    ensures { let t = R.tables rows.now in
+        result ≡ least_by wait_cmp best (flight_wait t service.now run.now ++ watch_wait t service.now run.now) }
+{
+    let mut window = update_places(rows, service);
+    if has_waiting_place(&mut window, rows, service) {
+        return flight_wait(&mut window, rows, best, service, run);
+    }
+    if has_dirty_place_in(&mut window, rows, service) {
+        return best;
+    }
+    watch_wait(rows, best, service, run)
+}
+
+// The places aren't gone over where no task may make one dirty.
 fn run_wait<R: Rows>(
     rows: &R,
     best: Option<Wait>,
@@ -188,10 +217,11 @@ fn run_wait<R: Rows>(
     if !is_under_way(run) {
         return best;
     }
-    if has_waiting_place(rows, service) {
-        return flight_wait(rows, best, service, run);
+    if has_suspect(rows, service) {
+        places_wait(rows, best, service, run)
+    } else {
+        watch_wait(rows, best, service, run)
     }
-    watch_wait(rows, best, service, run)
 }
 
 fn update_wait<R: Rows>(rows: &R, best: Option<Wait>, service: &Service) -> Option<Wait>

@@ -106,8 +106,8 @@ fn ends_before(best: &Option<Wait>, time: Ms) -> bool
     }
 }
 
-// The least of the best wait so far and those for the phases of the agent's executors, which aren't gone over where none
-// is to come or none ends as soon.
+// The least of the best wait so far and those for the phases of the agent's executors, which aren't gone over where
+// none is to come or none ends as soon.
 fn agent_wait(best: Option<Wait>, agent: &Agent) -> Option<Wait>
     ensures { (node : ℕ) → result ≡ least_by wait_cmp best (executor_wait (seen_agent (at_node node agent.now))) }
 {
