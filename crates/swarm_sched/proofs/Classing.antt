@@ -237,7 +237,7 @@ map-last f [] y zs = refl
 map-last f (x ∷ xs) y zs = ap (λ l. f x ∷ l) (map-last f xs y zs)
 
 -- nodes with one id are the same
-one-node : (nodes : List Node) (n m : Node) → RisesFrom node_id 0 nodes → Has nodes n → Has nodes m → n.id ≡ m.id →
+pub one-node : (nodes : List Node) (n m : Node) → RisesFrom node_id 0 nodes → Has nodes n → Has nodes m → n.id ≡ m.id →
     n ≡ m
 one-node nodes n m rising one other same =
     let first : row_at node_id n.id nodes ≡ Some n = row_at-Some node_id 0 nodes n rising one in

@@ -4,18 +4,18 @@ use Rattle.std.proofs.Common.{inr, length, not, refl, subst, sym, true}
 use Rattle.std.proofs.lemmas.Bool.Decides.{nat_tests}
 use Rattle.std.specs.List.{list_any}
 use Rattle.std.specs.Option.{option_eq}
-use Rattle.std.specs.Prelude.{IfSome, is_none, is_some, ◌&&◌, ◌+◌, ◌==◌, ◌||◌, nat_le, nat_lt, slice_index_or, sum_by}
+use Rattle.std.specs.Prelude.{IfSome, find, is_none, is_some, ◌&&◌, ◌+◌, ◌==◌, ◌||◌, nat_le, nat_lt, slice_index_or, sum_by}
 use Rattle.swarm_filters.specs.Tested.{is_open}
 use Rattle.swarm_objects.proofs.Placing.{here_is}
-use Rattle.swarm_objects.proofs.RowLemmas.{Has-from_row_at, row_at-Some}
+use Rattle.swarm_objects.proofs.RowLemmas.{row_at-Some}
 use Rattle.swarm_objects.proofs.Tests.{any_filter, any_same}
 use Rattle.swarm_objects.specs.ChangeLists.{apply_changes}
-use Rattle.swarm_objects.specs.Nodes.Filters.{has_free_host_ports, here, is_supported, is_tested_on, refused_by}
-use Rattle.swarm_objects.specs.Nodes.Filters.{takes_tasks}
+use Rattle.swarm_objects.specs.Nodes.Filters.{has_free_host_ports, has_resources, here, is_supported, is_tested_on}
+use Rattle.swarm_objects.specs.Nodes.Filters.{passes, refused_by, takes_tasks}
 use Rattle.swarm_objects.specs.Nodes.Holdings.{is_host_port_used, is_placed_on, reserved_cpu, reserved_mem}
 use Rattle.swarm_objects.specs.Nodes.Holdings.{task_cpu, task_mem, tasks_placed_on}
 use Rattle.swarm_objects.specs.Nodes.Words.{meets_all}
-use Rattle.swarm_objects.specs.Rows.{Has, node_id, put_row, row_at, task_id}
+use Rattle.swarm_objects.specs.Rows.{Has, put_row, row_at, task_id}
 use Rattle.swarm_objects.specs.Rules.Services.{is_host_clash}
 use Rattle.swarm_objects.specs.Same.{same_number}
 use Rattle.swarm_objects.specs.Tasks.New.{with_task}
@@ -28,7 +28,7 @@ use Rattle.swarm_objects.specs.declared.rows.Change.{Change}
 use Rattle.swarm_objects.specs.declared.tasks.Task.{Task}
 use Rattle.swarm_objects.specs.declared.templates.Port.{Port}
 use Rattle.swarm_sched.proofs.Knowing.{adds-alike, sum-put}
-use Rattle.swarm_sched.proofs.Remembering.{first_refusal, length-each, not_taking, recalled_first}
+use Rattle.swarm_sched.proofs.Remembering.{first_refusal, later_refusal, length-each, not_taking, recalled_first}
 use Rattle.swarm_sched.specs.Inside.Known.{AreSpared, CountsAlike, adds, one_if}
 use Rattle.swarm_sched.specs.Inside.KnownRefusals.{IsIn, IsRefusal, IsRefused, KnowsGroup, KnowsOwn, KnowsRefusals}
 use Rattle.swarm_sched.specs.Inside.KnownRefusals.{Refusals, forget_each, recalled, refused_later}
@@ -218,13 +218,6 @@ refused_shut t x n (Some g) has own is =
     some-refused true takes = recalled-some (recalled g n.id) is refl takes
     some-refused false takes = sym (ap is_some (not_taking t x n takes))
 
--- the same of the row with the id
-pub row_shut : (t : Tables) (x : Task) (id : ℕ) (n : Node) (o : Option Refusals) → row_at node_id id t.nodes ≡ Some n →
-    KnowsOwn t x o → IsRefused o id → is_open t x n ≡ false
-row_shut t x id n o row own is =
-    let from = Has-from_row_at node_id id t.nodes n row in
-    refused_shut t x n o from.0 own (subst (IsRefused o) (sym from.1) is)
-
 -- what refuses it is remembered
 pub refusal_found : (t : Tables) (x : Task) (n : Node) (o : Option Refusals) (k : ℕ) → IsUsable t →
     IfSome o (λ g. Has t.nodes n) → KnowsOwn t x o → Some k ≡ refused_by t x n → (k ≡ 0 → ⊥) →
@@ -238,6 +231,15 @@ refusal_found t x n (Some g) k usable has own is later =
     taking false takes = let both : Some 0 ≡ Some k = not_taking t x n takes ∙ sym is in
         let same : 0 ≡ k = cc in
         absurd (later (sym same))
+
+-- that it has no room is remembered: of the later filters that is the first
+pub full_found : (t : Tables) (x : Task) (n : Node) (o : Option Refusals) → IsUsable t →
+    IfSome o (λ g. Has t.nodes n) → KnowsOwn t x o → has_resources t x n ≡ false →
+    IfSome o (λ g. IsRefusal t g n.id 1)
+full_found t x n None usable has own full = tt
+full_found t x n (Some g) usable has own full =
+    later_refusal t x n g 1 usable has own.0
+    (ap (λ b. cond (not b) (Some 1) (find (λ k. not (passes t x n k)) (2 ∷ 3 ∷ 4 ∷ 5 ∷ []))) full)
 
 pub refusal_noted : (t : Tables) (x : Task) (o : Option Refusals) (g h : Refusals) (node filter : ℕ) → o ≡ Some g →
     KnowsOwn t x o → ((filter ≡ 0 → ⊥) → IfSome o (λ p. IsRefusal t p node filter)) → (filter ≡ 0 → ⊥) →

@@ -9,16 +9,17 @@ use Rattle.std.specs.declared.cmp.Ordering.TheVariants.{Equal, Greater, Less}
 use Rattle.std.specs.declared.cmp.Ordering.{Ordering}
 use Rattle.swarm_filters.proofs.Filtering
 use Rattle.swarm_filters.specs.Tested.{is_open}
-use Rattle.swarm_objects.proofs.RowLemmas.{Has-filter, Has-filter_cases, row_at-Some}
+use Rattle.swarm_objects.proofs.RowLemmas.{Has-filter, Has-filter_cases}
 use Rattle.swarm_objects.proofs.Tests.{never-both}
 use Rattle.swarm_objects.specs.Nodes.BestNode.{best_node, branch_load, load, node_cmp, spread_cmp}
 use Rattle.swarm_objects.specs.Nodes.Constraints.{key_value}
 use Rattle.swarm_objects.specs.Nodes.Filters.{here}
-use Rattle.swarm_objects.specs.Rows.{Has, RisesFrom, has_row, least_by, node_id, row_at}
+use Rattle.swarm_objects.specs.Rows.{Has, RisesFrom, has_row, least_by, node_id}
 use Rattle.swarm_objects.specs.World.{Tables}
 use Rattle.swarm_objects.specs.declared.nodes.Node.{Node}
 use Rattle.swarm_objects.specs.declared.tasks.Task.{Task}
 use Rattle.swarm_objects.specs.declared.templates.Key.{Key}
+use Rattle.swarm_sched.proofs.Classing.{one-node}
 use Rattle.swarm_sched.specs.Inside.Branches.{preferences}
 use Rattle.swarm_sched.specs.Inside.Classes.{IsOrder}
 use Rattle.swarm_sched.specs.Inside.Placing.{comes_first}
@@ -143,14 +144,6 @@ same-id t x n m e =
     (last-equal (spread_cmp t x.service [] x.template.spread n m) tasks e)) in
     ranked n.id m.id Equal (sym ids)
 
-same-node : (nodes : List Node) (n m : Node) → RisesFrom node_id 0 nodes → Has nodes n → Has nodes m → n.id ≡ m.id →
-    n ≡ m
-same-node nodes n m rising one other same =
-    let first : row_at node_id n.id nodes ≡ Some n = row_at-Some node_id 0 nodes n rising one in
-    let second : row_at node_id m.id nodes ≡ Some m = row_at-Some node_id 0 nodes m rising other in
-    let both : Some n ≡ Some m = sym first ∙ ap (λ id. row_at node_id id nodes) same ∙ second in
-    cc
-
 -- an open node is the best where no open one is before it, and none is where none is open
 pub best_is : (t : Tables) (x : Task) (best : Option Node) → RisesFrom node_id 0 t.nodes →
     IfSome best (λ b. Has t.nodes b × (is_open t x b ≡ true)) →
@@ -169,7 +162,7 @@ best_is t x (Some b) rising own trail =
     each n h =
         let r = Has-filter_cases (is_open t x) t.nodes n h in
         behind (node_cmp t x) b n (node_total t x) (trail n r.0 r.1)
-        (λ e. same-node t.nodes n b rising r.0 own.0 (same-id t x n b e))
+        (λ e. one-node t.nodes n b rising r.0 own.0 (same-id t x n b e))
 
 -- a node comes first as the preferences, its tasks and its id say
 pub comes_is : (t : Tables) (x : Task) (n b : Node) (o : Ordering) →

@@ -14,7 +14,7 @@ use Rattle.swarm_objects.specs.ChangeLists.{apply_change, apply_changes}
 use Rattle.swarm_objects.specs.Nodes.Filters.{here, is_supported, refused_by, takes_tasks}
 use Rattle.swarm_objects.specs.Nodes.Holdings.{is_host_port_used, is_placed_on, task_cpu, task_mem, tasks_placed_on}
 use Rattle.swarm_objects.specs.Nodes.Words.{meets_all}
-use Rattle.swarm_objects.specs.Rows.{Has, node_id, on_row, row_at, task_id}
+use Rattle.swarm_objects.specs.Rows.{Has, on_row, row_at, task_id}
 use Rattle.swarm_objects.specs.Tasks.Words.{is_live, is_of, is_on, is_placed}
 use Rattle.swarm_objects.specs.Usable.{IsUsable}
 use Rattle.swarm_objects.specs.World.{Tables}
@@ -23,7 +23,7 @@ use Rattle.swarm_objects.specs.declared.rows.Change.TheVariants as change
 use Rattle.swarm_objects.specs.declared.rows.Change.{Change}
 use Rattle.swarm_objects.specs.declared.tasks.Task.{Task}
 use Rattle.swarm_objects.specs.declared.templates.Template.{Template}
-use Rattle.swarm_sched.proofs.Classing.{change-left}
+use Rattle.swarm_sched.proofs.Classing.{change-left, one-node}
 use Rattle.swarm_sched.proofs.Knowing.{Misses, changes-leave, decide, on-is}
 use Rattle.swarm_sched.specs.Inside.KnownRefusals.{AreSoFar, IsIn, IsRefusal, KnowsGroup, KnowsRefusals, Refusals}
 use Rattle.swarm_sched.specs.Inside.KnownRefusals.{filter_of, forget, forget_each, of_round, put, recalled, refused_later}
@@ -546,15 +546,16 @@ recalled_first t x n g k has takes own is =
     sym (later-decides t x n takes ∙ so n x has refl own.0)
 
 -- all nodes with the id are this one, and all tasks of the group are refused it alike
+pub later_refusal : (t : Tables) (x : Task) (n : Node) (g : Refusals) (k : ℕ) → IsUsable t → Has t.nodes n →
+    IsIn g x → refused_later t x n ≡ Some k → IsRefusal t g n.id k
+later_refusal t x n g k usable has own is p y there at of =
+    let one : p ≡ n = one-node t.nodes p n usable.sound.ordered.nodes there has at in
+    later-of t y x p (of.0 ∙ sym own.0) (of.1 ∙ sym own.1) ∙ ap (λ (q : Node). refused_later t x q) one ∙ is
+
 pub first_refusal : (t : Tables) (x : Task) (n : Node) (g : Refusals) (k : ℕ) → IsUsable t → Has t.nodes n →
     takes_tasks t n ≡ true → IsIn g x → Some k ≡ refused_by t x n → IsRefusal t g n.id k
-first_refusal t x n g k usable has takes own is p y there at of =
-    let found : row_at node_id p.id t.nodes ≡ Some p =
-    row_at-Some node_id 0 t.nodes p usable.sound.ordered.nodes there in
-    let mine : row_at node_id n.id t.nodes ≡ Some n = row_at-Some node_id 0 t.nodes n usable.sound.ordered.nodes has in
-    let one : p ≡ n = some-is p n (sym found ∙ ap (λ j. row_at node_id j t.nodes) at ∙ mine) in
-    later-of t y x p (of.0 ∙ sym own.0) (of.1 ∙ sym own.1) ∙ ap (λ (q : Node). refused_later t x q) one
-    ∙ sym (later-decides t x n takes) ∙ sym is
+first_refusal t x n g k usable has takes own is =
+    later_refusal t x n g k usable has own (sym (later-decides t x n takes) ∙ sym is)
 
 pub ruleset refusal_steps = (not_taking, recalled_first, first_refusal)
 

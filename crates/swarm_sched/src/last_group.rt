@@ -2,6 +2,7 @@
 ghost use Rattle.std.specs.Prelude.{◌≡◌, IfSome, IsTrue};
 ghost use Rattle.swarm_filters.specs.Tested.{is_open};
 ghost use Rattle.swarm_objects.specs.ChangeLists.{apply_changes};
+ghost use Rattle.swarm_objects.specs.Nodes.Filters.{has_resources};
 ghost use Rattle.swarm_objects.specs.Rows.{Has};
 ghost use Rattle.swarm_objects.specs.Usable.{IsUsable};
 ghost use Rattle.swarm_objects.specs.World.{Tables};
@@ -14,8 +15,11 @@ use crate::totals::{OneNode, Totals};
 use std::alloc::Global;
 use std::marker::Model;
 use std::{mem, slice};
-use swarm_filters::{first_refusal_by, is_tested_on};
+use swarm_filters::{first_refusal_by, fits, is_tested_on};
 use swarm_objects::{Change, Id, Node, Rows, Task};
+
+// The number of the filter that asks for room.
+const RESOURCES: u32 = 1;
 
 /// The group of the tasks that were placed last. A task of another one begins its own in its place. That takes a few
 /// steps, since the slots are used again as they are. Contracts see it as the only one of a list.
@@ -139,8 +143,16 @@ fn note_refusal(group: &mut Option<Group>, node: Id, filter: u32)
     }
 }
 
-/// The node admits the task, where it is tested. What its tasks come to is known. That a filter refuses it is
-/// remembered for the task's group.
+// The node has room for the task beside what its tasks come to.
+fn has_room(totals: Totals, task: &Task, node: &Node) -> bool
+    ensures { (t : Tables) → AreTotals t node.now.id totals → result ≡ has_resources t task.now node.now }
+{
+    fits(totals.cpu, task.template.cpu, node.cpu) && fits(totals.mem, task.template.mem, node.mem)
+}
+
+/// The node admits the task, where it is tested. What its tasks come to is known, so it is asked first whether it has
+/// room: the filters would look for its session before that. That a filter refuses it is remembered for the task's
+/// group.
 #[tactic(auto, unfolding(swarm_filters::specs::Tested::is_open))]
 pub fn is_open_in<R: Rows>(
     rows: &R,
@@ -157,6 +169,10 @@ pub fn is_open_in<R: Rows>(
     ensures own { KnowsOwn (R.tables rows.now) task.now group.new }
 {
     if !is_tested_on(task.place, node.id) {
+        return false;
+    }
+    if !has_room(totals, task, node) {
+        note_refusal(group, node.id, RESOURCES);
         return false;
     }
     let loads = OneNode::new(rows, node.id, totals);
