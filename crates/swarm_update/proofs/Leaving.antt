@@ -26,7 +26,7 @@ use Rattle.swarm_objects.specs.declared.services.ServiceSpec.{ServiceSpec}
 use Rattle.swarm_objects.specs.declared.services.UpdateRun.{UpdateRun}
 use Rattle.swarm_objects.specs.declared.tasks.Task.{Task}
 use Rattle.swarm_update.proofs.Marking.{number_is, true_false}
-use Rattle.swarm_update.specs.KnownSurvey.{AreClean, HasAlike, HasNoSuspect, IsLess, IsOf, IsSo, Knows, KnowsKept, LeaveAll, Leaves, leaves_out, may_fail, touches}
+use Rattle.swarm_update.specs.KnownSurvey.{AreClean, HasAlike, HasNoSuspect, IsLess, IsOf, IsSo, Knows, KnowsKept, Leaves, leaves_out, may_fail, touches}
 use Rattle.swarm_update.specs.Marks.{mark_of}
 use Rattle.swarm_update.specs.declared.clean.CleanServices.{CleanServices}
 use Rattle.swarm_update.specs.declared.known_survey.Kept.{Kept}
@@ -38,23 +38,6 @@ use Rattle.swarm_update.specs.declared.stale_places.StalePlaces.{StalePlaces}
 use Rattle.swarm_update.specs.declared.survey.Survey.{Survey}
 use Rattle.swarm_update.specs.Surveys.{Tells}
 use Rattle.swarm_update.proofs.Renoting.{shows_others}
-
--- A loop over changes: where those that are left leave it, all do.
-pub record AreLeft (t : Tables) (k : Subject) (far : Bool) (left all : List Change) : Type 0 where
-  pub goes_on : LeaveAll t k far left → LeaveAll t k far all
-
-pub left_first : (t : Tables) (k : Subject) (far : Bool) (all : List Change) → AreLeft t k far all all
-left_first t k far all = record { goes_on = λ h. h }
-
-pub left_next : (t : Tables) (k : Subject) (far : Bool) (left rest all : List Change) (c : Change) → left ≡ c ∷ rest
-    → Leaves t k far c → AreLeft t k far left all → AreLeft t k far rest all
-left_next t k far left rest all c is leaves h = record {
-  goes_on = λ r. h.goes_on (subst (LeaveAll t k far) (sym is) (leaves, r));
-}
-
-pub left_none : (t : Tables) (k : Subject) (far : Bool) (left all : List Change) → left ≡ []
-    → AreLeft t k far left all → LeaveAll t k far all
-left_none t k far left all is h = h.goes_on (subst (LeaveAll t k far) (sym is) tt)
 
 -- What changes leave of the tasks that pass a test.
 
@@ -245,17 +228,11 @@ misses p t k far (change.DropTask i) usable less e = record {
 }
 misses p t k far (change.Keep a) usable less e = record { put = λ x f. absurd cc; drop = λ j f. absurd cc }
 
-of_leave_all : (t : Tables) (k : Subject) (far : Bool) (cs : List Change) (c : Change) → LeaveAll t k far cs → Has cs c
-    → Leaves t k far c
-of_leave_all t k far [] c all h = absurd h
-of_leave_all t k far (d ∷ cs) c all (inl same) = subst (Leaves t k far) same all.0
-of_leave_all t k far (d ∷ cs) c all (inr h) = of_leave_all t k far cs c all.1 h
-
 left_same : (p : Task → Bool) (t : Tables) (k : Subject) (far : Bool) (cs : List Change) → IsUsable t
-    → LeaveAll t k far cs → ((x : Task) → touches k far x ≡ false → p x ≡ false)
+    → ((c : Change) → Has cs c → Leaves t k far c) → ((x : Task) → touches k far x ≡ false → p x ≡ false)
     → filter p (apply_changes t cs).tasks ≡ filter p t.tasks
 left_same p t k far cs usable all less =
-    changes-leave p cs t (λ c h. misses p t k far c usable less (of_leave_all t k far cs c all h))
+    changes-leave p cs t (λ c h. misses p t k far c usable less (all c h))
 
 -- The service.
 
@@ -488,13 +465,13 @@ stays_so v k t u s id clock stay h = record {
 
 -- what is remembered goes on being so
 pub goes_on : (t : Tables) (v : Survey) (k : Subject) (cs : List Change) → IsUsable t → IsOf t v k
-    → LeaveAll t k v.places.has_far cs → IsOf (apply_changes t cs) v k
+    → ((c : Change) → Has cs c → Leaves t k v.places.has_far c) → IsOf (apply_changes t cs) v k
 goes_on t v k cs usable known all = record { each = λ z at. one z at (from z at) }
   where
     from : (z : Service) → row_at service_id k.service (apply_changes t cs).services ≡ Some z
         → CameFrom t k.service z
     from = row_came t k.service cs
-        (λ c h. leaves_alike t k v.places.has_far c (of_leave_all t k v.places.has_far cs c all h))
+        (λ c h. leaves_alike t k v.places.has_far c (all c h))
 
     one : (z : Service) → row_at service_id k.service (apply_changes t cs).services ≡ Some z → CameFrom t k.service z
         → IsSo v k (apply_changes t cs) z
@@ -564,22 +541,6 @@ pub if_some_then : {X : Type 0} {P Q : X → Type 0} (o : Option X) → IfSome o
 if_some_then None h then_so = tt
 if_some_then (Some x) h then_so = then_so x h
 
-pub left_known : (t : Tables) (v : Survey) (o : Option Subject) (k : Subject) (cs : List Change) → IsUsable t
-    → o ≡ Some k → IfSome o (IsOf t v) → LeaveAll t k v.places.has_far cs → IfSome o (IsOf (apply_changes t cs) v)
-left_known t v o k cs usable is known all =
-    subst (λ p. IfSome p (IsOf (apply_changes t cs) v)) (sym is)
-    (goes_on t v k cs usable (subst (λ p. IfSome p (IsOf t v)) is known) all)
-
-pub less_known : (t : Tables) (v : Survey) (o : Option Subject) (k : Subject) (p : Option Subject) → o ≡ Some k
-    → IfSome o (IsOf t v) → IfSome p (IsLess k) → IfSome p (IsOf t v)
-less_known t v o k None is known less = tt
-less_known t v o k (Some b) is known less = less_so t v k b less (subst (λ q. IfSome q (IsOf t v)) is known)
-
-pub less_left : (t : Tables) (v : Survey) (p : Option Subject) (cs : List Change) → IsUsable t
-    → IfSome p (IsOf t v) → IfSome p (λ b. LeaveAll t b v.places.has_far cs) → IfSome p (IsOf (apply_changes t cs) v)
-less_left t v None cs usable known all = tt
-less_left t v (Some b) cs usable known all = goes_on t v b cs usable known all
-
 -- a new survey of the service's row
 pub told_known : (t : Tables) (v : Survey) (k : Subject) (s : Service) (run : UpdateRun) → Tells v t s run
     → k.service ≡ s.id → k.version ≡ run.version → row_at service_id s.id t.services ≡ Some s → IsOf t v k
@@ -631,7 +592,11 @@ slots_same t u clean goes h = record {
 pub knows_same : (t u : Tables) (known : KnownSurvey) → u.services ≡ t.services → u.tasks ≡ t.tasks
     → u.clock ≡ t.clock → Knows t known → Knows u known
 knows_same t u known services tasks clock knows = record {
-  survey = if_some_then known.kept knows.survey (λ b h. kept_same t u b.value services tasks clock h);
+  survey = if_some_then known.kept knows.survey (λ kept are. record {
+    each = λ slot lt.
+        if_some_then (get_or kept.value.slots slot None) (are.each slot lt)
+        (λ b h. record { knows = kept_same t u b.value services tasks clock h.knows; stands = h.stands });
+  });
   clean = slots_same t u known.clean (λ id h. clean_same t u id services tasks h) knows.clean;
 }
 

@@ -3,6 +3,7 @@ mod CleanSlots
 mod Clearing
 mod Ending
 mod Failures
+mod Forgetting
 pub mod Leaving
 mod Marking
 mod Passing

@@ -1,6 +1,7 @@
 -- What time that passes leaves of a survey: only whether a task is in flight hangs on it.
-use Rattle.std.proofs.Common.{◌≡◌, ◌∙◌, ◌∷◌, ◌+◌, ◌<◌, ◌≤◌, ℕ, Bool, List, None, Option, Some, [], ap, arith, eqb, false, min, refl, subst, sym, true}
+use Rattle.std.proofs.Common.{◌%◌, ◌≡◌, ◌∙◌, ◌∷◌, ◌+◌, ◌<◌, ◌≤◌, ℕ, Bool, List, None, Option, Some, [], ap, arith, eqb, false, get_or, min, refl, subst, sym, true}
 use Rattle.std.proofs.lemmas.Bool.Decides.{nat_tests}
+use Rattle.std.specs.Global.{Box}
 use Rattle.std.specs.List.{list_any}
 use Rattle.std.specs.Prelude.{IfSome, nat_lt, ◌&&◌, ◌||◌}
 use Rattle.role_words.specs.Marks.{has_number, tasks_at}
@@ -13,9 +14,12 @@ use Rattle.swarm_objects.specs.declared.services.Service.{Service}
 use Rattle.swarm_objects.specs.declared.tasks.Task.{Task}
 use Rattle.swarm_update.proofs.Leaving.{clean_same, less_same, less_so, slots_same}
 use Rattle.swarm_update.proofs.Marking.{are_numbered, true_false}
-use Rattle.swarm_update.specs.KnownSurvey.{AreClean, AreStale, IsLess, IsOf, IsSo, Knows}
+use Rattle.swarm_update.specs.KnownSurvey.{AreClean, AreKept, AreStale, IsKept, IsLess, IsOf, IsSo, Knows}
 use Rattle.swarm_update.specs.Marks.{mark_at, mark_of}
 use Rattle.swarm_update.specs.StalePlaces.{is_stale}
+use Rattle.swarm_update.specs.declared.kept_surveys.KeptSurveys.{KeptSurveys}
+use Rattle.swarm_update.specs.declared.kept_surveys.TheConstants.{SURVEYS}
+use Rattle.swarm_update.specs.declared.known_survey.Kept.{Kept}
 use Rattle.swarm_update.specs.declared.known_survey.KnownSurvey.{KnownSurvey}
 use Rattle.swarm_update.specs.declared.known_survey.Subject.{Subject}
 use Rattle.swarm_update.specs.declared.marks.Places.{Places}
@@ -27,7 +31,7 @@ use Rattle.swarm_update.specs.declared.survey.Survey.{Survey}
 pub stale_none : (v : Places) (k : Subject) → AreStale 0 v k
 stale_none v k = record { each = λ n lt e. absurd (omega (arith, lt)) }
 
-still_stale : (a b : Subject) (n : ℕ) → IsLess a b → n < WIDTH → is_stale a.stale n ≡ true → is_stale b.stale n ≡ true
+pub still_stale : (a b : Subject) (n : ℕ) → IsLess a b → n < WIDTH → is_stale a.stale n ≡ true → is_stale b.stale n ≡ true
 still_stale a b n less lt e = go (is_stale b.stale n) refl
   where
     go : (c : Bool) → is_stale b.stale n ≡ c → c ≡ true
@@ -126,6 +130,11 @@ pub later_known : (v : Survey) (o : Option Subject) (k b : Subject) → o ≡ So
 later_known v o k b is less stale t clock le known =
     later_of t clock v b le stale (less_so t v k b less (subst (λ q. IfSome q (IsOf t v)) is known))
 
+pub later_stands : (o : Option Subject) (k b : Subject) → o ≡ Some k → IsLess k b → (slot : ℕ)
+    → IfSome o (λ (j : Subject). j.service % SURVEYS ≡ slot) → b.service % SURVEYS ≡ slot
+later_stands o k b is less slot h =
+    ap (λ n. n % SURVEYS) less.service ∙ subst (λ q. IfSome q (λ (j : Subject). j.service % SURVEYS ≡ slot)) is h
+
 pub later_none : (v : Survey) (o : Option Subject) → o ≡ None → (t : Tables) (clock : ℕ) → t.clock ≤ clock
     → IfSome o (IsOf t v) → IfSome o (IsOf (record t { clock = clock }) v)
 later_none v o is t clock le known = subst (λ q. IfSome q (IsOf (record t { clock = clock }) v)) (sym is) tt
@@ -136,6 +145,28 @@ clean_later t clock known h =
     slots_same t (record t { clock = clock }) known.clean
     (λ id none. clean_same t (record t { clock = clock }) id refl refl none) h.clean
 
+-- A loop over slots: those before the end have passed the time, and the others are as they were.
+
+abbrev KnowsSlot : Tables → ℕ → Option (Box Kept) → Type 0
+KnowsSlot t slot o = IfSome o (λ box. IsKept t slot box.value)
+
+pub record PassSlots (end : ℕ) (before after : KeptSurveys) : Type 0 where
+  pub each : (t : Tables) (clock : ℕ) → t.clock ≤ clock → (slot : ℕ) → slot < end
+      → KnowsSlot t slot (get_or before.slots slot None)
+      → KnowsSlot (record t { clock = clock }) slot (get_or after.slots slot None)
+  pub rest : (slot : ℕ) → end ≤ slot → get_or after.slots slot None ≡ get_or before.slots slot None
+
+pub slots_first : (kept : KeptSurveys) → PassSlots 0 kept kept
+slots_first kept = record { each = λ t clock le slot lt h. absurd (omega (arith, lt)); rest = λ slot le. refl }
+
+pub slots_last : (end : ℕ) (before after : KeptSurveys) → SURVEYS ≤ end → PassSlots end before after → (t : Tables)
+    (clock : ℕ) → t.clock ≤ clock → AreKept t before → AreKept (record t { clock = clock }) after
+slots_last end before after long h t clock le known = record {
+  each = λ slot lt. h.each t clock le slot (omega (arith, lt, long)) (known.each slot lt);
+}
+
 pub ruleset stale_steps = (stale_none, stale_here, stale_past)
 
 pub ruleset later_steps = (later_known, later_none)
+
+pub ruleset slot_steps = (slots_first, slots_last)

@@ -1,5 +1,6 @@
 -- What is remembered of the services whose updates were looked at last, and which changes leave it so.
 use Rattle.std.specs.Prelude.{Bool, List, None, Option, Some, [], false, filter, get_or, if◌then◌else◌, length, nat_lt, not, true, ℕ, ⊤, IfSome, ◌%◌, ◌&&◌, ◌+◌, ◌<◌, ◌==◌, ◌||◌, ◌≡◌, ◌∷◌, max, set}
+use Rattle.std.specs.Global.{Box}
 use Rattle.std.specs.List.{list_any}
 use Rattle.role_words.specs.Marks.{has_number, tasks_at}
 use Rattle.role_words.specs.Suspects.{is_suspect}
@@ -17,6 +18,8 @@ use Rattle.swarm_update.specs.Marks.{mark_at, mark_of}
 use Rattle.swarm_update.specs.StalePlaces.{is_stale}
 use Rattle.swarm_update.specs.declared.clean.CleanServices.{CleanServices}
 use Rattle.swarm_update.specs.declared.clean.TheConstants.{SLOTS}
+use Rattle.swarm_update.specs.declared.kept_surveys.KeptSurveys.{KeptSurveys}
+use Rattle.swarm_update.specs.declared.kept_surveys.TheConstants.{SURVEYS}
 use Rattle.swarm_update.specs.declared.known_survey.Kept.{Kept}
 use Rattle.swarm_update.specs.declared.known_survey.KnownSurvey.{KnownSurvey}
 use Rattle.swarm_update.specs.declared.known_survey.Subject.{Subject}
@@ -49,6 +52,28 @@ pub record IsOf (t : Tables) (v : Survey) (k : Subject) : Type 0 where
 abbrev pub KnowsKept : Tables → Kept → Type 0
 KnowsKept t kept = IfSome kept.subject (IsOf t kept.survey)
 
+-- it is of a service with this slot
+abbrev pub StandsIn : ℕ → Kept → Type 0
+StandsIn slot kept = IfSome kept.subject (λ k. k.service % SURVEYS ≡ slot)
+
+-- what a slot has is so, and of such a service
+pub record IsKept (t : Tables) (slot : ℕ) (kept : Kept) : Type 0 where
+  pub knows : KnowsKept t kept
+  pub stands : StandsIn slot kept
+
+-- what all slots have is
+pub record AreKept (t : Tables) (kept : KeptSurveys) : Type 0 where
+  pub each : (slot : ℕ) → slot < SURVEYS → IfSome (get_or kept.slots slot None) (λ box. IsKept t slot box.value)
+
+-- what the slot of the service with this id has
+abbrev pub kept_of : KeptSurveys → ℕ → Option (Box Kept)
+kept_of kept id = get_or kept.slots (id % SURVEYS) None
+
+-- where there are slots
+abbrev pub slot_in : Option (Box KeptSurveys) → ℕ → Option (Box Kept)
+slot_in None id = None
+slot_in (Some kept) id = kept_of kept.value id
+
 -- the service with this id, where it is there, has no such task
 pub record HasNoSuspect (t : Tables) (id : ℕ) : Type 0 where
   pub each : (s : Service) → row_at service_id id t.services ≡ Some s
@@ -69,7 +94,7 @@ has_service clean id = is_some_and (λ k. k == id) (get_or clean.services (id % 
 
 -- whatever is remembered is so
 pub record Knows (t : Tables) (known : KnownSurvey) : Type 0 where
-  pub survey : IfSome known.kept (λ kept. KnowsKept t kept.value)
+  pub survey : IfSome known.kept (λ kept. AreKept t kept.value)
   pub clean : AreClean t known.clean
 
 -- The changes.
@@ -103,11 +128,6 @@ Leaves t k far (change.PutTask x) =
     (touches k far x ≡ false) × (is_row_and task_id (touches k far) t.tasks x.id ≡ false)
 Leaves t k far (change.DropTask id) = is_row_and task_id (touches k far) t.tasks id ≡ false
 Leaves t k far (change.Keep a) = ⊤
-
--- all of them do
-abbrev pub LeaveAll : Tables → Subject → Bool → List Change → Type 0
-LeaveAll t k far [] = ⊤
-LeaveAll t k far (c ∷ cs) = Leaves t k far c × LeaveAll t k far cs
 
 -- the task may make a place of the service with this id dirty
 abbrev pub is_suspect_of : Tables → ℕ → Task → Bool
@@ -153,3 +173,32 @@ pub record IsLess (before after : Subject) : Type 0 where
 -- the places before this one with a task in flight are stale
 pub record AreStale (end : ℕ) (v : Places) (k : Subject) : Type 0 where
   pub each : (n : ℕ) → n < end → (mark_at v n).has_flying ≡ true → is_stale k.stale n ≡ true
+
+-- the slot is that of a service of which the change puts or drops a task, or which it puts
+abbrev pub concerns : Tables → Change → ℕ → Bool
+concerns t (change.PutNode n) slot = false
+concerns t (change.PutService s) slot = s.id % SURVEYS == slot
+concerns t (change.PutTask x) slot =
+    x.service % SURVEYS == slot || is_row_and task_id (λ y. y.service % SURVEYS == slot) t.tasks x.id
+concerns t (change.DropTask id) slot = is_row_and task_id (λ y. y.service % SURVEYS == slot) t.tasks id
+concerns t (change.Keep a) slot = false
+
+-- what is still remembered was before, and where it was told of the change, this leaves it
+pub record IsLeft (t : Tables) (c : Change) (is_told : Bool) (before : Kept) (v : Survey) (k : Subject) : Type 0 where
+  pub was : Subject
+  pub is : before.subject ≡ Some was
+  pub survey : v ≡ before.survey
+  pub less : IsLess was k
+  pub leaves : is_told ≡ true → Leaves t k v.places.has_far c
+
+-- so it is with what a slot had and has
+abbrev pub SlotIsTold : Tables → Change → Bool → Option (Box Kept) → Option (Box Kept) → Type 0
+SlotIsTold t c is_told None None = ⊤
+SlotIsTold t c is_told None (Some b) = ⊥
+SlotIsTold t c is_told (Some a) None = ⊥
+SlotIsTold t c is_told (Some a) (Some b) = IfSome b.value.subject (IsLeft t c is_told a.value b.value.survey)
+
+-- so it is with all slots, of which these were told
+pub record AreTold (t : Tables) (c : Change) (are_told : ℕ → Bool) (before after : KeptSurveys) : Type 0 where
+  pub each : (slot : ℕ) → slot < SURVEYS
+      → SlotIsTold t c (are_told slot) (get_or before.slots slot None) (get_or after.slots slot None)

@@ -1,8 +1,9 @@
-// The survey of the service whose update was looked at last, kept from one look to the next, so that only places whose
+// The surveys of services whose updates were looked at last, kept from one look to the next, so that only places whose
 // tasks changed are noted anew, however many these are; and some services without a task that may make a place dirty,
 // so that their tasks aren't gone over at each look.
-ghost use Rattle.std.specs.Prelude.{◌<◌, ◌≡◌, ◌≤◌, IfSome, IsTrue, None, Some, false, filter, min, true, ℕ};
+ghost use Rattle.std.specs.Prelude.{◌%◌, ◌<◌, ◌≡◌, ◌≤◌, IfSome, IsTrue, None, Some, false, filter, min, true, ℕ};
 ghost use Rattle.std.specs.List.{list_any};
+ghost use Rattle.std.specs.Option.{option_copied, option_map};
 ghost use Rattle.role_words.specs.Suspects.{is_suspect};
 ghost use Rattle.swarm_objects.specs.ChangeLists.{apply_changes};
 ghost use Rattle.swarm_objects.specs.Loops.Update.{is_to_start, open_duties, run_duties, update_duties};
@@ -12,13 +13,15 @@ ghost use Rattle.swarm_objects.specs.Tasks.Places.{has_dirty_place};
 ghost use Rattle.swarm_objects.specs.Tasks.Words.{is_of};
 ghost use Rattle.swarm_objects.specs.Usable.{IsUsable};
 ghost use Rattle.swarm_objects.specs.World.{Tables};
-ghost use Rattle.swarm_update.specs.KnownSurvey.{AreStale, HasAlike, IsLess, IsSo, Knows, KnowsKept, LeaveAll, Leaves};
-ghost use Rattle.swarm_update.specs.KnownSurvey.{leaves_out, may_fail, touches};
+ghost use Rattle.swarm_update.specs.KnownSurvey.{AreStale, HasAlike, IsLeft, IsLess, IsSo, Knows, KnowsKept, Leaves, StandsIn};
+ghost use Rattle.swarm_update.specs.KnownSurvey.{leaves_out, may_fail, slot_in, touches};
+ghost use Rattle.swarm_update.specs.declared.kept_surveys.TheConstants.{SURVEYS};
 ghost use Rattle.swarm_update.specs.StalePlaces.{is_stale};
 ghost use Rattle.swarm_update.specs.Surveys.{Tells};
 
 use crate::clean::CleanServices;
 use crate::first_open;
+use crate::kept_surveys::KeptSurveys;
 use crate::marks::{Places, WIDTH};
 use crate::runs::{counts_as_failure, has_present_run};
 use crate::stale_places::StalePlaces;
@@ -29,7 +32,7 @@ use swarm_objects::{Change, Duty, Id, Rows, Same, Service, Task, UpdateRun, Vers
 
 // The service and run that a survey is of, and what of it isn't so any more.
 #[derive(Clone, Copy, Drop)]
-struct Subject {
+pub struct Subject {
     service: Id,
     // that of the run
     version: Version,
@@ -41,9 +44,9 @@ struct Subject {
 
 // A survey that is kept, where it is of something.
 #[derive(Drop)]
-struct Kept {
-    survey: Survey,
-    subject: Option<Subject>,
+pub struct Kept {
+    pub survey: Survey,
+    pub subject: Option<Subject>,
 }
 
 /// What is remembered of the services whose updates were looked at last.
@@ -51,8 +54,8 @@ struct Kept {
 pub struct KnownSurvey {
     // None where no survey is ever kept
     alloc: Option<Global>,
-    // made at the first look, in a box since it is large
-    kept: Option<Box<Kept>>,
+    // made at the first look at a run, so that where no update is looked at there are no slots to go over
+    kept: Option<Box<KeptSurveys>>,
     // services without a task that may make a place dirty
     clean: CleanServices,
 }
@@ -132,18 +135,6 @@ impl Subject {
         }
     }
 
-    // All of them do.
-    fn all_leave<R: Rows>(&self, far: bool, rows: &R, changes: &[Change]) -> bool
-        ensures { IsTrue result → LeaveAll (R.tables rows.now) self.now far changes.now }
-    {
-        for change in changes {
-            if !self.leaves(far, rows, change) {
-                return false;
-            }
-        }
-        true
-    }
-
     // The place with this number is stale, too.
     fn make_stale(&mut self, number: u64)
         requires { number < WIDTH }
@@ -195,23 +186,13 @@ impl Subject {
         }
     }
 
-    // Those of all tasks that the changes put or drop.
-    #[tactic(auto, using(crate::proofs::Leaving::less_steps))]
-    fn forget_changes<R: Rows>(&mut self, rows: &R, changes: &[Change])
-        ensures { IsLess self.old self.new }
-    {
-        for change in changes {
-            self.forget_change(rows, change);
-        }
-    }
-
-    // What is left of it both before and after these changes.
-    fn without<R: Rows>(mut self, far: bool, rows: &R, changes: &[Change]) -> Option<Subject>
+    // What is left of it both before and after this change.
+    fn without<R: Rows>(mut self, far: bool, rows: &R, change: &Change) -> Option<Subject>
         ensures less { IfSome result (IsLess self) }
-        ensures leaves { IfSome result (λ k. LeaveAll (R.tables rows.now) k far changes.now) }
+        ensures leaves { IfSome result (λ k. Leaves (R.tables rows.now) k far change.now) }
     {
-        self.forget_changes(rows, changes);
-        if self.all_leave(far, rows, changes) {
+        self.forget_change(rows, change);
+        if self.leaves(far, rows, change) {
             Some(self)
         } else {
             None
@@ -235,7 +216,7 @@ impl Subject {
 
 impl Kept {
     // Of nothing.
-    fn blank() -> Kept
+    pub fn blank() -> Kept
         ensures { result.subject ≡ None }
     {
         Kept {
@@ -244,27 +225,27 @@ impl Kept {
         }
     }
 
-    fn forget_changed<R: Rows>(&mut self, rows: &R, changes: &[Change])
-        requires usable { IsUsable (R.tables rows.now) }
-        requires knows { KnowsKept (R.tables rows.now) self.old }
-        ensures stays { KnowsKept (R.tables rows.now) self.new }
-        ensures goes_on { KnowsKept (apply_changes (R.tables rows.now) changes.now) self.new }
+    // Forgets what this change, one of those that are made together, may change. What is left, it leaves.
+    #[tactic(auto, using(crate::proofs::Forgetting::left_steps))]
+    pub fn forget_change<R: Rows>(&mut self, rows: &R, change: &Change)
+        ensures { IfSome self.new.subject (IsLeft (R.tables rows.now) change.now true self.old self.new.survey) }
     {
         let Some(subject) = &self.subject else {
             return;
         };
         let far = self.survey.places.has_far();
-        if subject.all_leave(far, rows, changes) {
+        if subject.leaves(far, rows, change) {
             return;
         }
-        self.subject = subject.without(far, rows, changes);
+        self.subject = subject.without(far, rows, change);
     }
 
     // Forgets what hangs on the time.
     #[tactic(auto, using(crate::proofs::Passing::later_steps))]
-    fn pass_time(&mut self)
-        ensures { (t : Tables) (clock : ℕ) → t.clock ≤ clock → KnowsKept t self.old →
+    pub fn pass_time(&mut self)
+        ensures later { (t : Tables) (clock : ℕ) → t.clock ≤ clock → KnowsKept t self.old →
             KnowsKept (record t { clock = clock }) self.new }
+        ensures stands { (slot : ℕ) → StandsIn slot self.old → StandsIn slot self.new }
     {
         let Some(subject) = self.subject else {
             return;
@@ -288,12 +269,13 @@ impl Kept {
     }
 
     // Has the survey of this run of the service.
-    fn look<R: Rows>(&mut self, rows: &R, service: &Service, run: &UpdateRun)
+    pub fn look<R: Rows>(&mut self, rows: &R, service: &Service, run: &UpdateRun)
         requires usable { IsUsable (R.tables rows.now) }
         requires knows { KnowsKept (R.tables rows.now) self.old }
         requires row { row_at service_id service.now.id (R.tables rows.now).services ≡ Some service.now }
         ensures tells { Tells self.new.survey (R.tables rows.now) service.now run.now }
         ensures knows { KnowsKept (R.tables rows.now) self.new }
+        ensures stands { StandsIn (service.now.id % SURVEYS) self.new }
     {
         match self.recall(rows, service, run) {
             Some(subject) => {
@@ -333,10 +315,10 @@ impl KnownSurvey {
     pub fn forget_all(&mut self)
         ensures { (t : Tables) → Knows t self.new }
     {
-        if let Some(kept) = &mut self.kept {
-            kept.subject = None;
-        }
         self.clean = CleanServices::none();
+        if let Some(kept) = &mut self.kept {
+            kept.forget_all();
+        }
     }
 
     /// Forgets what these changes may change, before they are made. What is left is so before and after.
@@ -346,10 +328,10 @@ impl KnownSurvey {
         ensures stays { Knows (R.tables rows.now) self.new }
         ensures goes_on { Knows (apply_changes (R.tables rows.now) changes.now) self.new }
     {
+        self.clean.forget_changed(rows, changes);
         if let Some(kept) = &mut self.kept {
             kept.forget_changed(rows, changes);
         }
-        self.clean.forget_changed(rows, changes);
     }
 
     /// Forgets what time that passes may change: whether a task is in flight.
@@ -363,18 +345,15 @@ impl KnownSurvey {
         }
     }
 
-    // Has a place for a survey, where there is memory. Apart for the same reason as `first_surveyed`.
+    // Has slots for surveys, where there is memory. Apart, so that they take room on the stack only here.
     #[inline(never)]
-    fn make_room(&mut self)
+    fn make_slots(&mut self)
         ensures { (t : Tables) → Knows t self.old → Knows t self.new }
     {
-        if self.kept.is_some() {
-            return;
-        }
         let Some(alloc) = self.alloc else {
             return;
         };
-        if let Ok(kept) = Box::new(alloc, Kept::blank()) {
+        if let Ok(kept) = Box::new(alloc, KeptSurveys::none()) {
             self.kept = Some(kept);
         }
     }
@@ -384,12 +363,25 @@ impl KnownSurvey {
         requires usable { IsUsable (R.tables rows.now) }
         requires knows { Knows (R.tables rows.now) self.old }
         requires row { row_at service_id service.now.id (R.tables rows.now).services ≡ Some service.now }
-        ensures tells { IfSome self.new.kept (λ kept. Tells kept.value.survey (R.tables rows.now) service.now run.now) }
+        ensures tells { IfSome (slot_in self.new.kept service.now.id)
+            (λ kept. Tells kept.value.survey (R.tables rows.now) service.now run.now) }
         ensures knows { Knows (R.tables rows.now) self.new }
     {
-        self.make_room();
+        if self.kept.is_none() {
+            self.make_slots();
+        }
         if let Some(kept) = &mut self.kept {
-            kept.look(rows, service, run);
+            kept.look(self.alloc, rows, service, run);
+        }
+    }
+
+    // The survey in the service's slot.
+    fn survey_of(&self, service: Id) -> Option<&Survey>
+        ensures { option_copied result ≡ option_map (λ kept. kept.value.survey) (slot_in self.now.kept service) }
+    {
+        match &self.kept {
+            Some(kept) => kept.survey_of(service),
+            None => None,
         }
     }
 
@@ -462,8 +454,8 @@ fn first_of_run<R: Rows>(
         return None;
     }
     known.look(rows, service, run);
-    match &known.kept {
-        Some(kept) => first_open(&kept.survey, rows, service, run),
+    match known.survey_of(service.id) {
+        Some(survey) => first_open(survey, rows, service, run),
         None => first_surveyed(rows, service, run),
     }
 }

@@ -4,6 +4,7 @@
 mod changing;
 mod clean;
 mod failing;
+mod kept_surveys;
 mod known_survey;
 mod marks;
 mod replacing;

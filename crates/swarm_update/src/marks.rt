@@ -7,7 +7,7 @@ ghost use Rattle.swarm_update.specs.Marks.{answers, blank, mark_at, mark_of, mar
 ghost use Rattle.swarm_update.specs.StalePlaces.{is_stale, is_stale_from};
 
 use crate::stale_places::{StalePlaces, WORD, WORDS};
-use role_words::{is_flying, place_tasks};
+use role_words::{is_starting, place_tasks};
 use std::marker::Model;
 use swarm_objects::{Rows, Service, Task};
 
@@ -59,7 +59,7 @@ impl Mark {
         }
     }
 
-    // What is said of the place with this task, which stands in it.
+    // What is said of the place with this task, which stands in it. Templates are compared once.
     fn with<R: Rows>(self, rows: &R, service: &Service, task: &Task) -> Mark
         ensures { result ≡ mark_with (R.tables rows.now) service.now task.now self }
     {
@@ -71,7 +71,7 @@ impl Mark {
             has_dirty: self.has_dirty || (is_live && !is_clean),
             has_clean: self.has_clean || is_live_clean,
             has_running: self.has_running || (is_live_clean && task.is_running()),
-            has_flying: self.has_flying || (is_live_clean && is_flying(rows, service, task)),
+            has_flying: self.has_flying || (is_live_clean && is_starting(rows, service, task)),
             is_closed: task.closes() && !is_clean,
         }
     }
