@@ -11,7 +11,7 @@
 // A commit of a list of changes touches each line's span before it applies them, with the rows as they are: by
 // `touch_tasks` with what the line reads (`reads`), and by `touch_blocked`, `touch_moved`, `touch_freed` and
 // `touch_held` where other rows may let a waiting task go on. These take the span of all that wait, which is kept like
-// a line of its own. Puts of tasks that run on, which most duties are, touch no line but one (`put_running`). Afterwards
+// a line of its own. Puts of tasks that run on, as most duties are, touch no line but one (`put_running`). Afterwards
 // the lines' laws (`tasks_go_on`, `waiting_go_on`) say that each span covers in the tables that the changes made.
 // `ServiceSpans` and `TaskSpans` have the spans of all lines, and do so for each of them (`touch`). Time and a node's
 // session are no rows: `touch_time` and `touch_session` say what they touch, and `touch_new_services` and
