@@ -1,6 +1,6 @@
 -- A duty of a control loop over the rows as an entry; an entry more in a world with its history.
 use Rattle.std.proofs.Common.{◌≡◌, ◌<◌, ◌≤◌, ◌+◌, ℕ, List, [], ◌∷◌, ◌++◌, Option, Some, None, Result, Ok, Err, arith, ap, refl, subst, sym, ◌∙◌, length, true, false, inl}
-use Rattle.std.specs.Prelude.{map}
+use Rattle.std.specs.Prelude.{IfSome, map}
 use Rattle.swarm_agent.specs.Times.{seen_agent}
 use Rattle.swarm_model.proofs.Base.DutyLists.{due-Has}
 use Rattle.swarm_model.proofs.Base.FromLists.{role_of-Has}
@@ -35,7 +35,6 @@ use Rattle.swarm_watch.specs.Calls.{hears}
 use Rattle.swarm_watch.specs.Watchings.{Watchings}
 use Rattle.swarm_objects.specs.declared.names.NoMemory.{NoMemory}
 use Rattle.swarm_world.specs.Inside.Commits.{Commits}
-use Rattle.swarm_world.specs.Inside.Kept.{IsFirst}
 use Rattle.swarm_world.proofs.Recorded.{tables_are}
 use Rattle.swarm_world.specs.Inside.Parts.{Enters, HasHistory, IsAt, StandsFor}
 use Rattle.swarm_world.specs.Inside.Records.{AreUsable, HasRecords, tables_of}
@@ -118,20 +117,24 @@ pub due_of_first : (r : Role) (w : World) (d : Duty) → first_of (duties r w) �
 due_of_first r w d e =
     due-Has w d (subst (λ z. Has (duties z w) d) (sym (role_of_first r w d e)) (first_has (duties r w) d e))
 
--- what is found first among all loops is the first one of its own
-found_first : (w : World) (rs : List Role) (d : Duty) → first_duty w rs ≡ Some d → first_of (duties (role_of d) w) ≡ Some d
+-- it is the first one of its own loop
+own_first : (r : Role) (w : World) (d : Duty) → first_of (duties r w) ≡ Some d → first_of (duties (role_of d) w) ≡ Some d
+own_first r w d e = subst (λ z. first_of (duties z w) ≡ Some d) (sym (role_of_first r w d e)) e
+
+pub own_found : (r : Role) (w : World) (found : Option Duty) → found ≡ first_of (duties r w) →
+    IfSome found (λ d. first_of (duties (role_of d) w) ≡ Some d)
+own_found r w None e = tt
+own_found r w (Some d) e = own_first r w d (sym e)
+
+-- so is what is found first among all loops
+pub found_first : (w : World) (rs : List Role) (d : Duty) → first_duty w rs ≡ Some d → first_of (duties (role_of d) w) ≡ Some d
 found_first w [] d e = absurd cc
 found_first w (r ∷ rs) d e = go (first_of (duties r w)) refl e (found_first w rs d)
   where
     go : (o : Option Duty) → first_of (duties r w) ≡ o → elim o [ Some x ↦ Some x | None ↦ first_duty w rs ] ≡ Some d
         → (first_duty w rs ≡ Some d → first_of (duties (role_of d) w) ≡ Some d) → first_of (duties (role_of d) w) ≡ Some d
-    go (Some x) is e below =
-        let here = is ∙ e in subst (λ z. first_of (duties z w) ≡ Some d) (sym (role_of_first r w d here)) here
+    go (Some x) is e below = own_first r w d (is ∙ e)
     go None is e below = below e
-
-pub first_known : (w : World) (rs : List Role) (o : Option Duty) → o ≡ first_duty w rs → IsFirst o w
-first_known w rs None e = tt
-first_known w rs (Some d) e = found_first w rs d (sym e)
 
 pub none_first : (ds : List Duty) → None ≡ first_of ds → ds ≡ []
 none_first [] e = refl

@@ -5,7 +5,7 @@ use Rattle.swarm_model.specs.Changed.{changes_between}
 use Rattle.swarm_model.specs.History.{replay}
 use Rattle.swarm_model.specs.Settle.{idle_answer, settle_answer}
 use Rattle.swarm_objects.specs.Duties.{duties, first_duty}
-use Rattle.swarm_objects.specs.Kinds.{roles}
+use Rattle.swarm_objects.specs.Kinds.{duty_named, roles}
 use Rattle.swarm_objects.specs.Rows.{first_of}
 use Rattle.swarm_objects.specs.World.{World}
 use Rattle.swarm_objects.specs.declared.calls.Call.TheVariants as call
@@ -47,6 +47,10 @@ busy-answer w d e = ap (λ o. answer_of o w) e
 
 pub idle-is : (w : World) → first_duty w roles ≡ None → settle_answer w ≡ idle_answer w
 idle-is w e = ap (λ o. answer_of o w) e
+
+-- where there is a first duty of all loops the test names it
+pub named-first : (w : World) (d : Duty) → first_duty w roles ≡ Some d → duty_named (settle_answer w) ≡ Some d
+named-first w d e = ap duty_named (busy-answer w d e)
 
 -- the rows, the sessions and the agents are the world's
 pub standing : (p : Parts) (w : World) → StandsFor p w → StandFor (tables_of p.records) p.records.sessions p.agents w

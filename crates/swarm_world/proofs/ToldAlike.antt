@@ -9,7 +9,6 @@ use Rattle.swarm_objects.specs.Same.{same_number}
 use Rattle.swarm_objects.specs.Tasks.Words.{is_below_assigned}
 use Rattle.swarm_objects.specs.Values.Ranks.{rank}
 use Rattle.swarm_objects.specs.World.{Tables}
-use Rattle.swarm_objects.specs.declared.messages.Assigned.{Assigned}
 use Rattle.swarm_objects.specs.declared.tasks.Task.{Task}
 use Rattle.swarm_objects.specs.declared.tasks.TaskState.TheVariants as state
 use Rattle.swarm_world.specs.Inside.Touches.{IsToldAlike}

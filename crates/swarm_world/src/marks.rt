@@ -17,7 +17,6 @@ ghost use Rattle.swarm_spans.specs.Services.Lines.{comes, creates, downs, job_cr
 ghost use Rattle.swarm_spans.specs.Services.Touches.{NewServicesLaw, ServiceNodesLaw};
 ghost use Rattle.swarm_spans.specs.Spans.{CoversNodes, CoversServices, CoversTasks, full};
 ghost use Rattle.swarm_spans.specs.TasksCovered.{NodesLaw, ServicesLaw, SessionLaw, at_time};
-ghost use Rattle.swarm_world.specs.Inside.Kept.{IsFirst};
 ghost use Rattle.swarm_world.specs.Inside.Known.{AreForeseen, ForgetsServices, KnowsAll};
 ghost use Rattle.swarm_world.specs.Inside.Looks.{no_steps};
 ghost use Rattle.swarm_world.specs.Inside.Marks.{AreMarked, IsAfterCall, IsMarked, makes_node, makes_service};
@@ -541,21 +540,5 @@ impl Marks {
             return None;
         }
         self.first(&parts.records, role)
-    }
-
-    /// The same, where a look may have named the loop's first duty, which then need not be found again.
-    pub fn find_unless(&mut self, known: Option<Duty>, parts: &Parts, role: Role) -> Option<Duty>
-        requires at { HasHistory parts.now }
-        requires marks { IsMarked self.old parts.now }
-        ensures first { (h : Seq Entry) → StandsFor parts.now (replay h) → IsFirst known (replay h) →
-            result ≡ first_of (duties role (replay h)) }
-        ensures marks { IsMarked self.new parts.now }
-    {
-        if let Some(duty) = known {
-            if duty.role() == role {
-                return Some(duty);
-            }
-        }
-        self.find(parts, role)
     }
 }

@@ -1,12 +1,16 @@
 // The world with its history.
-ghost use Rattle.std.specs.Prelude.{◌≡◌, ◌<◌, [], IfOk, false, length};
+ghost use Rattle.std.specs.Prelude.{◌≡◌, ◌<◌, [], IfOk, IfSome, Some, false, length};
 ghost use Rattle.swarm_objects.specs.CallWords.{is_halt};
+ghost use Rattle.swarm_objects.specs.Duties.{duties};
+ghost use Rattle.swarm_objects.specs.Kinds.{role_of};
+ghost use Rattle.swarm_objects.specs.Rows.{first_of};
 ghost use Rattle.swarm_model.specs.History.{IsLegal, replay};
 ghost use Rattle.swarm_model.specs.Settle.{settle_answer};
 ghost use Rattle.swarm_objects.specs.Usable.{IsUsable};
+ghost use Rattle.swarm_objects.specs.declared.loops.Role.{Role as LoopRole};
 ghost use Rattle.swarm_world.specs.Inside.Records.{tables_of};
 ghost use Rattle.swarm_world.specs.Laws.{IsLawful};
-ghost use Rattle.swarm_world.specs.Work.{Calls, Turns};
+ghost use Rattle.swarm_world.specs.Work.{Advances, Calls, Turns};
 
 use crate::marks::Marks;
 use crate::parts::Parts;
@@ -29,8 +33,6 @@ pub struct World {
     history: Vec<Entry>,
     // where a duty may be: no part of what contracts see
     marks: Box<Marks>,
-    // the duty that the last look named, where nothing came since
-    known: Option<Duty>,
 }
 
 impl Model for World {
@@ -66,7 +68,6 @@ impl World {
             parts,
             history,
             marks,
-            known: None,
         })
     }
 
@@ -93,7 +94,6 @@ impl World {
     {
         self.parts.halt();
         self.marks.touch_all();
-        self.known = None;
         let entry = Entry {
             by,
             what: What::Call(Call::Halt),
@@ -120,7 +120,6 @@ impl World {
         let marks = &mut *self.marks;
         let parts = &mut *self.parts;
         marks.touch_call(parts, &call);
-        self.known = None;
         let Ok(reply) = parts.enter(marks, version, &call) else {
             return Reply::Refused(Refusal::NoMemory);
         };
@@ -151,30 +150,22 @@ impl World {
         }
     }
 
-    /// The caller does the first duty of the control loop.
-    #[tactic(auto, using(crate::proofs::Lawful::lawful))]
-    pub fn turn(&mut self, by: u64, role: Role) -> Turn
-        ensures turns { Turns by role self.old self.new result }
-        ensures lawful { IsLawful self.new }
+    // Appends the first duty of its control loop, where memory is there.
+    fn append_duty(&mut self, by: u64, duty: Duty) -> Turn
+        requires running { (replay self.old).halted ≡ false }
+        requires room { length self.old < 300000 }
+        requires first { first_of (duties (role_of duty) (replay self.old)) ≡ Some duty }
+        ensures turns { Turns by (role_of duty) self.old self.new result }
+        ensures legal { IsLegal self.new }
     {
-        if self.is_halted() {
-            return Turn::Halted;
-        }
-        let count = self.history.len() as u64;
-        if count >= MOST_ENTRIES {
-            return Turn::Full(count);
-        }
-        let marks = &mut *self.marks;
-        let parts = &mut *self.parts;
-        let Some(duty) = marks.find_unless(self.known, parts, role) else {
-            return Turn::Idle;
-        };
         // an entry and Halt
         let Ok(()) = self.history.reserve(2) else {
             return Turn::NoMemory;
         };
-        self.known = None;
-        let Ok(()) = parts.take(marks, count + 1, role, duty) else {
+        let count = self.history.len() as u64;
+        let marks = &mut *self.marks;
+        let parts = &mut *self.parts;
+        let Ok(()) = parts.take(marks, count + 1, duty.role(), duty) else {
             return Turn::NoMemory;
         };
         let entry = Entry {
@@ -185,6 +176,51 @@ impl World {
             Ok(()) => Turn::Did(duty),
             Err(_) => unreachable!(),
         }
+    }
+
+    // Appends a duty that was found first, if one was, unless the history has ended or is full.
+    fn take(&mut self, by: u64, found: Option<Duty>) -> Turn
+        requires first { IfSome found (λ duty. first_of (duties (role_of duty) (replay self.old)) ≡ Some duty) }
+        ensures turns { (role : LoopRole) → found ≡ first_of (duties role (replay self.old))
+            → Turns by role self.old self.new result }
+        ensures legal { IsLegal self.new }
+    {
+        if self.is_halted() {
+            return Turn::Halted;
+        }
+        let count = self.history.len() as u64;
+        if count >= MOST_ENTRIES {
+            return Turn::Full(count);
+        }
+        match found {
+            Some(duty) => self.append_duty(by, duty),
+            None => Turn::Idle,
+        }
+    }
+
+    /// The caller does the first duty of the control loop.
+    #[tactic(auto, using(crate::proofs::Lawful::lawful))]
+    pub fn turn(&mut self, by: u64, role: Role) -> Turn
+        ensures turns { Turns by role self.old self.new result }
+        ensures lawful { IsLawful self.new }
+    {
+        let parts = &*self.parts;
+        let found = self.marks.find(parts, role);
+        self.take(by, found)
+    }
+
+    /// The caller does the duty that the settle test names, which is the first of its control loop. None where it names
+    /// none; then nothing changes.
+    #[tactic(auto, using(crate::proofs::Lawful::lawful))]
+    pub fn advance(&mut self, by: u64) -> Option<Turn>
+        ensures advances { Advances by self.old self.new result }
+        ensures lawful { IsLawful self.new }
+    {
+        let parts = &*self.parts;
+        let Some(duty) = self.marks.find_among(parts, &Role::ALL) else {
+            return None;
+        };
+        Some(self.take(by, Some(duty)))
     }
 
     /// The settle test: the first duty of the first control loop that has one; else what is waited for, held or paused,
@@ -199,19 +235,15 @@ impl World {
         marks.settle(parts)
     }
 
-    /// The settle test, as `settled` gives it. What the look finds is kept, so that the next one needn't look there
-    /// again.
+    /// The settle test, as `settled` gives it. Rows that a look finds without a duty aren't looked at by the next one.
     #[tactic(auto, using(crate::proofs::Lawful::lawful))]
     pub fn look(&mut self) -> Settle
         ensures same { self.new ≡ self.old }
         ensures answer { result ≡ settle_answer (replay self.old) }
         ensures lawful { IsLawful self.new }
     {
-        let marks = &mut *self.marks;
         let parts = &*self.parts;
-        let first = marks.find_among(parts, &Role::ALL);
-        self.known = first;
-        parts.settled_by(first, marks.tasks.to_wait)
+        self.marks.settle(parts)
     }
 
     /// All entries, in order.

@@ -27,7 +27,6 @@ invariant_of-self c =
             legal = gone.legal;
             stands = subst (StandsFor c.halt.new.self) (sym gone.world) now;
           });
-      known = tt;
       spare = λ h. absurd (let halts = now.has.halted in cc);
     }
 

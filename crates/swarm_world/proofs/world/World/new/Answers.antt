@@ -17,6 +17,5 @@ invariant_of-result c =
       marks =
           subst (λ m. IsMarked m c.in-Ok-new-2.parts.value) (sym c.in-Ok-new-3.ensures.ok)
           (c.new-3.ensures c.in-Ok-new-2.parts.value (record { history = []; legal = search rules; stands = stands }));
-      known = tt;
       spare = search rules;
     }
