@@ -8,10 +8,10 @@ ghost use Rattle.swarm_world.specs.Laws.{IsLawful};
 ghost use Rattle.swarm_world.specs.Work.{Calls, Turns};
 ghost use Rattle.turn_cell.specs.Entries.{Each, mine_of};
 ghost use Rattle.turn_cell.specs.Passes.{number_of, seen, known, mine, cell_seats, IsPassOf, IsNew, HaveAllNumbers, Extends, Adds, AgreesWith};
-ghost use Rattle.swarm_cluster.specs.Looks.{Shows};
+ghost use Rattle.swarm_cluster.specs.Looks.{Shows, Steps};
 
 use crate::pauses::Pause;
-use crate::works::{Answer, Calling, Look, Looking, Turning};
+use crate::works::{Advance, Advancing, Answer, Calling, Look, Looking, Turning};
 use crossbeam_utils::sync::EventCount;
 use std::alloc::Global;
 use std::sync::Wait;
@@ -102,6 +102,27 @@ impl Cluster {
         };
         let answer = self.cell.with_turn(rt, pass, work);
         if let Turn::Did(_) = answer.reply {
+            self.wake();
+        }
+        answer
+    }
+
+    /// The caller does the duty that the settle test names. Where it names none, gives what a look gives.
+    pub fn advance<R: Wait>(&self, rt: &R, pass: &mut Pass) -> Answer<Advance>
+        requires pass { IsPassOf self.now.cell pass.old }
+        ensures pass { IsPassOf self.now.cell pass.new }
+        ensures extends { Extends pass.old pass.new }
+        ensures known { known pass.new ≡ length (seen pass.new) }
+        ensures lawful { IsLawful (seen pass.new) }
+        ensures steps { (before : List Entry)
+            × AgreesWith pass.old before
+            × Steps (number_of pass.old) before (seen pass.new) result.reply
+            × Adds pass.old before pass.new }
+        ensures at { result.at ≡ length (seen pass.new) }
+    {
+        let work = Advancing { by: pass.number() };
+        let answer = self.cell.with_turn(rt, pass, work);
+        if let Advance::Turned(Turn::Did(_)) = answer.reply {
             self.wake();
         }
         answer

@@ -7,4 +7,4 @@ mod works;
 
 pub use cluster::{Cluster, Pass};
 pub use pauses::Pause;
-pub use works::{Answer, Look};
+pub use works::{Advance, Answer, Look};

@@ -1,6 +1,6 @@
 // What a caller does in its turn.
 ghost use Rattle.std.specs.Prelude.{◌≡◌, length};
-ghost use Rattle.swarm_cluster.specs.Looks.{Shows};
+ghost use Rattle.swarm_cluster.specs.Looks.{Shows, Steps};
 ghost use Rattle.swarm_model.specs.History.{replay};
 ghost use Rattle.swarm_world.specs.Laws.{IsLawful};
 ghost use Rattle.swarm_world.specs.Work.{Calls, Turns};
@@ -23,6 +23,15 @@ pub struct Look {
     pub now: Ms,
 }
 
+/// What came of a step of a stretch, in which a caller does the duties of all control loops.
+#[derive(Clone, Copy)]
+pub enum Advance {
+    /// The settle test named a duty, and this came of the turn of its loop.
+    Turned(Turn),
+    /// It named none, and nothing changed.
+    Idle(Look),
+}
+
 // The reply, with the length of the history.
 fn told<T>(world: &World, reply: T) -> Answer<T>
     ensures at { result.at ≡ length world.now }
@@ -32,6 +41,17 @@ fn told<T>(world: &World, reply: T) -> Answer<T>
     Answer {
         at: world.len(),
         reply,
+    }
+}
+
+// The settle test, with the time.
+fn look_at(world: &mut World) -> Look
+    ensures same { world.new ≡ world.old }
+    ensures shows { Shows result (replay world.old) }
+{
+    Look {
+        settle: world.look(),
+        now: world.now(),
     }
 }
 
@@ -91,6 +111,36 @@ impl TurnWork<World> for Turning {
     }
 }
 
+// A step of a stretch.
+#[derive(Drop)]
+pub struct Advancing {
+    pub by: u64,
+}
+
+impl TurnWork<World> for Advancing {
+    type Answer = Answer<Advance>;
+
+    ghost number = { λ w. w.by };
+
+    ghost relates = { λ w before after answer.
+        Steps w.by before after answer.reply
+        × (answer.at ≡ length after)
+        × IsLawful after };
+
+    fn caller(&self) -> u64 {
+        self.by
+    }
+
+    fn run(self, value: &mut World) -> Answer<Advance> {
+        let Advancing { by } = self;
+        let reply = match value.advance(by) {
+            Some(turn) => Advance::Turned(turn),
+            None => Advance::Idle(look_at(value)),
+        };
+        told(value, reply)
+    }
+}
+
 // The settle test, with the time.
 #[derive(Drop)]
 pub struct Looking {
@@ -113,10 +163,7 @@ impl TurnWork<World> for Looking {
     }
 
     fn run(self, value: &mut World) -> Answer<Look> {
-        let look = Look {
-            settle: value.look(),
-            now: value.now(),
-        };
+        let look = look_at(value);
         told(value, look)
     }
 }

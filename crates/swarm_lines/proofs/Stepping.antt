@@ -1,24 +1,31 @@
 -- Caller 0's calls and turns.
-use Rattle.std.proofs.Common.{◌≡◌, ℕ, inl, inr, List, [], ◌∷◌, ◌++◌, Bool, true, false, ◌==◌, refl, ap, ◌∙◌, sym, subst}
-use Rattle.swarm_lines.proofs.Coming.{Finds, came_one, found}
-use Rattle.swarm_lines.specs.Came.{Answered, Appended, Halts, Stays, StaysBy, Turned}
+use Rattle.std.proofs.Common.{◌≡◌, ℕ, inl, inr, List, [], ◌∷◌, ◌++◌, Bool, true, false, ◌==◌, refl, ap, ◌∙◌, sym, subst, None, Some}
+use Rattle.std.specs.Prelude.{is_some}
+use Rattle.swarm_cluster.specs.Looks.{Steps}
+use Rattle.swarm_cluster.specs.declared.works.Advance.TheVariants.{Idle, Turned}
+use Rattle.swarm_cluster.specs.declared.works.Look.{Look}
+use Rattle.swarm_lines.proofs.Coming.{Finds, came_none, came_one, found}
+use Rattle.swarm_lines.specs.Came.{Advanced, Answered, Appended, Halts, IsIdle, Stays, StaysBusy, StaysBy}
 use Rattle.swarm_lines.specs.declared.unanswered.Unanswered.{Unanswered}
 use Rattle.swarm_lines.specs.declared.unanswered.Unanswered.TheVariants.{Full, NoMemory}
 use Rattle.swarm_model.proofs.ReplyLaws.{call_is_entry}
 use Rattle.swarm_model.specs.History.{replay, step_reply}
-use Rattle.swarm_model.specs.Script.{own_call, own_duty}
+use Rattle.swarm_model.proofs.Following.First.{first_of_named}
+use Rattle.swarm_model.specs.Script.{is_busy, own_call, own_duty}
+use Rattle.swarm_model.specs.Settle.{settle_answer}
+use Rattle.swarm_objects.specs.Duties.{duties}
+use Rattle.swarm_objects.specs.Kinds.{duty_named, role_of}
+use Rattle.swarm_objects.specs.Rows.{first_of}
 use Rattle.swarm_objects.specs.CallWords.{is_entry}
 use Rattle.swarm_objects.specs.declared.calls.Call.{Call}
 use Rattle.swarm_objects.specs.declared.calls.Call.TheVariants.{Halt}
 use Rattle.swarm_objects.specs.declared.calls.Entry.{Entry}
 use Rattle.swarm_objects.specs.declared.duties.Duty.{Duty}
-use Rattle.swarm_objects.specs.declared.loops.Role.{Role}
 use Rattle.swarm_objects.specs.declared.replies.Refusal.TheVariants.{Full as FullRefusal}
 use Rattle.swarm_objects.specs.declared.replies.Reply.{Reply}
 use Rattle.swarm_objects.specs.declared.replies.Reply.TheVariants.{Refused}
-use Rattle.swarm_world.specs.Work.{Calls, IsFull, IsHalted, IsUnanswered, Turns, call_by, duty_by}
-use Rattle.swarm_world.specs.declared.turns.Turn.{Turn}
-use Rattle.swarm_world.specs.declared.turns.Turn.TheVariants.{Did, Idle, Halted as TurnHalted, Full as TurnFull, NoMemory as TurnNoMemory}
+use Rattle.swarm_world.specs.Work.{Calls, IsFull, IsHalted, IsUnanswered, call_by, duty_by}
+use Rattle.swarm_world.specs.declared.turns.Turn.TheVariants.{Did, Idle as TurnIdle, Halted as TurnHalted, Full as TurnFull, NoMemory as TurnNoMemory}
 use Rattle.turn_cell.specs.Entries.{StartsWith, mine_of}
 
 apart : (b : Bool) → b ≡ true → b ≡ false → ⊥
@@ -86,42 +93,63 @@ halts n old before new reply f (inl h) =
 halts n old before new reply f (inr h) =
     inr (unmoved n old before new f h.0, subst IsHalted (sym h.0) (halted before reply h.1))
 
--- A turn.
+-- A step of a stretch.
 
-did : (n : ℕ) (old before new : List Entry) (role : Role) (duty : Duty) → Finds n old before →
-    Turns n role before new (Did duty) → Turned old new role
-unfolding one
-did n old before new role duty f h = record {
-  duty = duty;
-  one = one n old before new (own_duty duty) f refl (h.0 ∙ ap (λ (m : ℕ). before ++ duty_by m duty ∷ []) f.0);
-  first = h.1;
+pub advanced : (n : ℕ) (old before new : List Entry) (duty : Duty) → Finds n old before →
+    Steps n before new (Turned (Did duty)) → Advanced old new
+advanced n old before new duty f h =
+    let is : new ≡ before ++ own_duty duty ∷ [] =
+    h.2.0 ∙ ap (λ (m : ℕ). before ++ duty_by m duty ∷ []) f.0 in
+    record {
+      looked = before;
+      others = found n old before f;
+      named = h.0;
+      busy = h.1;
+      turned = record {
+        duty = duty;
+        one = record {
+          before = before;
+          others = came_none before;
+          history = is;
+          came = came_one before before new (own_duty duty) (came_none before) refl is;
+        };
+        first = h.2.1;
+      };
+    }
+
+pub rested : (n : ℕ) (old before new : List Entry) (look : Look) → Finds n old before →
+    Steps n before new (Idle look) → IsIdle look old new
+rested n old before new look f h = record {
+  others = unmoved n old before new f h.0.0;
+  shows = h.1;
+  none = subst (λ (l : List Entry). duty_named (settle_answer (replay l)) ≡ None) (sym h.0.0) h.0.1;
 }
 
-pub turned : (n : ℕ) (old before new : List Entry) (role : Role) (turn : Turn) (duty : Duty) → Finds n old before →
-    Turns n role before new turn → turn ≡ Did duty → Turned old new role
-turned n old before new role turn duty f h is =
-    did n old before new role duty f (subst (Turns n role before new) is h)
+pub full_step : (n k : ℕ) (old before new : List Entry) → Finds n old before →
+    Steps n before new (Turned (TurnFull k)) → StaysBusy Full old new
+full_step n k old before new f h = (
+  unmoved n old before new f h.2.0,
+  subst IsFull (sym h.2.0) h.2.1,
+  subst (λ (l : List Entry). is_busy (replay l) ≡ true) (sym h.2.0) (ap is_some h.1),
+)
 
-pub idled : (n : ℕ) (old before new : List Entry) (role : Role) (turn : Turn) → Finds n old before →
-    Turns n role before new turn → turn ≡ Idle → Stays old new
-idled n old before new role turn f h is =
-    unmoved n old before new f (subst (Turns n role before new) is h).0
+pub halted_step : (n : ℕ) (old before new : List Entry) → Finds n old before →
+    Steps n before new (Turned TurnHalted) → Stays old new
+halted_step n old before new f h = unmoved n old before new f h.2.0
 
-pub full_turn : (n k : ℕ) (old before new : List Entry) (role : Role) (turn : Turn) → Finds n old before →
-    Turns n role before new turn → turn ≡ TurnFull k → Stays old new × IsFull new
-full_turn n k old before new role turn f h is =
-    let g = subst (Turns n role before new) is h in
-    (unmoved n old before new f g.0, subst IsFull (sym g.0) g.1)
+pub unmade_step : (n : ℕ) (old before new : List Entry) → Finds n old before →
+    Steps n before new (Turned TurnNoMemory) → Stays old new
+unmade_step n old before new f h = unmoved n old before new f h.2.0
 
-pub halted_turn : (n : ℕ) (old before new : List Entry) (role : Role) (turn : Turn) → Finds n old before →
-    Turns n role before new turn → turn ≡ TurnHalted → Stays old new
-halted_turn n old before new role turn f h is =
-    unmoved n old before new f (subst (Turns n role before new) is h).0
-
-pub unmade_turn : (n : ℕ) (old before new : List Entry) (role : Role) (turn : Turn) → Finds n old before →
-    Turns n role before new turn → turn ≡ TurnNoMemory → Stays old new
-unmade_turn n old before new role turn f h is =
-    unmoved n old before new f (subst (Turns n role before new) is h).0
+-- the loop of a duty that is named has one
+pub never_idle : (n : ℕ) (before new : List Entry) → Steps n before new (Turned TurnIdle) → ⊥
+never_idle n before new h =
+    let first : first_of (duties (role_of h.0) (replay before)) ≡ Some h.0 = first_of_named (replay before) h.0 h.1 in
+    let none : first_of (duties (role_of h.0) (replay before)) ≡ None = ap first_of h.2.2 in
+    apart_none h.0 (sym none ∙ first)
+  where
+    apart_none : (d : Duty) → None ≡ Some d → ⊥
+    apart_none d e = cc
 
 -- a look
 pub looked : (n m : ℕ) (old new : List Entry) → n ≡ 0 → StartsWith new old →

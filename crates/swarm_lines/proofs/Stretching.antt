@@ -3,7 +3,7 @@ use Rattle.std.proofs.Common.{◌≡◌, ℕ, ◌+◌, ◌-◌, ◌<◌, inl, in
 use Rattle.std.specs.Prelude.{is_some, sum_by}
 use Rattle.std.proofs.lemmas.List.Sums.{sum_by-cons}
 use Rattle.swarm_lines.proofs.Coming.{came_none, came_stays, came_then, saw, stays_came}
-use Rattle.swarm_lines.specs.Came.{Answered, Stays, StaysBy, Turned}
+use Rattle.swarm_lines.specs.Came.{Advanced, Answered, Stays, StaysBusy, StaysBy, Turned}
 use Rattle.swarm_lines.specs.Stretches.{BeganWait, HasNoRoom, Settled, Settling, StoppedWait, StopsTurns, StopsWait, Took, Waited, Waiting}
 use Rattle.swarm_lines.specs.declared.unanswered.Unanswered.{Unanswered}
 use Rattle.swarm_lines.specs.declared.unanswered.Unanswered.TheVariants.{Full, NoMemory}
@@ -44,7 +44,7 @@ looked_for looked new d busy t = record {
   entry = refl;
 }
 
-pub took_more : (n count : ℕ) (old now looked new : List Entry) (d : Duty) → Took n count old now → count < n →
+took_more : (n count : ℕ) (old now looked new : List Entry) (d : Duty) → Took n count old now → count < n →
     Stays now looked → duty_named (settle_answer (replay looked)) ≡ Some d → Turned looked new (role_of d) →
     Took n (count + 1) old new
 took_more n count old now looked new d took below same busy t =
@@ -70,7 +70,7 @@ took_more n count old now looked new d took below same busy t =
     last z (inl e) = subst IsTurn e (looked_for looked new d busy t)
     last z (inr k) = absurd k
 
-pub took_kept : (n count : ℕ) (old now new : List Entry) → Took n count old now → Stays now new → Took n count old new
+took_kept : (n count : ℕ) (old now new : List Entry) → Took n count old now → Stays now new → Took n count old new
 took_kept n count old now new took same = record {
   some = record {
     turns = took.some.turns;
@@ -80,12 +80,6 @@ took_kept n count old now new took same = record {
   };
   count_is = took.count_is;
 }
-
--- a look, and then a turn without a duty
-pub took_both : (n count : ℕ) (old now looked new : List Entry) → Took n count old now → Stays now looked →
-    Stays looked new → Took n count old new
-took_both n count old now looked new took same again =
-    took_kept n count old looked new (took_kept n count old now looked took same) again
 
 pub took_idle : (n count : ℕ) (old now looked : List Entry) → Took n count old now → Stays now looked →
     duty_named (settle_answer (replay looked)) ≡ None → Settled n old looked
@@ -101,19 +95,31 @@ took_all n count old now looked took same all = record {
   idle = λ less. absurd {0} (let is = took.count_is in omega arith);
 }
 
+-- a step more
+pub took_step : (n count : ℕ) (old now new : List Entry) → Took n count old now → count < n → Advanced now new →
+    Took n (count + 1) old new
+took_step n count old now new took below a =
+    took_more n count old now a.looked new a.named took below a.others a.busy a.turned
+
 -- the history had no room for the duty that was named
-pub took_full : (n count : ℕ) (old now looked new : List Entry) (d : Duty) → Took n count old now → count < n →
-    Stays now looked → duty_named (settle_answer (replay looked)) ≡ Some d → Stays looked new × IsFull new →
+pub took_full : (n count : ℕ) (old now new : List Entry) → Took n count old now → count < n → StaysBusy Full now new →
     HasNoRoom n old new
-unfolding took_both took_kept
-took_full n count old now looked new d took below same busy stops =
+unfolding took_kept
+took_full n count old now new took below stops =
     let is = took.count_is in
     record {
-      some = (took_both n count old now looked new took same stops.0).some;
+      some = (took_kept n count old now new took stops.0).some;
       less = omega arith;
-      busy = record { world = replay looked; sees = saw looked new stops.0; busy = ap is_some busy };
+      busy = record { world = replay new; sees = sees_now new; busy = stops.2 };
       full = stops.1;
     }
+
+-- none is done for whatever reason
+pub took_part : (cause : Unanswered) (n count : ℕ) (old now new : List Entry) → Took n count old now → count < n →
+    StaysBusy cause now new → StopsTurns cause n old new
+unfolding took_kept
+took_part Full n count old now new took below stops = took_full n count old now new took below stops
+took_part NoMemory n count old now new took below stops = (took_kept n count old now new took stops).some
 
 -- Stretches of a wait line.
 

@@ -1,15 +1,16 @@
 // Caller 0's calls, looks and turns.
-ghost use Rattle.std.specs.Prelude.{◌≡◌, ℕ, true, false, IfOk, IfErr, Ok, MatchOption};
+ghost use Rattle.std.specs.Prelude.{◌≡◌, ℕ, true, false, IfOk, IfErr, None, Ok, Some, MatchOption};
 ghost use Rattle.swarm_cluster.specs.Looks.{Shows};
-ghost use Rattle.swarm_lines.specs.Came.{Answered, Halts, Stays, StaysBy, Turned};
+ghost use Rattle.swarm_cluster.specs.declared.works.Look.{Look as Looked};
+ghost use Rattle.swarm_lines.specs.Came.{Advanced, Answered, Halts, IsIdle, Stays, StaysBusy, StaysBy};
 ghost use Rattle.swarm_model.specs.History.{replay};
 ghost use Rattle.swarm_objects.specs.CallWords.{is_entry};
 ghost use Rattle.turn_cell.specs.Passes.{number_of, seen, IsPassOf};
 
 use crate::unanswered::Unanswered;
 use std::sync::Wait;
-use swarm_cluster::{Cluster, Look, Pass};
-use swarm_objects::{Call, Refusal, Reply, Role};
+use swarm_cluster::{Advance, Cluster, Look, Pass};
+use swarm_objects::{Call, Refusal, Reply};
 use swarm_world::Turn;
 
 // Why the reply's call is no entry; None where it is one.
@@ -64,24 +65,26 @@ pub fn look<R: Wait>(rt: &R, cluster: &Cluster, pass: &mut Pass) -> Look
     cluster.look(rt, pass).reply
 }
 
-/// Makes a turn of the control loop. Says whether it had a duty, or why it is no entry.
-pub fn turn<R: Wait>(
+/// Does the duty that the settle test names. Gives a look where it names none, or says why it is no entry.
+pub fn advance<R: Wait>(
     rt: &R,
     cluster: &Cluster,
     pass: &mut Pass,
-    role: Role,
-) -> Result<bool, Unanswered>
+) -> Result<Option<Look>, Unanswered>
     requires pass { IsPassOf cluster.now.cell pass.old × (number_of pass.old ≡ 0) }
     ensures pass { IsPassOf cluster.now.cell pass.new × (number_of pass.new ≡ 0) }
-    ensures did { result ≡ Ok true → Turned (seen pass.old) (seen pass.new) role }
-    ensures idle { result ≡ Ok false → Stays (seen pass.old) (seen pass.new) }
-    ensures err { IfErr result (λ cause. StaysBy cause (seen pass.old) (seen pass.new)) }
+    ensures did { result ≡ Ok None → Advanced (seen pass.old) (seen pass.new) }
+    ensures idle { (look : Looked) → result ≡ Ok (Some look) → IsIdle look (seen pass.old) (seen pass.new) }
+    ensures err { IfErr result (λ cause. StaysBusy cause (seen pass.old) (seen pass.new)) }
 {
-    match cluster.turn(rt, pass, role).reply {
-        Turn::Did(_) => Ok(true),
-        Turn::Idle => Ok(false),
-        Turn::Full(_) => Err(Unanswered::Full),
-        Turn::Halted => Err(Unanswered::NoMemory),
-        Turn::NoMemory => Err(Unanswered::NoMemory),
+    match cluster.advance(rt, pass).reply {
+        Advance::Idle(look) => Ok(Some(look)),
+        Advance::Turned(turn) => match turn {
+            Turn::Did(_) => Ok(None),
+            Turn::Full(_) => Err(Unanswered::Full),
+            Turn::Halted => Err(Unanswered::NoMemory),
+            Turn::NoMemory => Err(Unanswered::NoMemory),
+            Turn::Idle => unreachable!(),
+        },
     }
 }

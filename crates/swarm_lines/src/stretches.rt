@@ -36,8 +36,7 @@ fn next_tick(look: Look, left: Ms) -> Ms
     time_till(look.now, look.settle, LONGEST_TICK.min(left))
 }
 
-/// Makes turns of the loop whose duty the settle test names, until it names none or so many duties were done; a turn
-/// that finds none, since a worker was quicker, isn't counted. Gives the last look.
+/// Does the duties that the settle test names, until it names none or so many were done. Gives the last look.
 pub fn take_duties<R: Wait>(
     rt: &R,
     cluster: &Cluster,
@@ -51,23 +50,14 @@ pub fn take_duties<R: Wait>(
     ensures err { IfErr result (λ cause. StopsTurns cause budget (seen pass.old) (seen pass.new)) }
 {
     let mut count = 0;
-    for _ in rt.forever() {
-        let look = caller::look(rt, cluster, pass);
-        let duty = match look.settle.duty() {
-            Some(duty) => duty,
-            None => return Ok(look),
-        };
-        if count == budget {
-            return Ok(look);
-        }
-        match caller::turn(rt, cluster, pass, duty.role()) {
-            Ok(true) => count += 1,
-            Ok(false) => {}
-            Err(Unanswered::Full) => return Err(Unanswered::Full),
-            Err(Unanswered::NoMemory) => return Err(Unanswered::NoMemory),
+    while count < budget {
+        match caller::advance(rt, cluster, pass) {
+            Ok(None) => count += 1,
+            Ok(Some(look)) => return Ok(look),
+            Err(cause) => return Err(cause),
         }
     }
-    unreachable!()
+    Ok(caller::look(rt, cluster, pass))
 }
 
 // Duties, and then a tick of a wait line of which so much is left. Gives what is left then.
