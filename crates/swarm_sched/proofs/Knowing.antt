@@ -523,7 +523,7 @@ changed_knows t cs all usable knows gone = record { each = λ m. go m (recalled 
         counted-alike t u m k
         (changes-leave (is_placed_on m) cs t (λ c h. misses-known t all m k c usable is (gone.each c h))) so
 
-pub ruleset changed_steps = (fewer_knows, changed_knows, spared_knows, none_moved)
+pub ruleset changed_steps = (fewer_knows, changed_knows)
 
 -- what is remembered of a node is so
 pub recalled_are : (t : Tables) (all : List (Option NodeTotals)) (node : ℕ) (k : NodeTotals) → Knows t all →

@@ -4,7 +4,8 @@ use Rattle.std.proofs.Common.{inr, length, not, refl, subst, sym, true}
 use Rattle.std.proofs.lemmas.Bool.Decides.{nat_tests}
 use Rattle.std.specs.List.{list_any}
 use Rattle.std.specs.Option.{option_eq}
-use Rattle.std.specs.Prelude.{IfSome, find, is_none, is_some, ◌&&◌, ◌+◌, ◌==◌, ◌||◌, nat_le, nat_lt, slice_index_or, sum_by}
+use Rattle.std.specs.Prelude.{IfSome, find, is_none, is_some, nat_le, nat_lt, slice_index_or, sum_by}
+use Rattle.std.specs.Prelude.{◌&&◌, ◌+◌, ◌==◌, ◌||◌}
 use Rattle.swarm_filters.specs.Tested.{is_open}
 use Rattle.swarm_objects.proofs.Placing.{here_is}
 use Rattle.swarm_objects.proofs.RowLemmas.{row_at-Some}
@@ -192,7 +193,7 @@ spared_known t cs all usable spared knows =
     group : (g : Refusals) → Has all (Some g) → KnowsGroup u g
     group g h = record { each = λ m. still g m (recalled g m) ((knows.each g h).each m) }
 
-pub ruleset last_steps = (last_known, no_last, none_last, last_is, last_own, spared_known)
+pub ruleset last_steps = (last_known, no_last, none_last, last_is, last_own)
 
 -- One node for one task.
 

@@ -429,7 +429,7 @@ left_stays x y node is le m = elim (decide node m) [
 pub ruleset left_steps = (left_none, left_some, left_stays)
 
 -- a task in another one's place
-load-put : (t : Tables) (x y : Task) (m : ℕ) → IsUsable t → Some y ≡ row_at task_id x.id t.tasks →
+pub load-put : (t : Tables) (x y : Task) (m : ℕ) → IsUsable t → Some y ≡ row_at task_id x.id t.tasks →
     load (apply_change t (change.PutTask x)) m + adds (one_if is_live) m y ≡ load t m + adds (one_if is_live) m x
 load-put t x y m usable row = go (has_row task_id x.id t.tasks) (ap is_some (sym row))
   where

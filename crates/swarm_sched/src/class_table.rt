@@ -69,8 +69,8 @@ impl ClassTable {
         ClassTable { count, values }
     }
 
-    /// A class that is thought to have the best node, where there is any: by one placement preference it is told without
-    /// a look at nodes which one comes first.
+    /// A class that is thought to have the best node, where there is any: by one placement preference it is told
+    /// without a look at nodes which one comes first.
     pub fn leading(&self, keys: &[Key], loads: &[u64; CLASSES]) -> usize
         requires { self.now.count ≤ CLASSES }
         ensures { 0 < self.now.count → result < self.now.count }

@@ -226,8 +226,8 @@ pub struct Moved {
 }
 
 impl Moved {
-    // Of no node.
-    const NONE: Moved = Moved {
+    /// Of no node.
+    pub(crate) const NONE: Moved = Moved {
         from: None,
         to: None,
     };
@@ -472,9 +472,6 @@ impl KnownTotals {
         ensures goes_on { Knows (apply_changes (R.tables rows.now) changes.now) self.new }
         ensures moved { AreMoved (apply_changes (R.tables rows.now) changes.now) result }
     {
-        if are_spared(rows, changes) {
-            return Moved::NONE;
-        }
         let moved = self.moved(rows, changes);
         self.forget_each(rows, changes);
         moved

@@ -6,7 +6,7 @@ ghost use Rattle.swarm_sched.specs.Inside.Known.{AreMoved};
 ghost use Rattle.swarm_sched.specs.Inside.KnownNodes.{KnowsNodes};
 
 use crate::classes::NodeClasses;
-use crate::known::{KnownTotals, Moved};
+use crate::known::{KnownTotals, Moved, are_spared};
 use crate::known_refusals::KnownRefusals;
 use crate::last_group::LastGroup;
 use std::alloc::Global;
@@ -48,7 +48,8 @@ impl KnownNodes {
     }
 
     /// Forgets what these changes of the rows make untrue. It is asked before they are made, and gives what will be so
-    /// of the nodes that are forgotten.
+    /// of the nodes that are forgotten. Where a task counts as the one that it replaces, all stays as it is.
+    #[tactic(auto, using(crate::proofs::Knowing::none_moved))]
     pub fn forget_changed<R: Rows>(&mut self, rows: &R, changes: &[Change]) -> Moved
         requires usable { IsUsable (R.tables rows.now) }
         requires knows { KnowsNodes (R.tables rows.now) self.old }
@@ -56,6 +57,9 @@ impl KnownNodes {
         ensures goes_on { KnowsNodes (apply_changes (R.tables rows.now) changes.now) self.new }
         ensures moved { AreMoved (apply_changes (R.tables rows.now) changes.now) result }
     {
+        if are_spared(rows, changes) {
+            return Moved::NONE;
+        }
         let moved = self.totals.forget_changed(rows, changes);
         self.classes.forget_changed(rows, changes);
         self.refusals.forget_changed(rows, changes);

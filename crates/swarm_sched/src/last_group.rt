@@ -9,7 +9,6 @@ ghost use Rattle.swarm_objects.specs.World.{Tables};
 ghost use Rattle.swarm_sched.specs.Inside.KnownRefusals.{IsRefused, IsRefusal, KnowsGroup, KnowsOwn, KnowsRefusals};
 ghost use Rattle.swarm_sched.specs.Inside.Totals.{AreTotals};
 
-use crate::known::are_spared;
 use crate::known_refusals::{Group, forget_each, renewed_group};
 use crate::totals::{OneNode, Totals};
 use std::alloc::Global;
@@ -79,9 +78,6 @@ impl LastGroup {
         ensures goes_on { KnowsRefusals (apply_changes (R.tables rows.now) changes.now) self.new }
     {
         if self.group.is_none() {
-            return;
-        }
-        if are_spared(rows, changes) {
             return;
         }
         forget_each(slice::from_mut(&mut self.group), rows, changes);

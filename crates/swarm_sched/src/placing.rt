@@ -251,8 +251,8 @@ fn class_in_turn(turn: usize, lead: usize) -> usize
 }
 
 /// The same, where the nodes are sorted into classes, and those of each are kept by rising live tasks: class by class.
-/// How the classes compare stays so with a new best node that is the former one's equal by the preferences; with another
-/// one it is told by the classes, unless there are more preferences than one.
+/// How the classes compare stays so with a new best node that is the former one's equal by the preferences; with
+/// another one it is told by the classes, unless there are more preferences than one.
 pub fn best_of_classes<'a, R: Rows>(
     rows: &'a R,
     known: &mut KnownTotals,

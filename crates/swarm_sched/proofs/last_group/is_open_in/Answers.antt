@@ -6,7 +6,8 @@ pub returns-then-not-has_room-clause-own : goal.returns-then-not-has_room-clause
 returns-then-not-has_room-clause-own g c =
     let t = g.R.Rows.tables c.args.rows.now in
     c.note_refusal.ensures t c.args.task.now c.requires.own
-    (λ some. full_found t c.args.task.now c.args.node.now c.args.group.now c.requires.usable c.requires.row c.requires.own
+    (λ some.
+    full_found t c.args.task.now c.args.node.now c.args.group.now c.requires.usable c.requires.row c.requires.own
     (sym (c.has_room.ensures t c.requires.totals) ∙ c.if-not-has_room.true))
 
 pub returns-in-Some-clause-own : goal.returns-in-Some-clause-own
