@@ -1,5 +1,5 @@
 -- What is waited for of remote nodes, node by node, is what is waited for task by task.
-use Rattle.std.proofs.Common.{Bool, Option, Some, [], cond, false, refl, subst, sym, true, ◌≡◌}
+use Rattle.std.proofs.Common.{Bool, Option, Some, [], cond, false, refl, subst, sym, true, ◌∙◌, ◌≡◌}
 use Rattle.std.specs.Prelude.{filter, flat_map, ◌&&◌}
 use Rattle.swarm_model.proofs.Laws.Room.{is-on-same}
 use Rattle.swarm_model.specs.Settle.{Wait, has_live_session, is_awaited_there, is_behind, is_remote, node_deadline, remote_wait, wait_cmp, wait_till}
@@ -59,8 +59,9 @@ of_nodes t w h =
     Has-flat_map (remote_waits_on t) t.nodes node.0 w node.1
     (subst (λ b. Has (cond b (flat_map (remote_wait t) there) []) w) (sym node.2) within)
 
-pub remote_by_node : (t : Tables) (best : Option Wait) →
-    least_by wait_cmp best (flat_map (remote_waits_on t) t.nodes)
-    ≡ least_by wait_cmp best (flat_map (remote_wait t) t.tasks)
-remote_by_node t best =
-    least_among best (flat_map (remote_waits_on t) t.nodes) (flat_map (remote_wait t) t.tasks) (of_tasks t) (of_nodes t)
+pub remote_by_node : (t : Tables) (best least : Option Wait) →
+    least ≡ least_by wait_cmp best (flat_map (remote_waits_on t) t.nodes) →
+    least ≡ least_by wait_cmp best (flat_map (remote_wait t) t.tasks)
+remote_by_node t best least is =
+    is
+    ∙ least_among best (flat_map (remote_waits_on t) t.nodes) (flat_map (remote_wait t) t.tasks) (of_tasks t) (of_nodes t)

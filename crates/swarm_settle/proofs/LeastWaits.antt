@@ -15,6 +15,12 @@ pub least_append : {X : Type 0} (compare : X → X → Ordering) (best : Option 
 least_append compare best [] ys = refl
 least_append compare best (x ∷ xs) ys = least_append compare (keep_least compare best x) xs ys
 
+-- the same where both were found
+pub least_two : {X : Type 0} (compare : X → X → Ordering) (xs ys : List X) (best mid next : Option X)
+    → mid ≡ least_by compare best xs → next ≡ least_by compare mid ys → next ≡ least_by compare best (xs ++ ys)
+least_two compare xs ys best mid next one two =
+    two ∙ ap (λ o. least_by compare o ys) one ∙ sym (least_append compare best xs ys)
+
 -- one row more is gone through
 pub least_next : {X Y : Type 0} (compare : Y → Y → Ordering) (f : X → List Y) (rows : List X) (i : ℕ) (x : X) (best next whole : Option Y)
     → i < length rows → x ≡ get_or rows i x

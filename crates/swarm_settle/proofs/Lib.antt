@@ -1,10 +1,11 @@
 pub mod Ahead
 pub mod AimSteps
 pub mod Aims
+mod Asking
 pub mod Bound
-pub mod Calm
+mod ByAgent
 mod ByNode
-mod BySession
+pub mod Calm
 pub mod CleanTasks
 pub mod ClosedPlaces
 pub mod Closings
@@ -16,6 +17,7 @@ pub mod FlightTimes
 pub mod Fresh
 pub mod GlobalPlaces
 pub mod Goals
+mod GoingOver
 pub mod HasClosings
 pub mod Held
 pub mod HeldTasks
@@ -32,9 +34,10 @@ mod LeastAmong
 pub mod LeastWaits
 pub mod Matched
 pub mod NearTimes
+mod NextAgents
 pub mod NothingElse
 pub mod Owners
-mod Phases
+pub mod Phases
 pub mod PlaceLists
 mod Promised
 pub mod QuietAgents
@@ -50,7 +53,6 @@ pub mod ShapeLoops
 pub mod ShapeWords
 pub mod Shapes
 mod Standing
-mod Starting
 pub mod Together
 pub mod TogetherCalls
 pub mod Unmet

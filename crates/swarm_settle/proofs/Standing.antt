@@ -90,9 +90,10 @@ answer_seen law t agents =
     ∙ ap (answer_by t (flat_map executor_wait agents)) (λ i node. off_seen agents node i)
 
 -- the world for whose parts the three stand has the answer of the three
-pub stands_answer : TimesLaw → (t : Tables) (s : OnRecord) (agents : List NodeAgent) (w : World) → StandFor t s agents w →
-    idle_answer (world_with t s agents) ≡ idle_answer w
-stands_answer law t s agents w stands =
-    ap (answer_with (with_sessions t s)) stands.agents
+pub stands_answer : TimesLaw → (t : Tables) (s : OnRecord) (agents : List NodeAgent) (answer : Settle) →
+    answer ≡ idle_answer (world_with t s agents) → (w : World) → StandFor t s agents w → answer ≡ idle_answer w
+stands_answer law t s agents answer is w stands =
+    is
+    ∙ ap (answer_with (with_sessions t s)) stands.agents
     ∙ answer_seen law (with_sessions t s) w.agents
     ∙ ap (λ v. answer_with v w.agents) (sym stands.tables)

@@ -1,8 +1,9 @@
 pub mod Agents
 pub mod Aimed
+pub mod Asked
 pub mod Bound
+pub mod ByAgent
 pub mod ByNode
-pub mod BySession
 pub mod Flights
 pub mod Fresh
 pub mod Laws

@@ -2,13 +2,16 @@
 ghost use Rattle.std.specs.Prelude.{◌≡◌, filter, find, flat_map, option_to_list};
 ghost use Rattle.std.specs.Option.{option_copied};
 ghost use Rattle.swarm_model.specs.Settle.{held_by, is_holding, is_paused, is_paused_status, paused_by};
-ghost use Rattle.swarm_objects.specs.Rows.{first_of};
+ghost use Rattle.swarm_objects.specs.Rows.{first_of, service_id};
 ghost use Rattle.swarm_objects.specs.Tasks.Words.{is_of};
 ghost use Rattle.swarm_objects.specs.Usable.{IsUsable};
+ghost use Rattle.swarm_spans.specs.Timed.{is_unfinished};
+ghost use Rattle.swarm_spans.specs.Spans.{Covers};
 
 use role_words::{has_open_run, is_of_version};
-use swarm_objects::walks::{services, tasks_of};
+use swarm_objects::walks::tasks_of;
 use swarm_objects::{Rows, RunStatus, Service, Settle, Task};
+use swarm_spans::{Span, next_service_in};
 
 /// A live clean task of the service is below RUNNING.
 pub fn is_holding(service: &Service, task: &Task) -> bool
@@ -48,16 +51,19 @@ fn held_by<R: Rows>(rows: &R, service: &Service) -> Option<Settle>
     }
 }
 
-// The first service whose run is held up, and the task that does it.
-pub fn held<R: Rows>(rows: &R) -> Option<Settle>
-    requires { IsUsable (R.tables rows.now) }
+/// The first service whose run is held up, and the task that does it. Each service with a run under way is in the span.
+pub fn held<R: Rows>(rows: &R, asked: Span) -> Option<Settle>
+    requires usable { IsUsable (R.tables rows.now) }
+    requires asked { Covers service_id is_unfinished asked (R.tables rows.now).services }
     ensures { result ≡ first_of (flat_map (held_by (R.tables rows.now)) (R.tables rows.now).services) }
 {
-    for service in services(rows) {
+    let mut left = asked;
+    while let Some(service) = next_service_in(rows, &left) {
         let answer = held_by(rows, service);
         if answer.is_some() {
             return answer;
         }
+        left.pass(service.id);
     }
     None
 }
@@ -78,15 +84,29 @@ pub fn is_paused(service: &Service) -> bool
     }
 }
 
-/// The first service whose run is paused, as the answer.
-pub fn paused<R: Rows>(rows: &R) -> Option<Settle>
-    requires { IsUsable (R.tables rows.now) }
+fn paused_by(service: &Service) -> Option<Settle>
+    ensures { option_to_list result ≡ paused_by service.now }
+{
+    if is_paused(service) {
+        Some(Settle::Paused(service.id))
+    } else {
+        None
+    }
+}
+
+/// The first service whose run is paused, as the answer. Each such service is in the span.
+pub fn paused<R: Rows>(rows: &R, asked: Span) -> Option<Settle>
+    requires usable { IsUsable (R.tables rows.now) }
+    requires asked { Covers service_id is_unfinished asked (R.tables rows.now).services }
     ensures { result ≡ first_of (flat_map paused_by (R.tables rows.now).services) }
 {
-    for service in services(rows) {
-        if is_paused(service) {
-            return Some(Settle::Paused(service.id));
+    let mut left = asked;
+    while let Some(service) = next_service_in(rows, &left) {
+        let answer = paused_by(service);
+        if answer.is_some() {
+            return answer;
         }
+        left.pass(service.id);
     }
     None
 }

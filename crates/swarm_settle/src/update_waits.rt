@@ -13,21 +13,23 @@ ghost use Rattle.swarm_model.specs.Settle.{
   watch_wait,
 };
 ghost use Rattle.swarm_objects.specs.Bounds.{is_near_run, is_near_service, is_near_task};
-ghost use Rattle.swarm_objects.specs.Rows.{keep_least, least_by};
+ghost use Rattle.swarm_objects.specs.Rows.{keep_least, least_by, service_id};
 ghost use Rattle.swarm_objects.specs.Tasks.Places.{has_dirty_place};
 ghost use Rattle.swarm_objects.specs.Services.Runs.{is_flying};
 ghost use Rattle.swarm_objects.specs.Tasks.Words.{is_running};
 ghost use Rattle.swarm_objects.specs.Usable.{IsUsable};
 ghost use Rattle.role_words.specs.UpdateMarks.{ShowsUpdates};
+ghost use Rattle.swarm_spans.specs.Timed.{is_unfinished};
 ghost use Rattle.swarm_settle.specs.Flights.{item_times, task_times};
+ghost use Rattle.swarm_spans.specs.Spans.{Covers};
 
 use crate::wait::{Wait, wait_till};
 use role_words::{
     UpdateWindow, has_dirty_place_in, has_room, has_suspect, has_waiting_place, is_flying,
     is_in_flight, is_under_way, is_watched, tasks_of_place, update_places,
 };
-use swarm_objects::walks::services;
 use swarm_objects::{Cause, Ms, Replaced, Rows, Service, Task, UpdateRun};
+use swarm_spans::{Span, next_service_in};
 
 /// The time, where it comes before the least one so far.
 pub fn keep_time(least: Option<Ms>, time: Ms) -> Option<Ms>
@@ -235,14 +237,17 @@ fn update_wait<R: Rows>(rows: &R, best: Option<Wait>, service: &Service) -> Opti
     }
 }
 
-/// The least of the best wait so far and those for updates.
-pub fn update_waits<R: Rows>(rows: &R, best: Option<Wait>) -> Option<Wait>
-    requires { IsUsable (R.tables rows.now) }
+/// The least of the best wait so far and those for updates, of which each is in the span.
+pub fn update_waits<R: Rows>(rows: &R, asked: Span, best: Option<Wait>) -> Option<Wait>
+    requires usable { IsUsable (R.tables rows.now) }
+    requires asked { Covers service_id is_unfinished asked (R.tables rows.now).services }
     ensures { let t = R.tables rows.now in result ≡ least_by wait_cmp best (flat_map (update_wait t) t.services) }
 {
     let mut least = best;
-    for service in services(rows) {
+    let mut left = asked;
+    while let Some(service) = next_service_in(rows, &left) {
         least = update_wait(rows, least, service);
+        left.pass(service.id);
     }
     least
 }

@@ -1,5 +1,5 @@
 // What is waited for beside updates: tasks to be raised, executors, sessions, remote nodes.
-ghost use Rattle.std.specs.Prelude.{◌≡◌, ◌&&◌, IsTrue, filter, flat_map, nat_lt, not, ℕ};
+ghost use Rattle.std.specs.Prelude.{◌≡◌, ◌&&◌, ◌++◌, IfSome, IsTrue, filter, flat_map, nat_lt, not, ℕ};
 ghost use Rattle.swarm_agent.specs.Agent.{at_node};
 ghost use Rattle.swarm_agent.specs.Times.{seen_agent};
 ghost use Rattle.swarm_model.specs.Settle.{
@@ -18,23 +18,25 @@ ghost use Rattle.swarm_model.specs.Settle.{
 };
 ghost use Rattle.swarm_objects.specs.Loops.Agents.{is_mode_on};
 ghost use Rattle.swarm_objects.specs.Nodes.Words.{is_node_and};
-ghost use Rattle.swarm_objects.specs.Rows.{agent_node, is_row_and, least_by};
+ghost use Rattle.swarm_objects.specs.Rows.{agent_node, is_row_and, least_by, node_id};
 ghost use Rattle.swarm_objects.specs.Tasks.Words.{is_live, is_on, is_to_wait};
 ghost use Rattle.swarm_objects.specs.Usable.{IsUsable};
-ghost use Rattle.swarm_settle.specs.BySession.{session_waits_of};
+ghost use Rattle.swarm_settle.specs.Asked.{AreAgentsAsked};
+ghost use Rattle.swarm_settle.specs.ByAgent.{session_waits_of, waits_at};
 ghost use Rattle.swarm_settle.specs.ByNode.{remote_waits_on};
 ghost use Rattle.swarm_settle.specs.Phases.{EndsBefore, kept};
 ghost use Rattle.swarm_settle.specs.Standing.{AgreeOnLive, with_sessions, world_with};
 ghost use Rattle.swarm_spans.specs.Lines.{to_wait};
-ghost use Rattle.swarm_spans.specs.Spans.{CoversTasks};
+ghost use Rattle.swarm_spans.specs.Spans.{Covers, CoversTasks};
 
+use crate::next_agents::next_agent_in;
 use crate::wait::{Wait, wait_till};
 use swarm_agent::theorems::times_that_no_step_looks_at;
 use swarm_agent::{Agent, Agents};
-use swarm_objects::walks::{nodes, tasks_on};
+use swarm_objects::walks::tasks_on;
 use swarm_objects::{AgentMode, Cause, Desired, Id, Ms, Node, Rows, Task, TaskState, rank};
 use swarm_sessions::Sessions;
-use swarm_spans::{Span, next_task_in};
+use swarm_spans::{Span, next_node_in, next_task_in};
 
 // Tasks that wait to be raised.
 
@@ -57,13 +59,13 @@ pub fn start_wait<R: Rows>(rows: &R, best: Option<Wait>, task: &Task) -> Option<
 }
 
 /// The least of the best wait so far and those for tasks to be raised, of which each is in the span.
-pub fn start_waits<R: Rows>(rows: &R, waiting: Span, best: Option<Wait>) -> Option<Wait>
+pub fn start_waits<R: Rows>(rows: &R, asked: Span, best: Option<Wait>) -> Option<Wait>
     requires usable { IsUsable (R.tables rows.now) }
-    requires waiting { CoversTasks to_wait (R.tables rows.now) waiting }
+    requires asked { CoversTasks to_wait (R.tables rows.now) asked }
     ensures { let t = R.tables rows.now in result ≡ least_by wait_cmp best (flat_map (start_wait t) t.tasks) }
 {
     let mut least = best;
-    let mut left = waiting;
+    let mut left = asked;
     while let Some(task) = next_task_in(rows, &left) {
         least = start_wait(rows, least, task);
         left.pass(task.id);
@@ -123,17 +125,6 @@ fn agent_wait(best: Option<Wait>, agent: &Agent) -> Option<Wait>
         return best;
     }
     keep_phase(best, agent.pending())
-}
-
-/// The least of the best wait so far and those for the phases of executors.
-pub fn executor_waits(agents: &Agents, best: Option<Wait>) -> Option<Wait>
-    ensures { result ≡ least_by wait_cmp best (flat_map executor_wait agents.now) }
-{
-    let mut least = best;
-    for (_, agent) in agents.iter() {
-        least = agent_wait(least, agent);
-    }
-    least
 }
 
 // Sessions.
@@ -208,23 +199,80 @@ fn agent_session<R: Rows>(
     }
 }
 
-/// The least of the best wait so far and those for the sessions of nodes whose agents are silent. Nodes of agents that
-/// are on aren't looked at.
-pub fn session_waits<R: Rows>(
+// Executors and sessions, agent by agent.
+
+// The least of the best wait so far and what is waited for at the agent's node.
+fn waits_at<R: Rows>(
+    rows: &R,
+    sessions: &Sessions,
+    agents: &Agents,
+    best: Option<Wait>,
+    id: Id,
+    agent: &Agent,
+) -> Option<Wait>
+    ensures { let w = world_with (R.tables rows.now) sessions.now agents.now in
+        result ≡ least_by wait_cmp best (waits_at w (seen_agent (at_node id agent.now))) }
+{
+    let executed = agent_wait(best, agent);
+    agent_session(rows, sessions, agents, executed, id, agent)
+}
+
+// The same of all agents.
+fn waits_at_all<R: Rows>(
     rows: &R,
     sessions: &Sessions,
     agents: &Agents,
     best: Option<Wait>,
 ) -> Option<Wait>
-    requires { IsUsable (R.tables rows.now) }
-    ensures { let t = R.tables rows.now in let w = world_with t sessions.now agents.now in
-        result ≡ least_by wait_cmp best (flat_map (session_wait w) t.nodes) }
+    ensures { let w = world_with (R.tables rows.now) sessions.now agents.now in
+        result ≡ least_by wait_cmp best (flat_map (waits_at w) agents.now) }
 {
     let mut least = best;
     for (id, agent) in agents.iter() {
-        least = agent_session(rows, sessions, agents, least, *id, agent);
+        least = waits_at(rows, sessions, agents, least, *id, agent);
     }
     least
+}
+
+// The same, where each agent that may be waited for is in the span.
+fn waits_at_some<R: Rows>(
+    rows: &R,
+    sessions: &Sessions,
+    agents: &Agents,
+    asked: Span,
+    best: Option<Wait>,
+) -> Option<Wait>
+    requires { AreAgentsAsked agents.now asked }
+    ensures { let w = world_with (R.tables rows.now) sessions.now agents.now in
+        result ≡ least_by wait_cmp best (flat_map (waits_at w) agents.now) }
+{
+    let mut least = best;
+    let mut left = asked;
+    while let Some((id, agent)) = next_agent_in(agents, &left) {
+        least = waits_at(rows, sessions, agents, least, *id, agent);
+        left.pass(*id);
+    }
+    least
+}
+
+/// The least of the best wait so far, those for the phases of executors, and those for the sessions of nodes whose
+/// agents are silent. Of agents those alone are asked that are in the span, where there is one.
+pub fn agent_waits<R: Rows>(
+    rows: &R,
+    sessions: &Sessions,
+    agents: &Agents,
+    asked: Option<Span>,
+    best: Option<Wait>,
+) -> Option<Wait>
+    requires usable { IsUsable (R.tables rows.now) }
+    requires asked { IfSome asked (AreAgentsAsked agents.now) }
+    ensures { let t = R.tables rows.now in let w = world_with t sessions.now agents.now in
+        result ≡ least_by wait_cmp best (flat_map executor_wait agents.now ++ flat_map (session_wait w) t.nodes) }
+{
+    match asked {
+        Some(span) => waits_at_some(rows, sessions, agents, span, best),
+        None => waits_at_all(rows, sessions, agents, best),
+    }
 }
 
 // Remote nodes.
@@ -339,16 +387,25 @@ fn remote_waits_on<R: Rows>(
     }
 }
 
-/// The least of the best wait so far and those for reports of remote nodes. Tasks of other nodes aren't looked at.
-pub fn remote_waits<R: Rows>(rows: &R, sessions: &Sessions, best: Option<Wait>) -> Option<Wait>
+/// The least of the best wait so far and those for reports of remote nodes, of which each is in the span. Tasks of other
+/// nodes aren't looked at.
+pub fn remote_waits<R: Rows>(
+    rows: &R,
+    sessions: &Sessions,
+    asked: Span,
+    best: Option<Wait>,
+) -> Option<Wait>
     requires usable { IsUsable (R.tables rows.now) }
     requires live { AgreeOnLive (R.tables rows.now) sessions.now }
+    requires asked { Covers node_id is_remote asked (R.tables rows.now).nodes }
     ensures { let t = with_sessions (R.tables rows.now) sessions.now in
         result ≡ least_by wait_cmp best (flat_map (remote_wait t) t.tasks) }
 {
     let mut least = best;
-    for node in nodes(rows) {
+    let mut left = asked;
+    while let Some(node) = next_node_in(rows, &left) {
         least = remote_waits_on(rows, sessions, least, node);
+        left.pass(node.id);
     }
     least
 }

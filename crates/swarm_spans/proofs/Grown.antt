@@ -5,19 +5,17 @@ use Rattle.std.specs.Option.{option_eq}
 use Rattle.std.specs.Prelude.{◌==◌, ◌&&◌, ◌^◌, filter, max, min, nat_le, nat_lt}
 use Rattle.swarm_objects.proofs.RowLemmas.{Has-filter, Has-filter_cases, number_above}
 use Rattle.swarm_objects.proofs.Tests.{both_are}
-use Rattle.swarm_objects.specs.Nodes.Words.{is_down}
 use Rattle.swarm_objects.specs.Rows.{Has, task_id}
 use Rattle.swarm_objects.specs.Same.{same_number}
 use Rattle.swarm_objects.specs.Tasks.Words.{is_of, is_on}
 use Rattle.swarm_objects.specs.Usable.{IsUsable}
 use Rattle.swarm_objects.specs.World.{Tables}
-use Rattle.swarm_objects.specs.declared.nodes.Node.{Node}
 use Rattle.swarm_objects.specs.declared.tasks.Task.{Task}
 use Rattle.swarm_spans.specs.Bits.{has_bit}
 use Rattle.swarm_spans.proofs.HasBits.{all_have, more_bits, own_bit}
-use Rattle.swarm_spans.specs.Grown.{Adding, AddingOnDown}
+use Rattle.swarm_spans.specs.Grown.{Adding}
 use Rattle.swarm_spans.specs.Spans.{full, is_in, IsWider, onwards, with_id}
-use Rattle.swarm_spans.specs.Touched.{HasTasksOf, HasTasksOn, HasTasksOnDown}
+use Rattle.swarm_spans.specs.Touched.{HasTasksOf, HasTasksOn}
 use Rattle.swarm_spans.specs.declared.span.Span.{Span}
 
 pub wider_itself : (span : Span) → IsWider span span
@@ -133,40 +131,6 @@ pub is_wider : (all items : List Task) (first span : Span) → Adding all items 
 is_wider all items first span a = a.wider
 
 pub ruleset adding_steps = (nothing_added, one_added, all_added, is_wider)
-
--- The tasks on nodes that are DOWN, node by node.
-
-pub none_on_down : (t : Tables) (span : Span) → AddingOnDown t t.nodes span
-none_on_down t span = record { each = λ n h down. inr h }
-
-pub one_on_down : (t : Tables) (items rest : List Node) (span wide : Span) (n : Node) → AddingOnDown t items span
-    → items ≡ n ∷ rest → IsWider wide span → (is_down n.state ≡ true → HasTasksOn n.id t wide)
-    → AddingOnDown t rest wide
-one_on_down t items rest span wide n a step wider own = record {
-  each = λ m h down.
-      elim (a.each m h down) [
-        | inl has ↦ inl (record { tasks = λ x there on. wider.has x.id (has.tasks x there on) })
-        | inr left ↦ now m down (subst (λ list. Has list m) step left)
-      ];
-}
-  where
-    now : (m : Node) → is_down m.state ≡ true → ((n ≡ m) ⊎ Has rest m) → HasTasksOn m.id t wide ⊎ Has rest m
-    now m down (inl same) =
-        inl (subst (λ (k : Node). HasTasksOn k.id t wide) same
-        (own (subst (λ (k : Node). is_down k.state ≡ true) (sym same) down)))
-    now m down (inr h) = inr h
-
-pub all_on_down : (t : Tables) (items : List Node) (span : Span) → AddingOnDown t items span → items ≡ []
-    → HasTasksOnDown t span
-all_on_down t items span a none = record {
-  nodes = λ n h down.
-      elim (a.each n h down) [
-        | inl has ↦ has
-        | inr left ↦ absurd (subst (λ list. Has list n) none left)
-      ];
-}
-
-pub ruleset on_down_steps = (none_on_down, one_on_down, all_on_down)
 
 -- both of two
 has-all : (b c : Span) → ((id : ℕ) → has_bit b.bits id ≡ true → has_bit c.bits id ≡ true) → b.high ≤ c.high

@@ -5,7 +5,7 @@ use Rattle.std.proofs.lemmas.List.{get_or-replicate, get_or-set_other, get_or-se
 use Rattle.std.proofs.lemmas.Nat.Bits.{bit_at-lt, bit_at-pow_same, bit_at_above, bit_at_clear_other, bit_at_ones, bit_at_or, bit_at-trailing_zeros, bit_at-zero, shr_and_one}
 use Rattle.std.proofs.lemmas.Nat.{one_shl, shr-shr}
 use Rattle.std.specs.Int.{bit_at, trailing_zeros, w64}
-use Rattle.swarm_spans.specs.Bits.{all_bits, has_bit, have_one_bit, with_bit, without_bit, word, word_of}
+use Rattle.swarm_spans.specs.Bits.{all_bits, has_bit, have_one_bit, with_bit, with_word, without_bit, word, word_of}
 use Rattle.swarm_spans.specs.declared.bits.Bits.{Bits}
 
 pub all_have : (k : ℕ) → has_bit all_bits k ≡ true
@@ -91,6 +91,25 @@ pub more_bits : (bits : Bits) (id k : ℕ) → has_bit bits k ≡ true → has_b
 more_bits bits id k has =
     keeps bits id (bit_or (word bits id) (2 ^ (id % 64))) k has
     (λ same was. or_bit (word bits id) (2 ^ (id % 64)) (k % 64) was)
+
+-- A word of which all bits are set.
+
+pub own_word : (bits : Bits) (k n : ℕ) → word_of k ≡ n → has_bit (with_word bits n) k ≡ true
+unfolding has_bit
+own_word bits k n is = go (ltb n (length bits.words)) refl
+  where
+    go : (b : Bool) → ltb n (length bits.words) ≡ b → has_bit (with_word bits n) k ≡ true
+    go true e =
+        ap (λ (m : ℕ). eqb (bit_at m (k % 64)) 1)
+        (ap (λ (m : ℕ). get_or (set bits.words n (2 ^ 64 - 1)) m (2 ^ 64 - 1)) is
+        ∙ get_or-set_same bits.words n (2 ^ 64 - 1) (2 ^ 64 - 1) (grind (arith, nat_tests, e)))
+        ∙ ap (λ (m : ℕ). eqb m 1) (bit_at_ones 64 (k % 64) (omega arith))
+    go false e =
+        let far : length bits.words ≤ n = grind (arith, nat_tests, e) in
+        ap (λ (m : ℕ). eqb (bit_at m (k % 64)) 1)
+        (ap (λ (ws : List ℕ). get_or ws (word_of k) (2 ^ 64 - 1)) (set_past bits.words n (2 ^ 64 - 1) far)
+        ∙ ap (λ (m : ℕ). get_or bits.words m (2 ^ 64 - 1)) is ∙ get_or_past bits.words n (2 ^ 64 - 1) far)
+        ∙ ap (λ (m : ℕ). eqb m 1) (bit_at_ones 64 (k % 64) (omega arith))
 
 -- A bit that is cleared.
 

@@ -1,6 +1,7 @@
 pub mod Alike
 pub mod Blocked
 pub mod Coming
+pub mod DownNodes
 pub mod Firsts
 pub mod Grown
 pub mod HasBits
@@ -17,6 +18,8 @@ pub mod Scheduling
 pub mod Services
 pub mod TasksCovered
 pub mod TasksRun
+pub mod Timing
 pub mod Told
 pub mod Touches
 pub mod Waiting
+pub mod Waking

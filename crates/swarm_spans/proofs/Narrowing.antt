@@ -1,16 +1,16 @@
 -- A span narrowed from both ends: rows that pass a test are in the narrow one, or in what is left of the wide one.
-use Rattle.std.proofs.Common.{◌≡◌, ◌<◌, ◌∙◌, Bool, List, None, Option, Some, ap, false, refl, subst, sym, true}
+use Rattle.std.proofs.Common.{◌≡◌, ◌<◌, ◌∙◌, ℕ, Bool, List, None, Option, Some, ap, false, refl, subst, sym, true}
 use Rattle.std.specs.Prelude.{find, is_some, not, ◌&&◌}
 use Rattle.swarm_objects.proofs.RowLemmas.{number_above}
 use Rattle.swarm_objects.proofs.Tests.{both_are, find_has}
-use Rattle.swarm_objects.specs.Rows.{Has, first_of, task_id}
+use Rattle.swarm_objects.specs.Rows.{Has, RisesFrom, first_of, task_id}
 use Rattle.swarm_objects.specs.Usable.{IsUsable}
 use Rattle.swarm_objects.specs.World.{Tables}
 use Rattle.swarm_objects.specs.declared.duties.Duty.{Duty}
 use Rattle.swarm_objects.specs.declared.tasks.Task.{Task}
 use Rattle.swarm_spans.proofs.Grown.{own-with, wider_itself, wider_with}
 use Rattle.swarm_spans.proofs.InSpans.{first-none, nothing-passes, passed}
-use Rattle.swarm_spans.specs.Spans.{Covers, HasDutyOf, beyond, has_duty, is_in, is_left_out, with_id}
+use Rattle.swarm_spans.specs.Spans.{Covers, HasDutyOf, IsWider, beyond, has_duty, is_in, is_left_out, with_id}
 use Rattle.swarm_spans.specs.declared.span.Span.{Span}
 
 -- One task.
@@ -31,58 +31,66 @@ no_duty duties x span o is none = record {
 
 pub ruleset duty_steps = (duty_added, no_duty)
 
--- All tasks.
+-- All rows.
 
-pub narrow_begins : (test : Task → Bool) (narrow span : Span) (rows : List Task) → Covers task_id test span rows
-    → Covers task_id (is_left_out task_id test narrow) span rows
-narrow_begins test narrow span rows c = record {
-  has = λ x h e. c.has x h (both_are (test x) (not (is_in narrow x.id)) e).0;
+pub narrow_begins : {X : Type 0} (key : X → ℕ) (test : X → Bool) (narrow span : Span) (rows : List X)
+    → Covers key test span rows → Covers key (is_left_out key test narrow) span rows
+narrow_begins key test narrow span rows c = record {
+  has = λ x h e. c.has x h (both_are (test x) (not (is_in narrow (key x))) e).0;
 }
+
+pub narrow_passes : {X : Type 0} (key : X → ℕ) (test : X → Bool) (rows : List X) (narrow wide left : Span) (x : X)
+    → RisesFrom key 0 rows → Covers key (is_left_out key test narrow) left rows
+    → find (λ y. is_in left (key y)) rows ≡ Some x → IsWider wide narrow
+    → (0 < key x → test x ≡ true → is_in wide (key x) ≡ true)
+    → Covers key (is_left_out key test wide) (beyond left (key x)) rows
+narrow_passes {X} key test rows narrow wide left x rises c found wider own = record {
+  has =
+      passed key (is_left_out key test wide) left 0 rows x rises (record { has = λ y h e. c.has y h (was y e) }) found
+      (fails (test x) refl (is_in wide (key x)) refl);
+}
+  where
+    was : (y : X) → is_left_out key test wide y ≡ true → is_left_out key test narrow y ≡ true
+    was y e =
+        let two = both_are (test y) (not (is_in wide (key y))) e in
+        go (is_in narrow (key y)) refl two.0 two.1
+      where
+        go : (b : Bool) → is_in narrow (key y) ≡ b → test y ≡ true → not (is_in wide (key y)) ≡ true
+            → (test y && not b) ≡ true
+        go true i d out =
+            let both : false ≡ true = sym (ap not (wider.has (key y) i)) ∙ out in
+            absurd cc
+        go false i d out = ap (λ b. b && true) d
+
+    fails : (d : Bool) → test x ≡ d → (i : Bool) → is_in wide (key x) ≡ i → (d && not i) ≡ false
+    fails false d i e = refl
+    fails true d true e = refl
+    fails true d false e =
+        let there : Has rows x = (find_has (λ y. is_in left (key y)) rows x found).0 in
+        let positive : 0 < key x = number_above key 0 rows x rises there in
+        let both : true ≡ false = sym (own positive d) ∙ e in
+        absurd cc
 
 pub narrow_goes_on : (duties : Task → List Duty) (t : Tables) (narrow wide left : Span) (x : Task) → IsUsable t
     → Covers task_id (is_left_out task_id (has_duty duties) narrow) left t.tasks
     → Some x ≡ find (λ y. is_in left y.id) t.tasks → HasDutyOf duties x narrow wide
     → Covers task_id (is_left_out task_id (has_duty duties) wide) (beyond left x.id) t.tasks
-narrow_goes_on duties t narrow wide left x usable c found has = record {
-  has =
-      passed task_id (is_left_out task_id (has_duty duties) wide) left 0 t.tasks x usable.sound.ordered.tasks
-      (record { has = λ y h e. c.has y h (was y e) }) (sym found) (fails (has_duty duties x) refl (is_in wide x.id) refl);
-}
-  where
-    was : (y : Task) → is_left_out task_id (has_duty duties) wide y ≡ true
-        → is_left_out task_id (has_duty duties) narrow y ≡ true
-    was y e =
-        let two = both_are (has_duty duties y) (not (is_in wide y.id)) e in
-        go (is_in narrow y.id) refl two.0 two.1
-      where
-        go : (b : Bool) → is_in narrow y.id ≡ b → has_duty duties y ≡ true → not (is_in wide y.id) ≡ true
-            → (has_duty duties y && not b) ≡ true
-        go true i d out =
-            let both : false ≡ true = sym (ap not (has.wider.has y.id i)) ∙ out in
-            absurd cc
-        go false i d out = ap (λ b. b && true) d
+narrow_goes_on duties t narrow wide left x usable c found has =
+    narrow_passes task_id (has_duty duties) t.tasks narrow wide left x usable.sound.ordered.tasks c (sym found) has.wider
+    has.own
 
-    fails : (d : Bool) → has_duty duties x ≡ d → (i : Bool) → is_in wide x.id ≡ i → (d && not i) ≡ false
-    fails false d i e = refl
-    fails true d true e = refl
-    fails true d false e =
-        let there : Has t.tasks x = (find_has (λ y. is_in left y.id) t.tasks x (sym found)).0 in
-        let positive : 0 < x.id = number_above task_id 0 t.tasks x usable.sound.ordered.tasks there in
-        let both : true ≡ false = sym (has.own positive d) ∙ e in
-        absurd cc
-
-pub narrow_ends : (test : Task → Bool) (narrow left : Span) (rows : List Task)
-    → Covers task_id (is_left_out task_id test narrow) left rows → None ≡ find (λ y. is_in left y.id) rows
-    → Covers task_id test narrow rows
-narrow_ends test narrow left rows c none = record {
+pub narrow_ends : {X : Type 0} (key : X → ℕ) (test : X → Bool) (narrow left : Span) (rows : List X)
+    → Covers key (is_left_out key test narrow) left rows → None ≡ find (λ y. is_in left (key y)) rows
+    → Covers key test narrow rows
+narrow_ends {X} key test narrow left rows c none = record {
   has = λ x h passes.
-      go x passes (is_in narrow x.id) refl
-      (nothing-passes (is_left_out task_id test narrow) rows
-      (first-none task_id (is_left_out task_id test narrow) left rows c (sym none)) x h);
+      go x passes (is_in narrow (key x)) refl
+      (nothing-passes (is_left_out key test narrow) rows
+      (first-none key (is_left_out key test narrow) left rows c (sym none)) x h);
 }
   where
-    go : (x : Task) → test x ≡ true → (b : Bool) → is_in narrow x.id ≡ b → (test x && not (is_in narrow x.id)) ≡ false
-        → b ≡ true
+    go : (x : X) → test x ≡ true → (b : Bool) → is_in narrow (key x) ≡ b
+        → (test x && not (is_in narrow (key x))) ≡ false → b ≡ true
     go x passes true i out = refl
     go x passes false i out =
         let both : true ≡ false = sym (ap (λ b. test x && not b) i ∙ ap (λ b. b && true) passes) ∙ out in

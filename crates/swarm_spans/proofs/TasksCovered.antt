@@ -1,5 +1,5 @@
 -- All spans of the lines over single tasks and over nodes, over one list of changes.
-use Rattle.std.proofs.Common.{Bool, List, Some, inl, inr, refl, subst, sym, true, ℕ, ap, ◌∙◌, ◌≡◌, ◌⊎◌}
+use Rattle.std.proofs.Common.{Bool, List, Some, inl, inr, refl, subst, sym, true, ℕ, ap, ◌∙◌, ◌≡◌, ◌≤◌, ◌⊎◌}
 use Rattle.std.specs.List.{list_any}
 use Rattle.std.specs.Prelude.{nat_le, not}
 use Rattle.swarm_objects.proofs.RowLemmas.{Has-from_row_at, number_above, row_at-Some}
@@ -36,7 +36,7 @@ use Rattle.swarm_spans.specs.Kept.{AlikeFor, KeepsNodes, KeepsServices, KeepsTas
 use Rattle.swarm_spans.specs.Lines.{addresses, AlikeCounting, AlikeDown, AlikeNumbered, AlikeOlds, AlikePlatform, AlikePorts, AlikeThere, AlikeValid, deletes, expires, goes, is_to_allocate, is_to_schedule, notes, olds, orphans, raises, rejects, restarts, ScheduledAsBefore, to_allocate, to_schedule, to_wait}
 use Rattle.swarm_spans.specs.Moved.{moves}
 use Rattle.swarm_spans.specs.Spans.{CoversNodes, CoversTasks, full, has_duty, is_in, IsWider, with_id}
-use Rattle.swarm_spans.specs.TasksCovered.{at_time, HasOthersSessions, with_sessions}
+use Rattle.swarm_spans.specs.TasksCovered.{at_time, HasEnds, HasOthersSessions, with_sessions}
 use Rattle.swarm_spans.specs.Touched.{HasTasksOnDown, TouchesAll, TouchesAllReady}
 use Rattle.swarm_spans.specs.declared.span.Span.{Span}
 
@@ -249,6 +249,16 @@ schedules_all t u waiting span wide same usable waits all c wider =
     (λ x e. has-when (is_to_schedule x) _ ∙ e) waits all)
 
 -- The time.
+
+pub expires_at : (until : ℕ) (t : Tables) (span ends wide : Span) → HasEnds until t span ends → IsWider wide span
+    → IsWider wide ends → (clock : ℕ) → clock ≤ until → CoversNodes expires (at_time clock t) wide
+expires_at until t span ends wide has wider all clock le = record {
+  has = λ n h due.
+      elim (has.each clock le n h (sym (has-when (is_expired (at_time clock t) n) _) ∙ due)) [
+        | inl i ↦ wider.has n.id i
+        | inr i ↦ all.has n.id i
+      ];
+}
 
 -- whatever the time, an orphan's node is DOWN
 pub orphans_at : (t : Tables) (clock : ℕ) (wide : Span) → HasTasksOnDown t wide

@@ -26,5 +26,9 @@ abbrev pub without_bit : Bits → ℕ → Bits
 without_bit bits id =
     record { words = slice_set bits.words (word_of id) (bit_and (word bits id) (2 ^ 64 - 1 - 2 ^ (id % 64))) }
 
+-- all bits of this word too
+abbrev pub with_word : Bits → ℕ → Bits
+with_word bits n = record { words = slice_set bits.words n (2 ^ 64 - 1) }
+
 abbrev pub have_one_bit : ℕ → ℕ → Bool
 have_one_bit id other = id % 1024 == other % 1024

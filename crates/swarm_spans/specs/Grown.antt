@@ -16,5 +16,6 @@ pub record Adding (all left : List Task) (first span : Span) : Type 0 where
   pub fewer : (y : Task) → Has left y → Has all y
 
 -- the tasks of each node that is DOWN are in the span, or the node is among those that are left
-pub record AddingOnDown (t : Tables) (left : List Node) (span : Span) : Type 0 where
-  pub each : (n : Node) → Has t.nodes n → is_down n.state ≡ true → HasTasksOn n.id t span ⊎ Has left n
+pub record AddingOnDown (t : Tables) (left span : Span) : Type 0 where
+  pub each : (n : Node) → Has t.nodes n → is_down n.state ≡ true
+      → HasTasksOn n.id t span ⊎ (is_in left n.id ≡ true)

@@ -9,5 +9,7 @@ pub mod RunsOn
 pub mod Services
 pub mod Spans
 pub mod TasksCovered
+pub mod Timed
 pub mod Told
 pub mod Touched
+pub mod Wakes

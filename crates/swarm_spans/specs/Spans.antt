@@ -6,7 +6,7 @@ use Rattle.swarm_objects.specs.declared.duties.Duty.{Duty}
 use Rattle.swarm_objects.specs.declared.nodes.Node.{Node}
 use Rattle.swarm_objects.specs.declared.services.Service.{Service}
 use Rattle.swarm_objects.specs.declared.tasks.Task.{Task}
-use Rattle.swarm_spans.specs.Bits.{all_bits, has_bit, no_bits, with_bit, without_bit}
+use Rattle.swarm_spans.specs.Bits.{all_bits, has_bit, no_bits, with_bit, with_word, without_bit}
 use Rattle.swarm_spans.specs.declared.span.Span.{Span}
 
 abbrev pub is_in : Span → ℕ → Bool
@@ -23,6 +23,10 @@ full = record { after = 0; high = 2 ^ 64 - 1; bits = all_bits }
 -- each number from this one on
 abbrev pub onwards : ℕ → Span
 onwards id = record { after = id - 1; high = 2 ^ 64 - 1; bits = all_bits }
+
+-- each number of this word
+abbrev pub all_of_word : ℕ → Span
+all_of_word n = record { after = 0; high = 2 ^ 64 - 1; bits = with_word no_bits n }
 
 abbrev pub with_id : Span → ℕ → Span
 with_id span id =

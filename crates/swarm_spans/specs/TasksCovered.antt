@@ -1,6 +1,7 @@
 -- All spans of the lines over single tasks and over nodes, and what they cover.
 use Rattle.std.specs.Prelude.{List, Some, true, ℕ, ◌<◌, ◌≡◌, ◌≤◌, ◌⊎◌}
 use Rattle.swarm_objects.specs.ChangeLists.{apply_change}
+use Rattle.swarm_objects.specs.Loops.Dispatcher.{is_expired}
 use Rattle.swarm_objects.specs.Loops.Scheduler.{schedule}
 use Rattle.swarm_objects.specs.Nodes.Words.{is_ready}
 use Rattle.swarm_objects.specs.Rows.{Has, node_id, row_at, service_id, session_node}
@@ -12,7 +13,8 @@ use Rattle.swarm_objects.specs.declared.services.Service.{Service}
 use Rattle.swarm_objects.specs.declared.sessions.NodeSession.{NodeSession}
 use Rattle.swarm_objects.specs.declared.tasks.Task.{Task}
 use Rattle.swarm_spans.specs.Lines.{addresses, deletes, expires, goes, notes, olds, orphans, raises, rejects, restarts, to_allocate, to_schedule, to_wait}
-use Rattle.swarm_spans.specs.Spans.{CoversNodes, CoversTasks}
+use Rattle.swarm_spans.specs.Spans.{CoversNodes, CoversTasks, is_in}
+use Rattle.swarm_spans.specs.declared.span.Span.{Span}
 use Rattle.swarm_spans.specs.declared.task_spans.TaskSpans.{TaskSpans}
 
 -- each line is covered
@@ -49,9 +51,15 @@ SessionLaw node spans wide =
 abbrev pub at_time : ℕ → Tables → Tables
 at_time clock t = record t { clock = clock }
 
--- the ones cover what the others do of these tables, at any time
-abbrev pub TimeLaw : Tables → TaskSpans → TaskSpans → Type 0
-TimeLaw t spans wide = (clock : ℕ) → AreTasksCovered t spans → AreTasksCovered (at_time clock t) wide
+-- at any time up to this one each node whose session is over is in the span, or in that of sessions' ends
+pub record HasEnds (until : ℕ) (t : Tables) (span ends : Span) : Type 0 where
+  pub each : (clock : ℕ) → clock ≤ until → (n : Node) → Has t.nodes n → is_expired (at_time clock t) n ≡ true
+      → (is_in span n.id ≡ true) ⊎ (is_in ends n.id ≡ true)
+
+-- the ones cover what the others do of these tables, at any time up to this one
+abbrev pub TimeLaw : ℕ → Tables → TaskSpans → TaskSpans → Type 0
+TimeLaw until t spans wide =
+    (clock : ℕ) → clock ≤ until → AreTasksCovered t spans → AreTasksCovered (at_time clock t) wide
 
 -- where the others cover these tables, the ones do what a row of this service makes of them, whatever is in it
 abbrev pub PutLaw : ℕ → Tables → TaskSpans → TaskSpans → Type 0

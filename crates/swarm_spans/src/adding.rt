@@ -1,13 +1,16 @@
 // Spans that get the tasks of a service, beside another one or on a node.
 ghost use Rattle.std.specs.Prelude.{◌≡◌, true};
 ghost use Rattle.swarm_objects.specs.Nodes.Words.{is_down};
+ghost use Rattle.swarm_objects.specs.Rows.{node_id};
 ghost use Rattle.swarm_objects.specs.Usable.{IsUsable};
 ghost use Rattle.swarm_spans.specs.Blocked.{AddsToWait};
-ghost use Rattle.swarm_spans.specs.Spans.{IsWider};
+ghost use Rattle.swarm_spans.specs.Spans.{Covers, IsWider};
+ghost use Rattle.swarm_spans.specs.Timed.{is_down_node};
 ghost use Rattle.swarm_spans.specs.Touched.{HasTasksOf, HasTasksOn, HasTasksOnDown, HasWaitingBeside};
 
+use crate::next::next_node_in;
 use crate::span::Span;
-use swarm_objects::walks::{nodes, tasks_at, tasks_of, tasks_on};
+use swarm_objects::walks::{tasks_at, tasks_of, tasks_on};
 use swarm_objects::{Id, Node, Rows, Task};
 
 /// Each task of the service too.
@@ -69,15 +72,18 @@ fn add_tasks_where_down<R: Rows>(rows: &R, node: &Node, span: &mut Span)
     }
 }
 
-/// Each task on a node that is DOWN.
-#[tactic(auto, using(crate::proofs::Grown::on_down_steps))]
-pub fn tasks_on_down<R: Rows>(rows: &R) -> Span
-    requires { IsUsable (R.tables rows.now) }
+/// Each task on a node that is DOWN. Each such node is in the span.
+#[tactic(auto, using(crate::proofs::DownNodes::on_down_steps))]
+pub fn tasks_on_down<R: Rows>(rows: &R, downs: &Span) -> Span
+    requires usable { IsUsable (R.tables rows.now) }
+    requires downs { Covers node_id is_down_node downs.now (R.tables rows.now).nodes }
     ensures { HasTasksOnDown (R.tables rows.now) result }
 {
     let mut span = Span::empty();
-    for node in nodes(rows) {
+    let mut left = *downs;
+    while let Some(node) = next_node_in(rows, &left) {
         add_tasks_where_down(rows, node, &mut span);
+        left.pass(node.id);
     }
     span
 }

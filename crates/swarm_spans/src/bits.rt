@@ -1,6 +1,14 @@
 // A bit for each of 1,024 rests.
 ghost use Rattle.std.specs.Prelude.{◌≡◌, ◌≤◌, ◌<◌, ◌==◌, ℕ, false, true};
-ghost use Rattle.swarm_spans.specs.Bits.{all_bits, has_bit, no_bits, with_bit, without_bit, word_of};
+ghost use Rattle.swarm_spans.specs.Bits.{
+  all_bits,
+  has_bit,
+  no_bits,
+  with_bit,
+  with_word,
+  without_bit,
+  word_of,
+};
 
 use swarm_objects::Id;
 
@@ -8,7 +16,7 @@ use swarm_objects::Id;
 const WORD: u64 = 64;
 
 // The words.
-const WORDS: usize = 16;
+pub const WORDS: usize = 16;
 
 /// A number's bit is that of its rest by 1,024.
 #[derive(Clone, Copy, Drop)]
@@ -17,7 +25,7 @@ pub struct Bits {
 }
 
 // The number's word.
-fn word_of(id: Id) -> usize
+pub fn word_of(id: Id) -> usize
     ensures within { result < 16 }
     ensures word { result ≡ word_of id }
 {
@@ -63,6 +71,14 @@ impl Bits {
         ensures { self.new ≡ without_bit self.old id }
     {
         self.words[word_of(id)] &= !(1 << (id % WORD));
+    }
+
+    /// Sets all bits of this word.
+    pub fn set_word(&mut self, word: usize)
+        requires { word < 16 }
+        ensures { self.new ≡ with_word self.old word }
+    {
+        self.words[word] = u64::MAX;
     }
 
     /// Sets the bits that the other one has.

@@ -18,6 +18,12 @@
 // `touch_new_nodes` what rows touch that a call makes. What else changes (settings, networks, rows that calls remove)
 // makes all spans full. Where only a step's events are known, `events_tell_all` says that what they don't name is as it
 // was.
+//
+// A tick of the clock shall cost what it concerns, too. `TimedSpans` has the rows for which time passes: services with
+// an update under way or paused, nodes that are DOWN, remote nodes. They too are touched by a commit's changes and by
+// rows that come, and `narrow` takes those out again for which time passes no more. `touch_time` takes these spans, and
+// one of the nodes whose session may be over by the time that is given. Such a span is made by `Wakes`, which has times
+// at which rows are to join one.
 #![tactic(auto)]
 
 mod adding;
@@ -27,6 +33,7 @@ mod first;
 mod holding;
 mod laws;
 mod next;
+mod passing;
 pub mod reads;
 mod running;
 mod service_laws;
@@ -36,7 +43,9 @@ mod service_touches;
 mod service_trims;
 mod span;
 mod task_spans;
+mod timed_spans;
 mod touching;
+mod wakes;
 
 pub use adding::{add_tasks_of, add_tasks_on};
 pub use blocking::{touch_blocked, touch_moved};
@@ -51,4 +60,6 @@ pub use service_touches::{Places, Sight, Updates, add_shifted};
 pub use service_trims::add_remains;
 pub use span::Span;
 pub use task_spans::TaskSpans;
+pub use timed_spans::TimedSpans;
 pub use touching::{NodeReads, ServiceReads, TaskReads, touch_nodes, touch_tasks};
+pub use wakes::Wakes;

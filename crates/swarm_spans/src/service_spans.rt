@@ -2,11 +2,11 @@
 ghost use Rattle.std.specs.Prelude.{◌≡◌};
 ghost use Rattle.std.specs.List.{list_any};
 ghost use Rattle.swarm_objects.specs.ChangeLists.{apply_changes};
+ghost use Rattle.swarm_objects.specs.Rows.{service_id};
 ghost use Rattle.swarm_objects.specs.Usable.{IsUsable};
 ghost use Rattle.swarm_objects.specs.World.{Tables};
 ghost use Rattle.swarm_spans.specs.Services.Touches.{
   AreCovered,
-  HasUpdated,
   Joins,
   JoinsForNodes,
   NewServicesLaw,
@@ -15,12 +15,13 @@ ghost use Rattle.swarm_spans.specs.Services.Touches.{
   ServiceTimeLaw,
   puts_node,
 };
+ghost use Rattle.swarm_spans.specs.Spans.{Covers};
+ghost use Rattle.swarm_spans.specs.Timed.{is_unfinished};
 
 use crate::service_ports::{add_numbered, add_ports_of};
-use crate::service_touches::{Places, Updates, add_shifted, has_open_run};
+use crate::service_touches::{Places, Updates, add_shifted};
 use crate::service_trims::{add_remains, add_tasks_of};
 use crate::span::Span;
-use swarm_objects::walks::services;
 use swarm_objects::{Change, Id, Rows};
 
 /// A span for each line over services, and for the line over old tasks.
@@ -69,21 +70,6 @@ fn widen_for_nodes(changes: &[Change], span: &mut Span, more: &Span)
     } else {
         widen(span, more);
     }
-}
-
-// Each service with an update under way.
-#[tactic(auto, using(crate::proofs::Services::Spans::updated_steps))]
-fn services_updated<R: Rows>(rows: &R) -> Span
-    requires { IsUsable (R.tables rows.now) }
-    ensures { HasUpdated (R.tables rows.now) result }
-{
-    let mut span = Span::empty();
-    for service in services(rows) {
-        if has_open_run(service) {
-            span.add(service.id);
-        }
-    }
-    span
 }
 
 impl ServiceSpans {
@@ -143,13 +129,12 @@ impl ServiceSpans {
     }
 
     /// With what may have a duty as time goes by, and nothing else changes: updates that are under way, which wait for
-    /// the ends of delays and monitors.
-    pub fn touch_time<R: Rows>(&mut self, rows: &R)
-        requires { IsUsable (R.tables rows.now) }
-        ensures goes_on { ServiceTimeLaw (R.tables rows.now) self.old self.new }
+    /// the ends of delays and monitors. The span has those that are paused, too.
+    pub fn touch_time(&mut self, updates: &Span)
+        ensures goes_on { (t : Tables) → IsUsable t → Covers service_id is_unfinished updates.now t.services
+            → ServiceTimeLaw t self.old self.new }
     {
-        let updated = services_updated(rows);
-        widen(&mut self.updates, &updated);
+        widen(&mut self.updates, updates);
     }
 
     /// With services that come from this id on, and nothing else changes. Their ports may leave others fewer numbers.

@@ -1,6 +1,7 @@
 // Numbers from one to another, of which some are left out by their rests.
-ghost use Rattle.std.specs.Prelude.{◌≡◌, ◌==◌, ◌≤◌, ◌<◌, ◌-◌, ◌^◌, ℕ, false, nat_le};
-ghost use Rattle.swarm_spans.specs.Spans.{beyond, empty, full, is_in, IsWider, onwards, with_id};
+ghost use Rattle.std.specs.Prelude.{◌≡◌, ◌==◌, ◌≤◌, ◌<◌, ◌-◌, ◌^◌, ℕ, false, nat_le, true};
+ghost use Rattle.swarm_spans.specs.Bits.{word_of};
+ghost use Rattle.swarm_spans.specs.Spans.{all_of_word, beyond, empty, full, is_in, IsWider, onwards, with_id};
 
 use crate::bits::Bits;
 use swarm_objects::Id;
@@ -49,6 +50,20 @@ impl Span {
         }
     }
 
+    // Each number of this word of the bits.
+    fn of_word(word: usize) -> Span
+        requires { word < 16 }
+        ensures { result ≡ all_of_word word }
+    {
+        let mut bits = Bits::none();
+        bits.set_word(word);
+        Span {
+            after: 0,
+            high: u64::MAX,
+            bits,
+        }
+    }
+
     /// It goes on to the last number, as it does after `full`.
     pub fn is_endless(&self) -> bool
         ensures { result ≡ (self.now.high == 2 ^ 64 - 1) }
@@ -77,6 +92,15 @@ impl Span {
         self.after = self.after.min(id.saturating_sub(1));
         self.high = self.high.max(id);
         self.bits.set(id);
+    }
+
+    /// Each number of this word of the bits too.
+    pub fn add_word(&mut self, word: usize)
+        requires { word < 16 }
+        ensures wider { IsWider self.new self.old }
+        ensures all { (id : ℕ) → word_of id ≡ word → 0 < id → id < 2 ^ 64 → is_in self.new id ≡ true }
+    {
+        self.join(Span::of_word(word));
     }
 
     /// What lies above. The number's bit is cleared where no number above has the same.

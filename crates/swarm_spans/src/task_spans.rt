@@ -3,6 +3,7 @@ ghost use Rattle.std.specs.Prelude.{◌≡◌, true};
 ghost use Rattle.std.specs.List.{list_any};
 ghost use Rattle.swarm_objects.specs.ChangeLists.{apply_changes};
 ghost use Rattle.swarm_objects.specs.Loops.Scheduler.{schedule};
+ghost use Rattle.swarm_objects.specs.Rows.{node_id};
 ghost use Rattle.swarm_objects.specs.Tasks.Words.{is_to_wait};
 ghost use Rattle.swarm_objects.specs.Usable.{IsUsable};
 ghost use Rattle.swarm_objects.specs.World.{Tables};
@@ -22,15 +23,17 @@ ghost use Rattle.swarm_spans.specs.Lines.{
 };
 ghost use Rattle.swarm_spans.specs.Moved.{moves};
 ghost use Rattle.swarm_spans.specs.RunsOn.{PutsRunning};
-ghost use Rattle.swarm_spans.specs.Spans.{IsWider};
+ghost use Rattle.swarm_spans.specs.Spans.{Covers, IsWider};
 ghost use Rattle.swarm_spans.specs.TasksCovered.{
   AreTasksCovered,
+  HasEnds,
   NodesLaw,
   PutLaw,
   ServicesLaw,
   SessionLaw,
   TimeLaw,
 };
+ghost use Rattle.swarm_spans.specs.Timed.{is_down_node};
 ghost use Rattle.swarm_spans.specs.Touched.{TouchesAll};
 
 use crate::adding::{add_tasks_of, tasks_on_down};
@@ -44,7 +47,7 @@ use crate::reads::{
 use crate::running::put_running;
 use crate::span::Span;
 use crate::touching::{NodeReads, ServiceReads, TaskReads, touch_nodes, touch_tasks};
-use swarm_objects::{Change, Id, Rows};
+use swarm_objects::{Change, Id, Ms, Rows};
 
 /// A span for each line over single tasks, and for the line over nodes. The last three are of all tasks that wait for
 /// something: others are widened by them.
@@ -230,14 +233,16 @@ impl TaskSpans {
         self.schedules.join(self.to_schedule);
     }
 
-    /// With what may have a duty as time goes by, and nothing else changes. At any time only tasks on nodes that are
-    /// DOWN are orphans.
-    pub fn touch_time<R: Rows>(&mut self, rows: &R)
-        requires { IsUsable (R.tables rows.now) }
-        ensures goes_on { TimeLaw (R.tables rows.now) self.old self.new }
+    /// With what may have a duty as time goes by up to this time, and nothing else changes. At any time only tasks on
+    /// nodes that are DOWN are orphans, and a session is over only for the nodes that are in the span of its ends.
+    pub fn touch_time<R: Rows>(&mut self, rows: &R, downs: &Span, ends: &Span, until: Ms)
+        requires usable { IsUsable (R.tables rows.now) }
+        requires downs { Covers node_id is_down_node downs.now (R.tables rows.now).nodes }
+        requires ends { HasEnds until (R.tables rows.now) self.old.expires ends.now }
+        ensures goes_on { TimeLaw until (R.tables rows.now) self.old self.new }
     {
-        self.expires = Span::full();
-        self.orphans = tasks_on_down(rows);
+        self.expires.join(*ends);
+        self.orphans = tasks_on_down(rows, downs);
         self.raises.join(self.to_wait);
         self.schedules.join(self.to_schedule);
     }

@@ -30,9 +30,11 @@ use Rattle.swarm_spans.specs.declared.span.Span.{Span}
 use Rattle.swarm_world.proofs.AgentsAlone.{TurnsAlone, beat-alone, one-agent, pull-alone, register-alone, taken-node}
 use Rattle.swarm_world.proofs.AgentsShown.{IsShown, had-duty, had-message, is_busy, same-tables, some-duty, wants-both, wants-parts}
 use Rattle.swarm_world.proofs.KnownSteps.{known-after}
+use Rattle.swarm_settle.specs.Asked.{may_wait}
 use Rattle.swarm_world.proofs.ReportsAlone.{IsPlaced, executor-of, report-alone, reported-shows}
+use Rattle.swarm_world.proofs.Restless.{shown-restless}
 use Rattle.swarm_world.proofs.Unsaid.{had-unsaid, unsaid-more}
-use Rattle.swarm_world.specs.Inside.Looks.{AreSpanned, is_told, is_unsaid, wants_message}
+use Rattle.swarm_world.specs.Inside.Looks.{AreSpanned, is_restless, is_told, is_unsaid, wants_message}
 use Rattle.swarm_world.specs.Inside.Spanned.{after_turn, news_by, told_by}
 use Rattle.swarm_world.specs.declared.agent_spans.AgentSpans.{AgentSpans}
 
@@ -225,6 +227,26 @@ own-heard w (duty.Forget k x) n span busy a is own at within covers there node u
     own-added k n span busy (let same : k ≡ n = cc in same) within
 own-heard w _ n span busy a is own at within covers there node unsaid = absurd cc
 
+-- nor is it waited for after a duty of another agent
+own-awaited : (w : World) (d : Duty) (n : ℕ) (span busy : Span) (a : NodeAgent) → role_of d ≡ role.Agents →
+    first_of (duty_numbers d) ≡ Some n → is_in busy n ≡ true → Covers agent_node may_wait span w.agents →
+    Has (effect w d).agents a → a.node ≡ n → may_wait a ≡ true → is_in (news_by d span) n ≡ true
+own-awaited w (duty.Register k) n span busy a own at within covers there node waits =
+    own-added k n span busy (let same : k ≡ n = cc in same) within
+own-awaited w (duty.Beat k) n span busy a own at within covers there node waits =
+    subst (λ j. is_in span j ≡ true) node (covers.has a there waits)
+own-awaited w (duty.Apply k) n span busy a own at within covers there node waits =
+    own-added k n span busy (let same : k ≡ n = cc in same) within
+own-awaited w (duty.Pull k) n span busy a own at within covers there node waits =
+    own-added k n span busy (let same : k ≡ n = cc in same) within
+own-awaited w (duty.Exec k x) n span busy a own at within covers there node waits =
+    own-added k n span busy (let same : k ≡ n = cc in same) within
+own-awaited w (duty.Report k x) n span busy a own at within covers there node waits =
+    own-added k n span busy (let same : k ≡ n = cc in same) within
+own-awaited w (duty.Forget k x) n span busy a own at within covers there node waits =
+    own-added k n span busy (let same : k ≡ n = cc in same) within
+own-awaited w _ n span busy a own at within covers there node waits = absurd cc
+
 covers-after : (w : World) (d : Duty) (spans : AgentSpans) → GivesOut w → RisesFrom agent_node 0 w.agents →
     role_of d ≡ role.Agents → is_due w d ≡ true → AreSpanned w spans w.agents →
     AreSpanned (effect w d) (after_turn d spans) (effect w d).agents
@@ -237,6 +259,9 @@ covers-after w d spans gives rises own due covers =
       duties =
           covers-alone is_busy w v node.0 spans.duties spans.duties had-duty alone (wider_itself spans.duties)
           (λ a there at busy. node.2) covers.duties;
+      sleeps =
+          covers-alone (is_restless spans.wakes) w v node.0 spans.duties spans.duties (shown-restless spans.wakes) alone
+          (wider_itself spans.duties) (λ a there at restless. node.2) covers.sleeps;
       tells =
           covers-alone wants_message w v node.0 spans.tells (told_by d spans.tells) had-message alone
           (told-wider d spans.tells)
@@ -245,6 +270,11 @@ covers-after w d spans gives rises own due covers =
           covers-alone is_unsaid w v node.0 spans.news (news_by d spans.news) had-unsaid alone (news-wider d spans.news)
           (λ a there at unsaid.
           own-heard w d node.0 spans.news spans.duties a is own node.1 node.2 covers.news there at unsaid) covers.news;
+      waits =
+          covers-alone (λ x. may_wait) w v node.0 spans.waits (news_by d spans.waits) (λ x y a shows waits. waits) alone
+          (news-wider d spans.waits)
+          (λ a there at waits. own-awaited w d node.0 spans.waits spans.duties a own node.1 node.2 covers.waits there at waits)
+          covers.waits;
       steps = known-after w d spans.steps own covers.steps;
     }
 

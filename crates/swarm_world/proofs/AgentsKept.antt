@@ -18,6 +18,7 @@ use Rattle.swarm_world.proofs.Entering.{number-is}
 use Rattle.swarm_world.proofs.KnownSteps.{known-less}
 use Rattle.swarm_world.proofs.Recorded.{tables_are}
 use Rattle.swarm_world.proofs.RowsTurned.{covers-rows}
+use Rattle.swarm_world.specs.Inside.Looks.{is_restless, looked_at}
 use Rattle.swarm_world.specs.Inside.Parts.{HasParts, IsAt}
 use Rattle.swarm_world.specs.Inside.Records.{tables_of}
 use Rattle.swarm_world.specs.Inside.Spanned.{AgentsSpanLaw, AreWider, CoversAgents, after_turn}
@@ -33,8 +34,15 @@ shows p w has = record { tables = tables_are p.records w has.records; sent = has
 pub covered_wider : (p : Parts) (spans wide : AgentSpans) → AreWider wide spans → CoversAgents p spans → CoversAgents p wide
 covered_wider p spans wide wider covers = record {
   duties = record { has = λ a there busy. wider.duties.has a.node (covers.duties.has a there busy) };
+  sleeps = record {
+    has = λ a there restless.
+        wider.duties.has a.node
+        (covers.sleeps.has a there
+        (subst (λ k. is_restless k (looked_at (tables_of p.records) p.sent) a ≡ true) wider.wakes restless));
+  };
   tells = record { has = λ a there wants. wider.tells.has a.node (covers.tells.has a there wants) };
   news = record { has = λ a there unsaid. wider.news.has a.node (covers.news.has a there unsaid) };
+  waits = record { has = λ a there waits. wider.waits.has a.node (covers.waits.has a there waits) };
   steps = λ a there.
       known-less (tables_of p.records).clock spans.steps wide.steps a (wider.steps a.node) (covers.steps a there);
 }

@@ -12,8 +12,11 @@ use Rattle.swarm_spans.specs.Spans.{Covers, is_in}
 use Rattle.swarm_spans.specs.declared.span.Span.{Span}
 use Rattle.swarm_world.proofs.AgentsShown.{ShowsNoMore, had-duty, had-message, is_busy, same-tables}
 use Rattle.swarm_world.proofs.KnownSteps.{known-seen, seen-known}
+use Rattle.swarm_world.proofs.Restless.{restless-seen, shown-restless}
+use Rattle.swarm_world.proofs.StillWaiting.{waits-seen}
 use Rattle.swarm_world.proofs.Unsaid.{had-unsaid, seen-unsaid, unsaid-seen}
-use Rattle.swarm_world.specs.Inside.Looks.{AreSpanned, HasNoStep, is_unsaid, looked_at, wants_message}
+use Rattle.swarm_settle.specs.Asked.{may_wait}
+use Rattle.swarm_world.specs.Inside.Looks.{AreSpanned, HasNoStep, is_restless, is_unsaid, looked_at, wants_message}
 use Rattle.swarm_world.specs.declared.agent_spans.AgentSpans.{AgentSpans}
 
 -- these tables, what was sent and agents are the world's, but for times that no step looks at
@@ -71,6 +74,11 @@ world-covered times t sent agents w spans shows covers =
       duties =
           to-rows (is_busy l) (is_busy w) spans.duties agents w.agents shows.agents
           (λ a passes. to-seen times t sent agents w a shows passes) covers.duties;
+      sleeps =
+          to-rows (is_restless spans.wakes l) (is_restless spans.wakes w) spans.duties agents w.agents shows.agents
+          (λ a restless.
+          shown-restless spans.wakes w l (seen_agent a) (seen-tables t sent agents w (seen_agent a) shows).1
+          (restless-seen times spans.wakes w a ∙ restless)) covers.sleeps;
       tells =
           to-rows (wants_message l) (wants_message w) spans.tells agents w.agents shows.agents
           (λ a wants. had-message w l (seen_agent a) (seen-tables t sent agents w (seen_agent a) shows).1 wants) covers.tells;
@@ -79,6 +87,9 @@ world-covered times t sent agents w spans shows covers =
           (λ a unsaid.
           had-unsaid w l (seen_agent a) (seen-tables t sent agents w (seen_agent a) shows).1
           (unsaid-seen w a unsaid)) covers.news;
+      waits =
+          to-rows may_wait may_wait spans.waits agents w.agents shows.agents (λ a waits. waits-seen times a ∙ waits)
+          covers.waits;
       steps = λ a there.
           seen-known times w.tables.clock spans.steps a
           (subst (λ k. HasNoStep k spans.steps (seen_agent a)) (ap (λ (u : Tables). u.clock) shows.tables)
@@ -95,6 +106,12 @@ seen-covered times t sent agents w spans shows covers =
       duties =
           from-rows (is_busy l) (is_busy w) spans.duties agents w.agents shows.agents
           (λ a passes. from-seen times t sent agents w a shows passes) covers.duties;
+      sleeps =
+          from-rows (is_restless spans.wakes l) (is_restless spans.wakes w) spans.duties agents w.agents shows.agents
+          (λ a restless.
+          sym (restless-seen times spans.wakes w a)
+          ∙ shown-restless spans.wakes l w (seen_agent a) (seen-tables t sent agents w (seen_agent a) shows).0 restless)
+          covers.sleeps;
       tells =
           from-rows (wants_message l) (wants_message w) spans.tells agents w.agents shows.agents
           (λ a wants. had-message l w (seen_agent a) (seen-tables t sent agents w (seen_agent a) shows).0 wants) covers.tells;
@@ -103,6 +120,9 @@ seen-covered times t sent agents w spans shows covers =
           (λ a unsaid.
           seen-unsaid w a
           (had-unsaid l w (seen_agent a) (seen-tables t sent agents w (seen_agent a) shows).0 unsaid)) covers.news;
+      waits =
+          from-rows may_wait may_wait spans.waits agents w.agents shows.agents
+          (λ a waits. sym (waits-seen times a) ∙ waits) covers.waits;
       steps = λ a there.
           let of = Has-map_cases seen_agent w.agents a (subst (λ all. Has all a) shows.agents there) in
           subst (HasNoStep t.clock spans.steps) of.2

@@ -48,7 +48,7 @@ pub more-joined : (xs ys us vs : List Duty) (d : Duty) → (Has xs d → Has us 
 more-joined xs ys us vs d first second =
     from_either xs ys d (λ h. Has-append_left us vs d (first h)) (λ h. Has-append_right us vs d (second h))
 
-more-when : (b c : Bool) (e d : Duty) → (b ≡ true → c ≡ true) → Has (when b e) d → Has (when c e) d
+pub more-when : (b c : Bool) (e d : Duty) → (b ≡ true → c ≡ true) → Has (when b e) d → Has (when c e) d
 more-when b c e d more = from_when (λ x. Has (when c e) x) b e d (λ t. to_when c e (more t))
 
 pub more-where : {X : Type 0} (p q : X → Bool) (f : X → Duty) (rows : List X) (d : Duty) →

@@ -50,6 +50,8 @@ agents_taken law version h d (Err wanting) p q spans is own due after =
       duties = wider_itself spans.duties;
       tells = told-wider d spans.tells;
       news = news-wider d spans.news;
+      waits = news-wider d spans.waits;
+      wakes = refl;
       steps = steps-less d spans.steps;
     })
 
@@ -74,5 +76,7 @@ rows_taken law version h d all cs (Err wanting) p q spans wide is other due make
       duties = are.duties.wider;
       tells = are.tells.wider;
       news = same_wider spans.news wide.news are.news;
+      waits = same_wider spans.waits wide.waits are.waits;
+      wakes = are.wakes;
       steps = λ node. same_steps spans.steps wide.steps node are.steps;
     }) covers

@@ -22,8 +22,9 @@ use Rattle.swarm_spans.proofs.Services.Outcomes.{TaskTurns, task-turns}
 use Rattle.swarm_spans.specs.Spans.{Covers, is_in}
 use Rattle.swarm_spans.specs.declared.span.Span.{Span}
 use Rattle.swarm_world.proofs.AgentsShown.{IsShown, ShowsNoMore, had-duty, had-message, is_busy}
+use Rattle.swarm_world.proofs.Restless.{shown-restless}
 use Rattle.swarm_world.proofs.Unsaid.{unsaid-more}
-use Rattle.swarm_world.specs.Inside.Looks.{AreSpanned, HasNoStep, is_unsaid, wants_message}
+use Rattle.swarm_world.specs.Inside.Looks.{AreSpanned, HasNoStep, is_restless, is_unsaid, wants_message}
 use Rattle.swarm_world.specs.Inside.Touches.{AreTouched, TellsSame, TouchesAllTold, WidensTold, told_on}
 use Rattle.swarm_world.specs.declared.agent_spans.AgentSpans.{AgentSpans}
 use Rattle.swarm_world.specs.declared.agent_spans.Steps.{Steps}
@@ -241,9 +242,18 @@ spans-touched w v cs spans wide gives order before after makes sent agents are c
   duties =
       covers-touched is_busy w v cs spans.duties wide.duties had-duty gives order before after makes sent agents are.duties
       covers.duties;
+  sleeps =
+      subst (λ k. Covers agent_node (is_restless k v) wide.duties v.agents) (sym are.wakes)
+      (covers-touched (is_restless spans.wakes) w v cs spans.duties wide.duties (shown-restless spans.wakes) gives order
+      before after makes sent agents are.duties covers.sleeps);
   tells =
       covers-touched wants_message w v cs spans.tells wide.tells had-message gives order before after makes sent agents
       are.tells covers.tells;
   news = unsaid-touched w v cs spans.news wide.news gives makes agents are.news covers.news;
+  waits = record {
+    has = λ a there waits.
+        subst (λ (s : Span). is_in s a.node ≡ true) (sym are.waits)
+        (covers.waits.has a (subst (λ rows. Has rows a) agents there) waits);
+  };
   steps = steps-touched w v cs spans.steps wide.steps makes agents are.steps covers.steps;
 }

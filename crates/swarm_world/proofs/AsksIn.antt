@@ -1,5 +1,5 @@
 -- The first duty of the agents' loop, by the spans of its nodes.
-use Rattle.std.proofs.Common.{◌≡◌, ◌-◌, ◌<◌, ◌∙◌, ◌∷◌, [], ℕ, Bool, true, false, List, Some, None, ap, inl, inr, refl, subst, sym}
+use Rattle.std.proofs.Common.{◌≡◌, ◌≤◌, ◌-◌, ◌<◌, ◌∙◌, ◌∷◌, [], ℕ, Bool, true, false, List, Some, None, ap, inl, inr, refl, subst, sym}
 use Rattle.std.specs.Prelude.{find, flat_map, is_some, nat_le}
 use Rattle.swarm_agent.specs.Agent.{AgentState, at_node}
 use Rattle.swarm_agent.specs.Times.{TimesLaw, seen_agent}
@@ -19,13 +19,23 @@ use Rattle.swarm_spans.specs.declared.span.Span.{Span}
 use Rattle.swarm_world.proofs.AgentsShown.{wants-duty, wants-parts}
 use Rattle.swarm_world.proofs.KnownSteps.{nothing-known, passed-on, seen-known}
 use Rattle.swarm_world.proofs.LooksOn.{rises-seen}
+use Rattle.swarm_world.proofs.Restless.{asleep, restless-seen, sooner-covers}
 use Rattle.swarm_world.proofs.Unsaid.{unsaid-duty, unsaid-same, unsaid-seen}
-use Rattle.swarm_world.specs.Inside.Looks.{AreSpanned, EachRises, HasNoStep, IsAsked, IsHeard, IsPassed, has_news_on, is_told, is_unsaid, no_steps, wants_message}
+use Rattle.swarm_settle.specs.Asked.{may_wait}
+use Rattle.swarm_spans.specs.Wakes.{wake_at}
+use Rattle.swarm_spans.specs.declared.wakes.Wakes.{Wakes}
+use Rattle.swarm_world.specs.Inside.Looks.{AreSpanned, EachRises, HasNoStep, IsAsked, IsHeard, IsPassed, SleepsTill, has_news_on, is_restless, is_told, is_unsaid, no_steps, wants_message}
 use Rattle.swarm_world.specs.declared.agent_spans.AgentSpans.{AgentSpans}
 
 -- the agent with its node, as it is seen
 abbrev pub seen_on : ℕ → AgentState → NodeAgent
 seen_on node a = seen_agent (at_node node a)
+
+-- the agent sleeps till this time where it has no duty, and is woken no later; and no other one is woken later than before
+pub record Rests (w : World) (a : NodeAgent) (time : ℕ) (old new : Wakes) : Type 0 where
+  pub sleeps : has_duty (agent_duties w) a ≡ false → SleepsTill w a time
+  pub till : wake_at new a.node ≤ time
+  pub sooner : (node : ℕ) → wake_at new node ≤ wake_at old node
 
 -- it is the first in the span
 abbrev pub IsNext : List NodeAgent → Span → ℕ → AgentState → Type 0
@@ -136,11 +146,15 @@ news-on w agents spans news node a rises covers is (inr left) = record {
 
 pub next_stays : (times : TimesLaw) (w : World) (agents : List NodeAgent) (spans next : AgentSpans) (node : ℕ) (a : AgentState) →
     RisesFrom agent_node 0 agents → AreSpanned w spans agents → IsNext agents spans.duties node a →
-    next.duties ≡ spans.duties → IsAsked w node spans.tells next.tells →
-    IsHeard w (at_node node a) spans.news next.news →
+    next.duties ≡ spans.duties → next.wakes ≡ spans.wakes → next.waits ≡ spans.waits →
+    IsAsked w node spans.tells next.tells → IsHeard w (at_node node a) spans.news next.news →
     IsPassed w.tables.clock (at_node node a) spans.steps next.steps → AreSpanned w next agents
-next_stays times w agents spans next node a rises covers is same asked heard passed = record {
+next_stays times w agents spans next node a rises covers is same wakes waits asked heard passed = record {
   duties = subst (λ (s : Span). Covers agent_node (has_duty (agent_duties w)) s agents) (sym same) covers.duties;
+  sleeps =
+      subst (λ (s : Span). Covers agent_node (is_restless next.wakes w) s agents) (sym same)
+      (subst (λ k. Covers agent_node (is_restless k w) spans.duties agents) (sym wakes) covers.sleeps);
+  waits = subst (λ (s : Span). Covers agent_node may_wait s agents) (sym waits) covers.waits;
   tells = tells-on w agents spans next.tells node a rises covers is asked;
   news = news-on w agents spans next.news node a rises covers is heard;
   steps =
@@ -151,15 +165,23 @@ next_stays times w agents spans next node a rises covers is same asked heard pas
 -- where it has no duty it leaves the span
 pub next_passes : (times : TimesLaw) (w : World) (agents : List NodeAgent) (spans next : AgentSpans) (node : ℕ) (a : AgentState) →
     RisesFrom agent_node 0 agents → AreSpanned w spans agents → IsNext agents spans.duties node a →
-    next.duties ≡ beyond spans.duties node → IsAsked w node spans.tells next.tells →
+    next.duties ≡ beyond spans.duties node → (till : ℕ) → Rests w (at_node node a) till spans.wakes next.wakes →
+    next.waits ≡ spans.waits → IsAsked w node spans.tells next.tells →
     IsHeard w (at_node node a) spans.news next.news →
     IsPassed w.tables.clock (at_node node a) spans.steps next.steps →
     None ≡ first_of (agent_duties w (at_node node a)) → AreSpanned w next agents
-next_passes times w agents spans next node a rises covers is left asked heard known none = record {
+next_passes times w agents spans next node a rises covers is left till rests waits asked heard known none = record {
   duties = subst (λ (s : Span). Covers agent_node (has_duty (agent_duties w)) s agents) (sym left) (record {
     has = passed agent_node (has_duty (agent_duties w)) spans.duties 0 agents (seen_on node a) rises covers.duties (sym is)
         (ap (λ (ds : List Duty). is_some (first_of ds)) (times.duties w (at_node node a)) ∙ ap is_some (sym none));
   });
+  sleeps = subst (λ (s : Span). Covers agent_node (is_restless next.wakes w) s agents) (sym left) (record {
+    has = passed agent_node (is_restless next.wakes w) spans.duties 0 agents (seen_on node a) rises
+        (sooner-covers spans.wakes next.wakes w spans.duties agents rests.sooner covers.sleeps) (sym is)
+        (restless-seen times next.wakes w (at_node node a)
+        ∙ asleep next.wakes w (at_node node a) till (ap is_some (sym none)) (rests.sleeps (ap is_some (sym none))) rests.till);
+  });
+  waits = subst (λ (s : Span). Covers agent_node may_wait s agents) (sym waits) covers.waits;
   tells = tells-on w agents spans next.tells node a rises covers is asked;
   news = news-on w agents spans next.news node a rises covers is heard;
   steps =
@@ -185,10 +207,15 @@ over_has w agents spans covers over = none_has w agents spans covers (sym (none-
 
 pub none_spanned : (w : World) (agents : List NodeAgent) (spans next : AgentSpans) → AreSpanned w spans agents →
     None ≡ find (λ b. is_in spans.duties b.node) agents → next.duties ≡ empty → next.tells ≡ empty →
-    next.news ≡ empty → next.steps ≡ no_steps → AreSpanned w next agents
-none_spanned w agents spans next covers none duties tells news steps = record {
+    next.news ≡ empty → next.waits ≡ spans.waits → next.steps ≡ no_steps → next.wakes ≡ spans.wakes →
+    AreSpanned w next agents
+none_spanned w agents spans next covers none duties tells news waits steps wakes = record {
   duties = subst (λ (s : Span). Covers agent_node (has_duty (agent_duties w)) s agents) (sym duties)
       (none-left agent_node (has_duty (agent_duties w)) spans.duties agents covers.duties (sym none));
+  sleeps = subst (λ (s : Span). Covers agent_node (is_restless next.wakes w) s agents) (sym duties)
+      (subst (λ k. Covers agent_node (is_restless k w) empty agents) (sym wakes)
+      (none-left agent_node (is_restless spans.wakes w) spans.duties agents covers.sleeps (sym none)));
+  waits = subst (λ (s : Span). Covers agent_node may_wait s agents) (sym waits) covers.waits;
   tells = subst (λ (s : Span). Covers agent_node (wants_message w) s agents) (sym tells)
       (none-left agent_node (wants_message w) spans.duties agents (wants-covered w agents spans covers) (sym none));
   news = subst (λ (s : Span). Covers agent_node (is_unsaid w) s agents) (sym news)

@@ -33,6 +33,7 @@ use Rattle.swarm_objects.specs.declared.services.Service.{Service}
 use Rattle.swarm_objects.specs.declared.watches.Watcher.{Watcher}
 use Rattle.swarm_spans.specs.Services.Touches.{NewServicesLaw}
 use Rattle.swarm_spans.specs.TasksCovered.{HasNewServices, ServicesLaw, with_services}
+use Rattle.swarm_spans.specs.Timed.{TimedServicesLaw}
 use Rattle.swarm_world.proofs.Entering.{are_usable}
 use Rattle.swarm_world.proofs.Recorded.{tables_are, usable_rows}
 use Rattle.swarm_world.specs.Inside.Known.{ForgetsServices}
@@ -244,9 +245,10 @@ stay-marked m p q w v has stay marked =
 
 come-marked : (m n : Marks) (p q : Parts) (h : List Entry) (v : World) → IsLegal h → StandsFor p (replay h)
     → HasParts q v → HasHistory q → Comes (replay h) v → ServicesLaw m.tasks n.tasks
-    → NewServicesLaw (tables_of p.records).next_id m.services n.services → n.agents ≡ m.agents → ForgetsServices m.known n.known
-    → IsMarked m p → IsMarked n q
-come-marked m n p q h v legal stands has is come tasks services agents forgets marked =
+    → NewServicesLaw (tables_of p.records).next_id m.services n.services
+    → TimedServicesLaw (tables_of p.records).next_id m.timed n.timed → n.agents ≡ m.agents
+    → ForgetsServices m.known n.known → IsMarked m p → IsMarked n q
+come-marked m n p q h v legal stands has is come tasks services timed agents forgets marked =
     let t = tables_of p.records in
     let u = with_services come.next_id come.services t in
     let before : t ≡ (replay h).tables = tables_are p.records (replay h) stands.has.records in
@@ -264,6 +266,7 @@ come-marked m n p q h v legal stands has is come tasks services agents forgets m
           (record {
             tasks = tasks t.next_id t come.next_id come.services usable new marked.rows.tasks;
             services = services t come.next_id come.services usable later new marked.rows.services;
+            timed = timed t come.next_id come.services later new marked.rows.timed;
             known = forgets t u refl refl marked.rows.known;
           });
       agents =
@@ -272,8 +275,10 @@ come-marked m n p q h v legal stands has is come tasks services agents forgets m
           (same-agents p q (replay h) v left come.agents)
           (record {
             duties = record { has = λ a there busy. marked.agents.duties.has a there busy };
+            sleeps = record { has = λ a there restless. marked.agents.sleeps.has a there restless };
             tells = record { has = λ a there wants. marked.agents.tells.has a there wants };
             news = record { has = λ a there unsaid. marked.agents.news.has a there unsaid };
+            waits = marked.agents.waits;
             steps = marked.agents.steps;
           }));
     }
@@ -281,15 +286,17 @@ come-marked m n p q h v legal stands has is come tasks services agents forgets m
 -- a transaction that makes services alone
 pub made_marked : (m n : Marks) (ops : List Op) (p : Parts) (first : ℕ) → first ≡ (tables_of p.records).next_id
     → true ≡ list_all makes_service ops → ServicesLaw m.tasks n.tasks → NewServicesLaw first m.services n.services
-    → n.agents ≡ m.agents → ForgetsServices m.known n.known → (h : List Entry) (q : Parts) → IsLegal h → StandsFor p (replay h)
+    → TimedServicesLaw first m.timed n.timed → n.agents ≡ m.agents → ForgetsServices m.known n.known
+    → (h : List Entry) (q : Parts) → IsLegal h → StandsFor p (replay h)
     → IsMarked m p → HasHistory q → IsAfterCall h (call.Txn ops) q → IsMarked n q
-made_marked m n ops p first from make tasks services agents forgets h q legal stands marked is after =
+made_marked m n ops p first from make tasks services timed agents forgets h q legal stands marked is after =
     let laws = subst (λ k. NewServicesLaw k m.services n.services) from services in
+    let timed_laws = subst (λ k. TimedServicesLaw k m.timed n.timed) from timed in
     elim after [
       | inl done ↦
           come-marked m n p q h (step (replay h) (what.Call (call.Txn ops))).after legal stands done.has is
-          (made (replay h) ops (sym make)) tasks laws agents forgets marked
+          (made (replay h) ops (sym make)) tasks laws timed_laws agents forgets marked
       | inr same ↦
           come-marked m n p q h (replay h) legal stands same.has is (none-come (replay h) (replay h) refl refl refl) tasks
-          laws agents forgets marked
+          laws timed_laws agents forgets marked
     ]

@@ -12,7 +12,7 @@ use Rattle.swarm_objects.specs.declared.agents.NodeAgent.{NodeAgent}
 use Rattle.swarm_spans.proofs.Grown.{bit-of, high-end, is-between, low-end}
 use Rattle.swarm_spans.specs.Spans.{is_in}
 use Rattle.swarm_spans.specs.declared.span.Span.{Span}
-use Rattle.swarm_world.specs.Inside.Looks.{AreSpanned, before_on}
+use Rattle.swarm_world.specs.Inside.Looks.{AreSpanned, before_on, is_restless}
 use Rattle.swarm_world.specs.Inside.Spanned.{AreEnded, AreUpTo, IsEnded}
 use Rattle.swarm_world.specs.declared.agent_spans.AgentSpans.{AgentSpans}
 
@@ -53,8 +53,14 @@ pub still_spanned : (agents : List NodeAgent) (last : ℕ) (spans ended : AgentS
     AreEnded last spans ended → AreSpanned w spans agents → AreSpanned w ended agents
 still_spanned agents last spans ended w is ends covers = record {
   duties = record { has = λ a h owes. kept last spans.duties ended.duties a.node ends.duties (is.each a h) (covers.duties.has a h owes) };
+  sleeps = record {
+    has = λ a h restless.
+        kept last spans.duties ended.duties a.node ends.duties (is.each a h)
+        (covers.sleeps.has a h (subst (λ k. is_restless k w a ≡ true) ends.wakes restless));
+  };
   tells = record { has = λ a h wants. kept last spans.tells ended.tells a.node ends.tells (is.each a h) (covers.tells.has a h wants) };
   news = record { has = λ a h unsaid. kept last spans.news ended.news a.node ends.news (is.each a h) (covers.news.has a h unsaid) };
+  waits = record { has = λ a h waits. kept last spans.waits ended.waits a.node ends.waits (is.each a h) (covers.waits.has a h waits) };
   steps = λ a h. record {
     has = λ e there before.
         (covers.steps a h).has e there (subst (λ s. e.task < before_on s a.node) ends.steps before);

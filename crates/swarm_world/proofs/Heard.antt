@@ -14,6 +14,7 @@ use Rattle.swarm_spans.specs.Services.Touches.{AreCovered}
 use Rattle.swarm_spans.specs.Spans.{beyond, is_in}
 use Rattle.swarm_spans.specs.TasksCovered.{AreTasksCovered}
 use Rattle.swarm_spans.specs.declared.span.Span.{Span}
+use Rattle.swarm_spans.specs.Timed.{AreTimed}
 use Rattle.swarm_world.proofs.Asked.{may_be_told, stays_asked}
 use Rattle.swarm_world.specs.Inside.Known.{KnowsAll}
 use Rattle.swarm_world.specs.Inside.Looks.{IsHeard, IsPassed, MayHaveNews, has_news_on, is_unsaid, news_duties}
@@ -65,17 +66,27 @@ pub ruleset agent_steps = (may_be_told, may_have_news, stays_asked, stays_heard,
 
 -- Before a duty of the agents' loop.
 
-pub heard_rows : (m n : Marks) (t : Tables) → n.tasks ≡ m.tasks → n.services ≡ m.services → n.known ≡ m.known →
-    AreMarked m t → AreMarked n t
-heard_rows m n t tasks services known are = record {
+pub heard_rows : (m n : Marks) (t : Tables) → n.tasks ≡ m.tasks → n.services ≡ m.services → n.timed ≡ m.timed →
+    n.known ≡ m.known → AreMarked m t → AreMarked n t
+heard_rows m n t tasks services timed known are = record {
   tasks = subst (AreTasksCovered t) (sym tasks) are.tasks;
   services = subst (AreCovered t) (sym services) are.services;
+  timed = subst (AreTimed t) (sym timed) are.timed;
   known = subst (KnowsAll t) (sym known) are.known;
 }
 
 pub heard_turn : (d : Duty) (m n next : AgentSpans) → n.duties ≡ m.duties → n.tells ≡ m.tells →
-    n.news ≡ news_by d m.news → n.steps ≡ steps_by d m.steps → next ≡ with_told d n → next ≡ after_turn d m
-heard_turn d m n next duties tells news steps is =
-    is ∙ (λ i. record { duties = duties i; tells = told_by d (tells i); news = news i; steps = steps i })
+    n.news ≡ news_by d m.news → n.waits ≡ news_by d m.waits → n.steps ≡ steps_by d m.steps → n.wakes ≡ m.wakes →
+    next ≡ with_told d n → next ≡ after_turn d m
+heard_turn d m n next duties tells news waits steps wakes is =
+    is
+    ∙ (λ i. record {
+      duties = duties i;
+      tells = told_by d (tells i);
+      news = news i;
+      waits = waits i;
+      steps = steps i;
+      wakes = wakes i;
+    })
 
 pub ruleset turn_steps = (heard_rows, heard_turn)

@@ -7,8 +7,8 @@ pub mod AgentsTaken
 pub mod AgentsTouched
 pub mod Answering
 pub mod Arriving
-pub mod Asking
 pub mod Asked
+pub mod Asking
 pub mod AsksIn
 pub mod Beginning
 pub mod BesideOps
@@ -28,7 +28,6 @@ pub mod LooksOn
 pub mod Marked
 pub mod Marking
 pub mod NewNodes
-pub mod NextAgents
 pub mod OnNodes
 pub mod Opening
 pub mod Pulling
@@ -39,14 +38,18 @@ pub mod RemoteCalls
 pub mod Renewing
 pub mod Reporting
 pub mod ReportsAlone
+pub mod Restless
 pub mod RowsKnown
 pub mod RowsTouched
 pub mod RowsTurned
 pub mod SettleLines
 pub mod Stepping
+pub mod StepsLater
+pub mod StillWaiting
 pub mod Taking
 pub mod Ticking
 pub mod ToldAlike
 pub mod ToldNodes
-pub mod Unsaid
 pub mod Transacting
+pub mod Unsaid
+pub mod Wakening

@@ -16,11 +16,13 @@ use Rattle.swarm_spans.specs.Services.Touches.{AreCovered}
 use Rattle.swarm_spans.proofs.Grown.{in-full}
 use Rattle.swarm_spans.specs.Spans.{Covers, full, has_duty}
 use Rattle.swarm_spans.specs.TasksCovered.{AreTasksCovered}
+use Rattle.swarm_spans.specs.Timed.{AreTimed}
+use Rattle.swarm_settle.specs.Asked.{may_wait}
 use Rattle.swarm_world.proofs.Entering.{are_usable}
 use Rattle.swarm_world.proofs.KnownSteps.{nothing-known}
 use Rattle.swarm_world.proofs.Recorded.{usable_rows}
 use Rattle.swarm_world.specs.Inside.Known.{KnowsAll}
-use Rattle.swarm_world.specs.Inside.Looks.{looked_at, is_unsaid, no_steps, wants_message}
+use Rattle.swarm_world.specs.Inside.Looks.{is_restless, looked_at, is_unsaid, no_steps, wants_message}
 use Rattle.swarm_world.specs.Inside.Marks.{AreMarked, IsMarked}
 use Rattle.swarm_world.specs.Inside.Parts.{HasHistory}
 use Rattle.swarm_world.specs.Inside.Records.{tables_of}
@@ -53,9 +55,9 @@ agents_rise p is =
 
 -- each agent is in spans of every number
 pub agents_full : (p : Parts) (spans : AgentSpans) → spans.duties ≡ full → spans.tells ≡ full
-    → spans.news ≡ full → spans.steps ≡ no_steps → HasHistory p
+    → spans.news ≡ full → spans.waits ≡ full → spans.steps ≡ no_steps → HasHistory p
     → CoversAgents p spans
-agents_full p spans duties tells news steps is =
+agents_full p spans duties tells news waits steps is =
     let w = looked_at (tables_of p.records) p.sent in
     let high = (replay is.history).tables.next_id in
     let small = (IsSmall-replay is.history is.legal).next_id in
@@ -63,39 +65,47 @@ agents_full p spans duties tells news steps is =
       duties =
           subst (λ span. Covers agent_node (has_duty (agent_duties w)) span p.agents) (sym duties)
           (full_covers agent_node (has_duty (agent_duties w)) high p.agents (agents-between p is) small);
+      sleeps =
+          subst (λ span. Covers agent_node (is_restless spans.wakes w) span p.agents) (sym duties)
+          (full_covers agent_node (is_restless spans.wakes w) high p.agents (agents-between p is) small);
       tells =
           subst (λ span. Covers agent_node (wants_message w) span p.agents) (sym tells)
           (full_covers agent_node (wants_message w) high p.agents (agents-between p is) small);
       news =
           subst (λ span. Covers agent_node (is_unsaid w) span p.agents) (sym news)
           (full_covers agent_node (is_unsaid w) high p.agents (agents-between p is) small);
+      waits =
+          subst (λ span. Covers agent_node may_wait span p.agents) (sym waits)
+          (full_covers agent_node may_wait high p.agents (agents-between p is) small);
       steps = λ a there. nothing-known (tables_of p.records).clock spans.steps a steps;
     }
 
 pub all_are_marked : (m : Marks) → ((t : Tables) → IsUsable t → AreTasksCovered t m.tasks)
-    → ((t : Tables) → IsUsable t → AreCovered t m.services) → ((t : Tables) → KnowsAll t m.known) → m.agents.duties ≡ full → m.agents.tells ≡ full
-    → m.agents.news ≡ full → m.agents.steps ≡ no_steps
-    → (p : Parts) → HasHistory p → IsMarked m p
-all_are_marked m tasks services known duties tells news steps p is =
+    → ((t : Tables) → IsUsable t → AreCovered t m.services) → ((t : Tables) → IsUsable t → AreTimed t m.timed)
+    → ((t : Tables) → KnowsAll t m.known) → m.agents.duties ≡ full → m.agents.tells ≡ full → m.agents.news ≡ full
+    → m.agents.waits ≡ full → m.agents.steps ≡ no_steps → (p : Parts) → HasHistory p → IsMarked m p
+all_are_marked m tasks services timed known duties tells news waits steps p is =
     let usable = usable_rows p.records (are_usable p is) in
     record {
       rows = record {
         tasks = tasks (tables_of p.records) usable;
         services = services (tables_of p.records) usable;
+        timed = timed (tables_of p.records) usable;
         known = known (tables_of p.records);
       };
-      agents = agents_full p m.agents duties tells news steps is;
+      agents = agents_full p m.agents duties tells news waits steps is;
     }
 
 -- the same spans, where nothing is remembered
-pub marked_apart : (m n : Marks) (p : Parts) → n.tasks ≡ m.tasks → n.services ≡ m.services → n.agents ≡ m.agents
-    → ((t : Tables) → KnowsAll t n.known) → IsMarked m p → IsMarked n p
-marked_apart m n p tasks services agents known are =
+pub marked_apart : (m n : Marks) (p : Parts) → n.tasks ≡ m.tasks → n.services ≡ m.services → n.timed ≡ m.timed
+    → n.agents ≡ m.agents → ((t : Tables) → KnowsAll t n.known) → IsMarked m p → IsMarked n p
+marked_apart m n p tasks services timed agents known are =
     let t = tables_of p.records in
     record {
       rows = record {
         tasks = subst (AreTasksCovered t) (sym tasks) are.rows.tasks;
         services = subst (AreCovered t) (sym services) are.rows.services;
+        timed = subst (AreTimed t) (sym timed) are.rows.timed;
         known = known t;
       };
       agents = subst (CoversAgents p) (sym agents) are.agents;

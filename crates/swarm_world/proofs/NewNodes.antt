@@ -19,6 +19,7 @@ use Rattle.swarm_objects.specs.Loops.Agents.{agent_duties}
 use Rattle.swarm_objects.specs.NewRows.{new_node}
 use Rattle.swarm_objects.specs.Nodes.Words.{is_ready}
 use Rattle.swarm_objects.specs.Rows.{Has, agent_node, node_id, row_at}
+use Rattle.swarm_objects.specs.Usable.{IsUsable}
 use Rattle.swarm_objects.specs.World.{Tables, World}
 use Rattle.swarm_objects.specs.declared.agents.NodeAgent.{NodeAgent}
 use Rattle.swarm_objects.specs.declared.calls.Call.TheVariants as call
@@ -37,13 +38,15 @@ use Rattle.swarm_spans.proofs.Grown.{in-onwards}
 use Rattle.swarm_spans.specs.Spans.{Covers, IsWider, has_duty, onwards}
 use Rattle.swarm_spans.specs.TasksCovered.{HasNewNodes, NodesLaw, with_nodes}
 use Rattle.swarm_spans.specs.declared.span.Span.{Span}
+use Rattle.swarm_spans.specs.Timed.{TimedNodesLaw}
+use Rattle.swarm_settle.specs.Asked.{may_wait}
 use Rattle.swarm_world.proofs.Coming.{HasLeft, same-sent}
 use Rattle.swarm_world.proofs.Entering.{are_usable}
 use Rattle.swarm_world.proofs.KnownSteps.{nothing-known}
 use Rattle.swarm_world.proofs.Marked.{agents-between}
 use Rattle.swarm_world.proofs.Recorded.{tables_are, usable_rows}
 use Rattle.swarm_world.specs.Inside.Known.{KnowsAll}
-use Rattle.swarm_world.specs.Inside.Looks.{AreSpanned, is_unsaid, looked_at, wants_message}
+use Rattle.swarm_world.specs.Inside.Looks.{AreSpanned, is_restless, is_unsaid, looked_at, wants_message}
 use Rattle.swarm_world.specs.Inside.Marks.{AreMarked, IsAfterCall, IsMarked, makes_node}
 use Rattle.swarm_world.specs.Inside.Parts.{HasHistory, HasParts, StandsFor}
 use Rattle.swarm_world.specs.Inside.Records.{tables_of}
@@ -250,15 +253,17 @@ covers-new test span wide first high old new wider all rises near either covers 
 
 come-marked : (m n : Marks) (p q : Parts) (h : List Entry) (v : World) → IsLegal h → StandsFor p (replay h)
     → HasParts q v → HasHistory q → NodesCome (replay h) v → NodesLaw m.tasks n.tasks
-    → ServiceNodesLaw m.services n.services → AreWiderFrom (tables_of p.records).next_id n.agents m.agents
+    → ServiceNodesLaw m.services n.services → TimedNodesLaw (tables_of p.records).next_id m.timed n.timed
+    → AreWiderFrom (tables_of p.records).next_id n.agents m.agents
     → ((t : Tables) → KnowsAll t n.known) → IsMarked m p → IsMarked n q
-come-marked m n p q h v legal stands has is come tasks services agents known marked =
+come-marked m n p q h v legal stands has is come tasks services timed agents known marked =
     let t = tables_of p.records in
     let u = with_nodes come.next_id come.nodes t in
     let before : t ≡ (replay h).tables = tables_are p.records (replay h) stands.has.records in
     let tables : tables_of q.records ≡ u =
     tables_are q.records v has.records ∙ come.tables ∙ ap (with_nodes come.next_id come.nodes) (sym before) in
     let usable = usable_rows p.records (are_usable p (record { history = h; legal = legal; stands = stands })) in
+    let later : IsUsable u = subst IsUsable tables (usable_rows q.records (are_usable q is)) in
     let new : HasNewNodes t.next_id t come.nodes =
     subst (λ (z : Tables). HasNewNodes z.next_id z come.nodes) (sym before)
     (record {
@@ -279,6 +284,7 @@ come-marked m n p q h v legal stands has is come tasks services agents known mar
           (record {
             tasks = tasks t.next_id t come.next_id come.nodes usable new marked.rows.tasks;
             services = services t come.next_id come.nodes usable marked.rows.services;
+            timed = timed t come.next_id come.nodes later new marked.rows.timed;
             known = known u;
           });
       agents =
@@ -289,6 +295,12 @@ come-marked m n p q h v legal stands has is come tasks services agents known mar
                 covers-new (has_duty (agent_duties (looked_at u p.sent))) m.agents.duties n.agents.duties t.next_id high
                 p.agents q.agents agents.former.duties agents.duties (agents-between q is) near either
                 (record { has = λ a there busy. marked.agents.duties.has a there busy });
+            sleeps =
+                covers-new (is_restless n.agents.wakes (looked_at u p.sent)) m.agents.duties n.agents.duties t.next_id high
+                p.agents q.agents agents.former.duties agents.duties (agents-between q is) near either
+                (subst (λ k. Covers agent_node (is_restless k (looked_at u p.sent)) m.agents.duties p.agents)
+                (sym agents.former.wakes)
+                (record { has = λ a there restless. marked.agents.sleeps.has a there restless }));
             tells =
                 covers-new (wants_message (looked_at u p.sent)) m.agents.tells n.agents.tells t.next_id high p.agents
                 q.agents agents.former.tells agents.tells (agents-between q is) near either
@@ -297,6 +309,9 @@ come-marked m n p q h v legal stands has is come tasks services agents known mar
                 covers-new (is_unsaid (looked_at u p.sent)) m.agents.news n.agents.news t.next_id high p.agents
                 q.agents agents.former.news agents.news (agents-between q is) near either
                 (record { has = λ a there unsaid. marked.agents.news.has a there unsaid });
+            waits =
+                covers-new may_wait m.agents.waits n.agents.waits t.next_id high p.agents q.agents agents.former.waits
+                agents.waits (agents-between q is) near either marked.agents.waits;
             steps = λ a there. nothing-known u.clock n.agents.steps a agents.steps;
           }));
     }
@@ -304,15 +319,17 @@ come-marked m n p q h v legal stands has is come tasks services agents known mar
 -- a transaction that makes nodes alone
 pub nodes_marked : (m n : Marks) (ops : List Op) (p : Parts) (first : ℕ) → first ≡ (tables_of p.records).next_id
     → true ≡ list_all makes_node ops → NodesLaw m.tasks n.tasks → ServiceNodesLaw m.services n.services
-    → AreWiderFrom first n.agents m.agents → ((t : Tables) → KnowsAll t n.known) → (h : List Entry) (q : Parts)
+    → TimedNodesLaw first m.timed n.timed → AreWiderFrom first n.agents m.agents
+    → ((t : Tables) → KnowsAll t n.known) → (h : List Entry) (q : Parts)
     → IsLegal h → StandsFor p (replay h) → IsMarked m p → HasHistory q → IsAfterCall h (call.Txn ops) q → IsMarked n q
-nodes_marked m n ops p first from make tasks services agents known h q legal stands marked is after =
+nodes_marked m n ops p first from make tasks services timed agents known h q legal stands marked is after =
+    let timed_law = subst (λ k. TimedNodesLaw k m.timed n.timed) from timed in
     let wide = subst (λ k. AreWiderFrom k n.agents m.agents) from agents in
     elim after [
       | inl done ↦
           come-marked m n p q h (step (replay h) (what.Call (call.Txn ops))).after legal stands done.has is
-          (made (replay h) ops (sym make)) tasks services wide known marked
+          (made (replay h) ops (sym make)) tasks services timed_law wide known marked
       | inr same ↦
           come-marked m n p q h (replay h) legal stands same.has is
-          (none-come (replay h) (replay h) refl refl refl) tasks services wide known marked
+          (none-come (replay h) (replay h) refl refl refl) tasks services timed_law wide known marked
     ]

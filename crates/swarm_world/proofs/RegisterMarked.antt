@@ -15,9 +15,10 @@ use Rattle.swarm_objects.specs.declared.rows.Change.{Change}
 use Rattle.swarm_objects.specs.declared.sessions.NodeSession.{NodeSession}
 use Rattle.swarm_spans.specs.Services.Touches.{AreCovered}
 use Rattle.swarm_spans.specs.TasksCovered.{HasOthersSessions, SessionLaw, with_sessions}
+use Rattle.swarm_spans.specs.Timed.{AreTimed}
 use Rattle.swarm_world.proofs.Recorded.{tables_are}
 use Rattle.swarm_world.proofs.RowsKnown.{knows_rows_alike}
-use Rattle.swarm_world.proofs.RowsTouched.{services-still}
+use Rattle.swarm_world.proofs.RowsTouched.{services-still, timed-alike}
 use Rattle.swarm_world.specs.Inside.Beginnings.{begun_world, with_session}
 use Rattle.swarm_world.specs.Inside.Known.{KnowsAll}
 use Rattle.swarm_world.specs.Inside.Marks.{AreMarked}
@@ -81,13 +82,16 @@ others-with node t = record { others = λ n. go n (eqb node n) refl }
 
 -- what one node's session concerns was touched
 pub after_session : (node : ℕ) (one two : Marks) (t : Tables) → IsUsable t → SessionLaw node one.tasks two.tasks
-    → two.services ≡ one.services → two.known ≡ one.known → (next_id : ℕ) (sessions : List NodeSession)
+    → two.services ≡ one.services → two.timed ≡ one.timed → two.known ≡ one.known → (next_id : ℕ) (sessions : List NodeSession)
     → HasOthersSessions node t sessions → AreMarked one t → AreMarked two (with_sessions next_id sessions t)
-after_session node one two t usable law services known next_id sessions others marked = record {
+after_session node one two t usable law services timed known next_id sessions others marked = record {
   tasks = law t next_id sessions usable others marked.tasks;
   services =
       subst (AreCovered (with_sessions next_id sessions t)) (sym services)
       (services-still t next_id sessions one.services usable marked.services);
+  timed =
+      subst (AreTimed (with_sessions next_id sessions t)) (sym timed)
+      (timed-alike t (with_sessions next_id sessions t) one.timed refl refl marked.timed);
   known =
       knows_rows_alike t (with_sessions next_id sessions t) two.known refl refl refl refl
       (subst (KnowsAll t) (sym known) marked.known);
@@ -99,9 +103,9 @@ pub registered_marked : (version node : ℕ) (p q : Parts) (w : World) (cs all :
     → Makes (tables_of p.records) cs (change_node node (ready_node version) (tables_of p.records))
     → HasParts q (begun_world node cs w)
     → (IsUsable (apply_changes (tables_of p.records) all) → AreMarked one (apply_changes (tables_of p.records) all))
-    → SessionLaw node one.tasks two.tasks → two.services ≡ one.services → two.known ≡ one.known
+    → SessionLaw node one.tasks two.tasks → two.services ≡ one.services → two.timed ≡ one.timed → two.known ≡ one.known
     → IsUsable (tables_of q.records) → AreMarked two (tables_of q.records)
-registered_marked version node p q w cs all one two same before has makes begun touched law services known after =
+registered_marked version node p q w cs all one two same before has makes begun touched law services timed known after =
     let t = tables_of p.records in
     let u = change_node node (ready_node version) t in
     let tables : tables_of q.records ≡ with_session node u =
@@ -111,17 +115,17 @@ registered_marked version node p q w cs all one two same before has makes begun 
     let between = between-usable version node t before (subst IsUsable tables after) in
     let gives : apply_changes t all ≡ u = ap (apply_changes t) same ∙ makes.gives in
     subst (AreMarked two) (sym tables)
-    (after_session node one two u between law services known (u.next_id + 1)
+    (after_session node one two u between law services timed known (u.next_id + 1)
     (with_row session_node (new_session u node) u.sessions) (others-with node u)
     (subst (AreMarked one) gives (touched (subst IsUsable (sym gives) between))))
 
 -- or memory was wanting
 pub not_registered : (node : ℕ) (p q : Parts) (w : World) (one two : Marks) → IsUsable (tables_of p.records)
     → HasParts p w → HasParts q w → AreMarked one (tables_of p.records) → SessionLaw node one.tasks two.tasks
-    → two.services ≡ one.services → two.known ≡ one.known → AreMarked two (tables_of q.records)
-not_registered node p q w one two usable before after marked law services known =
+    → two.services ≡ one.services → two.timed ≡ one.timed → two.known ≡ one.known → AreMarked two (tables_of q.records)
+not_registered node p q w one two usable before after marked law services timed known =
     let t = tables_of p.records in
     subst (AreMarked two)
     (sym (tables_are q.records w after.records ∙ sym (tables_are p.records w before.records)))
-    (after_session node one two t usable law services known t.next_id t.sessions
+    (after_session node one two t usable law services timed known t.next_id t.sessions
     (record { others = λ n. inr refl }) marked)

@@ -27,6 +27,7 @@ use Rattle.swarm_objects.specs.declared.services.Draft.{Draft}
 use Rattle.swarm_objects.specs.declared.services.Service.{Service}
 use Rattle.swarm_spans.specs.Services.Touches.{AreCovered, ServicePutLaw}
 use Rattle.swarm_spans.specs.TasksCovered.{AreTasksCovered, PutLaw}
+use Rattle.swarm_spans.specs.Timed.{AreTimed, TimedPutLaw}
 use Rattle.swarm_world.proofs.Coming.{HasLeft, covers-as, same-agents, same-sent}
 use Rattle.swarm_world.proofs.Entering.{are_usable}
 use Rattle.swarm_world.proofs.Recorded.{tables_are, usable_rows}
@@ -113,8 +114,9 @@ updated w name asked d = go (nat_lt most_ops (length ops))
 pub record AreTouched (t : Tables) (name : List ℕ) (m n : Marks) : Type 0 where
   pub tasks : AreTasksCovered t m.tasks → AreTasksCovered t n.tasks
   pub services : AreCovered t m.services → AreCovered t n.services
+  pub timed : AreTimed t m.timed → AreTimed t n.timed
   pub puts : (s : Service) → service_by t name ≡ Some s
-      → PutLaw s.id t m.tasks n.tasks × ServicePutLaw s.id t m.services n.services
+      → PutLaw s.id t m.tasks n.tasks × ServicePutLaw s.id t m.services n.services × TimedPutLaw s.id m.timed n.timed
   pub agents : n.agents ≡ m.agents
   pub known : ForgetsServices m.known n.known
 
@@ -124,6 +126,7 @@ pub none_touched : (t : Tables) (name : List ℕ) (m : Marks) (k : Known) → Fo
 none_touched t name m k forgets none = record {
   tasks = λ are. are;
   services = λ are. are;
+  timed = λ are. are;
   puts = λ s e. absurd (never s (none ∙ e));
   agents = refl;
   known = forgets;
@@ -136,20 +139,23 @@ none_touched t name m k forgets none = record {
 pub one_touched : (t : Tables) (name : List ℕ) (m n : Marks) (s : Service) → Some s ≡ service_by t name
     → (AreTasksCovered t m.tasks → AreTasksCovered t n.tasks) → PutLaw s.id t m.tasks n.tasks
     → (AreCovered t m.services → AreCovered t n.services) → ServicePutLaw s.id t m.services n.services
-    → n.agents ≡ m.agents → ForgetsServices m.known n.known → AreTouched t name m n
-one_touched t name m n s row tasks put services service_put agents forgets = record {
+    → (AreTimed t m.timed → AreTimed t n.timed) → TimedPutLaw s.id m.timed n.timed → n.agents ≡ m.agents
+    → ForgetsServices m.known n.known → AreTouched t name m n
+one_touched t name m n s row tasks put services service_put timed timed_put agents forgets = record {
   tasks = tasks;
   services = services;
+  timed = timed;
   puts = λ r e. own r (row ∙ e);
   agents = agents;
   known = forgets;
 }
   where
-    own : (r : Service) → Some s ≡ Some r → PutLaw r.id t m.tasks n.tasks × ServicePutLaw r.id t m.services n.services
+    own : (r : Service) → Some s ≡ Some r
+        → PutLaw r.id t m.tasks n.tasks × ServicePutLaw r.id t m.services n.services × TimedPutLaw r.id m.timed n.timed
     own r e =
         let same : s ≡ r = cc in
-        subst (λ (z : Service). PutLaw z.id t m.tasks n.tasks × ServicePutLaw z.id t m.services n.services) same
-        (put, service_put)
+        subst (λ (z : Service). PutLaw z.id t m.tasks n.tasks × ServicePutLaw z.id t m.services n.services
+        × TimedPutLaw z.id m.timed n.timed) same (put, service_put, timed_put)
 
 renew-marked : (m n : Marks) (p q : Parts) (name : List ℕ) (h : List Entry) (v : World) → StandsFor p (replay h)
     → HasParts q v → HasHistory q → Renews (replay h) v name → AreTouched (tables_of p.records) name m n
@@ -175,6 +181,7 @@ renew-marked m n p q name h v stands has is renews touched marked =
               (record {
                 tasks = touched.tasks marked.rows.tasks;
                 services = touched.services marked.rows.services;
+                timed = touched.timed marked.rows.timed;
                 known = touched.known t t refl refl marked.rows.known;
               });
           agents =
@@ -197,6 +204,7 @@ renew-marked m n p q name h v stands has is renews touched marked =
               (record {
                 tasks = puts.0 other.row other.id later marked.rows.tasks;
                 services = puts.1 other.row other.id later marked.rows.services;
+                timed = puts.2 t other.row other.id later marked.rows.timed;
                 known = touched.known t u refl refl marked.rows.known;
               });
           agents =
@@ -205,8 +213,10 @@ renew-marked m n p q name h v stands has is renews touched marked =
               (same-agents p q (replay h) v left renews.agents)
               (record {
                 duties = record { has = λ a there busy. marked.agents.duties.has a there busy };
+                sleeps = record { has = λ a there restless. marked.agents.sleeps.has a there restless };
                 tells = record { has = λ a there wants. marked.agents.tells.has a there wants };
                 news = record { has = λ a there unsaid. marked.agents.news.has a there unsaid };
+                waits = marked.agents.waits;
                 steps = marked.agents.steps;
               }));
         }

@@ -7,7 +7,7 @@ use Rattle.swarm_objects.proofs.Hearing.{row_at-change_row}
 use Rattle.swarm_objects.specs.ChangeLists.{apply_changes}
 use Rattle.swarm_objects.specs.Changes.{with_tables}
 use Rattle.swarm_objects.specs.Loops.Agents.{after_beat, beaten}
-use Rattle.swarm_objects.specs.Rows.{change_row, row_at, session_node}
+use Rattle.swarm_objects.specs.Rows.{change_row, node_id, row_at, service_id, session_node}
 use Rattle.swarm_objects.specs.Usable.{IsUsable}
 use Rattle.swarm_objects.specs.World.{Tables}
 use Rattle.swarm_objects.specs.declared.rows.Change.{Change}
@@ -25,6 +25,10 @@ use Rattle.swarm_spans.specs.TasksCovered.{AreTasksCovered, HasOthersSessions, S
 use Rattle.swarm_spans.specs.declared.service_spans.ServiceSpans.{ServiceSpans}
 use Rattle.swarm_spans.specs.declared.span.Span.{Span}
 use Rattle.swarm_watch.specs.Watchings.{Watchings}
+use Rattle.swarm_model.specs.Settle.{is_remote}
+use Rattle.swarm_spans.specs.Spans.{Covers}
+use Rattle.swarm_spans.specs.Timed.{AreTimed, is_down_node, is_unfinished}
+use Rattle.swarm_spans.specs.declared.timed_spans.TimedSpans.{TimedSpans}
 use Rattle.swarm_world.proofs.Recorded.{tables_are, usable_rows}
 use Rattle.swarm_world.proofs.RowsKnown.{knows_rows_alike}
 use Rattle.swarm_world.specs.Inside.Commits.{Commits}
@@ -42,12 +46,22 @@ pub same_rows : (m : Marks) (r s : Records) → s ≡ r → AreMarked m (tables_
 same_rows m r s same = subst (λ (x : Records). AreMarked m (tables_of x)) (sym same)
 
 -- where the spans over the rows, and what is remembered, are the same
-pub same_spans : (m n : Marks) (t : Tables) → n.tasks ≡ m.tasks → n.services ≡ m.services → n.known ≡ m.known
-    → AreMarked m t → AreMarked n t
-same_spans m n t tasks services known marked = record {
+pub same_spans : (m n : Marks) (t : Tables) → n.tasks ≡ m.tasks → n.services ≡ m.services → n.timed ≡ m.timed
+    → n.known ≡ m.known → AreMarked m t → AreMarked n t
+same_spans m n t tasks services timed known marked = record {
   known = subst (KnowsAll t) (sym known) marked.known;
   tasks = subst (AreTasksCovered t) (sym tasks) marked.tasks;
   services = subst (AreCovered t) (sym services) marked.services;
+  timed = subst (AreTimed t) (sym timed) marked.timed;
+}
+
+-- where the services and the nodes are the same
+pub timed-alike : (t u : Tables) (spans : TimedSpans) → u.services ≡ t.services → u.nodes ≡ t.nodes → AreTimed t spans
+    → AreTimed u spans
+timed-alike t u spans services nodes are = record {
+  updates = subst (Covers service_id is_unfinished spans.updates) (sym services) are.updates;
+  downs = subst (Covers node_id is_down_node spans.downs) (sym nodes) are.downs;
+  remotes = subst (Covers node_id is_remote spans.remotes) (sym nodes) are.remotes;
 }
 
 -- A node's session.
@@ -96,10 +110,10 @@ others-have node f t keeps = record { others = λ n. go n (eqb node n) refl }
 -- after its beat
 pub beat_marked : (node now heartbeat id : ℕ) (before after : Marks) (r : Records) (s : OnRecord) → AreUsable r
     → AreMarked before (tables_of r) → SessionLaw node before.tasks after.tasks → after.services ≡ before.services
-    → after.known ≡ before.known
+    → after.timed ≡ before.timed → after.known ≡ before.known
     → s.rows ≡ (after_beat (tables_with r.sessions.rows now heartbeat id) node).sessions
     → AreMarked after (tables_of (record { store = r.store; sessions = s }))
-beat_marked node now heartbeat id before after r s are marked law services known rows =
+beat_marked node now heartbeat id before after r s are marked law services timed known rows =
     let t = tables_of r in
     let f = beaten (tables_with r.sessions.rows now heartbeat id) in
     let beats = change_row session_node node f r.sessions.rows in
@@ -109,6 +123,9 @@ beat_marked node now heartbeat id before after r s are marked law services known
       tasks = law t t.next_id beats usable (others-have node f t (λ x. refl)) marked.tasks;
       services = subst (AreCovered (record t { sessions = beats })) (sym services)
           (services-still t t.next_id beats before.services usable marked.services);
+      timed =
+          subst (AreTimed (record t { sessions = beats })) (sym timed)
+          (timed-alike t (record t { sessions = beats }) before.timed refl refl marked.timed);
       known =
           knows_rows_alike t (record t { sessions = beats }) after.known refl refl refl refl
           (subst (KnowsAll t) (sym known) marked.known);

@@ -165,11 +165,14 @@ pub ruleset all_steps = (told_none, told_one, told_all)
 
 pub told_joined : (t : Tables) (cs : List Change) (nodes : Span) (spans wide : AgentSpans) → TouchesAllTold t nodes cs →
     IsWider wide.duties spans.duties → IsWider wide.duties nodes → IsWider wide.tells spans.tells →
-    IsWider wide.tells nodes → wide.news ≡ spans.news → wide.steps ≡ spans.steps → AreTouched t spans wide cs
-told_joined t cs nodes spans wide touches duties all-duties tells all-tells same steps = record {
+    IsWider wide.tells nodes → wide.news ≡ spans.news → wide.waits ≡ spans.waits → wide.steps ≡ spans.steps →
+    wide.wakes ≡ spans.wakes → AreTouched t spans wide cs
+told_joined t cs nodes spans wide touches duties all-duties tells all-tells same waits steps wakes = record {
   duties = record { wider = duties; touches = both wide.duties all-duties };
   tells = record { wider = tells; touches = both wide.tells all-tells };
   news = same;
+  waits = waits;
+  wakes = wakes;
   steps = steps;
 }
   where

@@ -8,8 +8,8 @@ use swarm_objects::{
     Change, Id, Ms, Network, Node, Place, Rows, Service, Settings, Task, TaskKey, Version,
 };
 
-/// The records, where the row of one task is at hand: what a change touches is found by a dozen looks at the row that it
-/// replaces. Contracts see the tables.
+/// The records, where the row of one task is at hand: what a change touches is found by a dozen looks at the row that
+/// it replaces. Contracts see the tables.
 #[derive(Drop)]
 pub struct AtHand<'a> {
     records: &'a Records,

@@ -11,7 +11,7 @@ use swarm_sched::{KnownNodes, Moved};
 use swarm_update::KnownSurvey;
 
 /// What the tasks on nodes come to, how nodes are sorted and which filters refused them; how many places services hold;
-/// what the tasks tell of the update that was looked at last, and services without a dirty place.
+/// what the tasks tell of the updates that were looked at last, and services without a dirty place.
 #[derive(Drop)]
 pub struct Known {
     pub nodes: KnownNodes,

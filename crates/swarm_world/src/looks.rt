@@ -1,16 +1,15 @@
 // The first duty of the agents' loop, agent by agent. It takes no memory.
-ghost use Rattle.std.specs.Prelude.{◌≡◌, ◌++◌, find, flat_map, option_to_list, true};
-ghost use Rattle.std.specs.Option.{option_map};
+ghost use Rattle.std.specs.Prelude.{◌≡◌, ◌++◌, List as Seq, false, flat_map, option_to_list, true};
 ghost use Rattle.swarm_agent.specs.Agent.{at_node};
-ghost use Rattle.swarm_agent.specs.Times.{seen_agent};
 ghost use Rattle.swarm_objects.specs.Loops.Agents.{agent_duties, duties_on, has_step, inbox_duties, is_beat_due, is_forgotten, is_mode_on, report_duties, session_duties};
 ghost use Rattle.swarm_objects.specs.Loops.Words.{duty_where};
 ghost use Rattle.swarm_objects.specs.Nodes.Sessions.{is_session_live, session_of};
 ghost use Rattle.swarm_objects.specs.Rows.{RisesFrom, agent_node, executor_task, first_of, has_row, is_some_and, task_id};
 ghost use Rattle.swarm_objects.specs.Usable.{IsUsable};
 ghost use Rattle.swarm_objects.specs.World.{World};
-ghost use Rattle.swarm_spans.specs.Spans.{is_in};
-ghost use Rattle.swarm_world.specs.Inside.Looks.{AreSpanned, EachRises, HasNoStep, IsAsked, IsHeard, IsPassed, MayBeTold, MayHaveNews, is_told, is_unsaid, looked_at, wants_message};
+ghost use Rattle.swarm_objects.specs.declared.messages.NodeSent.{NodeSent as SentRow};
+ghost use Rattle.swarm_spans.specs.Spans.{has_duty, is_in};
+ghost use Rattle.swarm_world.specs.Inside.Looks.{AreSpanned, EachRises, HasNoStep, IsAsked, IsHeard, IsPassed, MayBeTold, MayHaveNews, SleepsTill, is_told, is_unsaid, looked_at, wants_message};
 ghost use Rattle.swarm_world.specs.Inside.Records.{tables_of};
 ghost use Rattle.swarm_world.specs.Inside.Spanned.{AgentsSpanLaw, AreUpTo};
 
@@ -19,7 +18,8 @@ use crate::records::Records;
 use swarm_agent::theorems::{times_that_no_step_looks_at, what_is_found_is_the_first_duty};
 use swarm_agent::{Agent, Agents, has_passed};
 use swarm_assign::Sents;
-use swarm_objects::{AgentMode, Duty, Id, Rows};
+use swarm_objects::{AgentMode, Duty, Id, Ms, Rows};
+use swarm_settle::next_agent_in;
 use swarm_spans::Span;
 
 fn is_on(agent: &Agent) -> bool
@@ -362,24 +362,20 @@ fn agent_first(
     }
 }
 
-// The first agent in the span, with its node.
-#[tactic(auto, using(crate::proofs::NextAgents::agents))]
-fn next_agent_in<'a>(agents: &'a Agents, span: &Span) -> Option<(&'a Id, &'a Agent)>
-    requires { RisesFrom agent_node 0 agents.now }
-    ensures { option_map (λ p. seen_agent (at_node p.0.now p.1.now)) result
-        ≡ find (λ a. is_in span.now a.node) agents.now }
+// Until when the agent has no duty, where it has none now and nothing but the clock changes: its session is live, has no
+// beat that is due, and its executors sleep.
+fn sleeps_till(records: &Records, node: Id, agent: &Agent) -> Ms
+    ensures { (sent : Seq SentRow) → let w = looked_at (tables_of records.now) sent in
+        let a = at_node node agent.now in has_duty (agent_duties w) a ≡ false → SleepsTill w a result }
 {
-    let mut after = span.after;
-    while after < span.high {
-        let Some((node, agent)) = agents.next(span.skip(after)) else {
-            return None;
-        };
-        if span.has(*node) {
-            return Some((node, agent));
-        }
-        after = *node;
+    if !is_on(agent) {
+        return Ms::MAX;
     }
-    None
+    let Some(session) = records.sessions.get(node) else {
+        return 0;
+    };
+    let beat = session.beat.saturating_add(records.settings().heartbeat);
+    session.deadline.min(beat).min(agent.first_wake())
 }
 
 // The node of the last agent; 0 where there is none.
@@ -438,10 +434,10 @@ pub fn agents_first_in(
             &mut spans.steps,
         ) {
             Some(duty) => return Some(duty),
-            None => spans.duties.pass(*node),
+            None => spans.sleep(*node, sleeps_till(records, *node, agent)),
         }
     }
-    *spans = AgentSpans::empty();
+    spans.clear();
     None
 }
 

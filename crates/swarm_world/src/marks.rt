@@ -1,12 +1,13 @@
 // Where a duty of the control loops over the rows may be: for each line of duties the span of the rows that may have
 // one.
-ghost use Rattle.std.specs.Prelude.{◌≡◌, ◌≤◌, ◌++◌, ◌∷◌, IsTrue, List as Seq, None, Option as Optional, [], false, flat_map, true, ℕ};
+ghost use Rattle.std.specs.Prelude.{◌≡◌, ◌+◌, ◌≤◌, ◌++◌, ◌∷◌, IsTrue, List as Seq, None, Option as Optional, [], false, flat_map, true, ℕ};
 ghost use Rattle.std.specs.List.{list_all};
 ghost use Rattle.swarm_model.specs.History.{IsLegal, replay};
 ghost use Rattle.swarm_objects.specs.declared.calls.Entry.{Entry};
 ghost use Rattle.swarm_objects.specs.declared.services.Draft.{Draft};
 ghost use Rattle.swarm_objects.specs.ChangeLists.{apply_changes};
 ghost use Rattle.swarm_objects.specs.Duties.{duties};
+ghost use Rattle.swarm_objects.specs.Limits.{is_tick};
 ghost use Rattle.swarm_objects.specs.Effects.{is_agents, world_with};
 ghost use Rattle.swarm_objects.specs.Loops.Allocator.{port_duties};
 ghost use Rattle.swarm_objects.specs.Rows.{first_of};
@@ -15,17 +16,17 @@ ghost use Rattle.swarm_objects.specs.World.{Tables};
 ghost use Rattle.swarm_spans.specs.Lines.{addresses, deletes, expires, goes, notes, olds, orphans, raises, rejects, restarts};
 ghost use Rattle.swarm_spans.specs.Services.Lines.{comes, creates, downs, job_creates, leaves, trims, updates};
 ghost use Rattle.swarm_spans.specs.Services.Touches.{NewServicesLaw, ServiceNodesLaw};
-ghost use Rattle.swarm_spans.specs.Spans.{CoversNodes, CoversServices, CoversTasks, full};
-ghost use Rattle.swarm_spans.specs.TasksCovered.{NodesLaw, ServicesLaw, SessionLaw, at_time};
+ghost use Rattle.swarm_spans.specs.Spans.{CoversNodes, CoversServices, CoversTasks, IsWider};
+ghost use Rattle.swarm_spans.specs.TasksCovered.{NodesLaw, ServicesLaw, SessionLaw};
+ghost use Rattle.swarm_spans.specs.Timed.{TimedNodesLaw, TimedServicesLaw};
 ghost use Rattle.swarm_world.specs.Inside.Known.{AreForeseen, ForgetsServices, KnowsAll};
-ghost use Rattle.swarm_world.specs.Inside.Looks.{no_steps};
 ghost use Rattle.swarm_world.specs.Inside.Marks.{AreMarked, IsAfterCall, IsMarked, makes_node, makes_service};
 ghost use Rattle.swarm_world.specs.Inside.Parts.{HasHistory, StandsFor};
 ghost use Rattle.swarm_world.specs.Inside.Records.{tables_of};
 ghost use Rattle.swarm_world.specs.Inside.Spanned.{AreWiderFrom, news_by, steps_by};
 ghost use Rattle.swarm_world.specs.declared.parts.Parts.{Parts as Whole};
 
-use crate::agent_spans::{AgentSpans, Steps};
+use crate::agent_spans::AgentSpans;
 use crate::at_hand::AtHand;
 use crate::firsts::is_agents;
 use crate::known::{Foreseen, Known};
@@ -40,17 +41,19 @@ use crate::records::Records;
 use crate::scheduling::first_scheduled;
 use std::alloc::Global;
 use swarm_agent::theorems::times_that_no_step_looks_at;
-use swarm_objects::{Call, Change, Duty, Id, Name, Op, Role, Rows};
+use swarm_objects::{Call, Change, Duty, Id, Ms, Name, Op, Role, Rows};
 use swarm_spans::{
-    ServiceSpans, Span, TaskSpans, first_of_nodes, first_of_services, first_of_tasks, narrowed,
+    ServiceSpans, Span, TaskSpans, TimedSpans, first_of_nodes, first_of_services, first_of_tasks,
+    narrowed,
 };
 
-/// For each line of duties a span that has each row with a duty of the line, and the spans of the agents' loop. And
-/// what is remembered of the rows.
+/// For each line of duties a span that has each row with a duty of the line, the spans of rows for which time passes,
+/// and those of the agents' loop. And what is remembered of the rows.
 #[derive(Drop)]
 pub struct Marks {
     pub tasks: TaskSpans,
     pub services: ServiceSpans,
+    pub timed: TimedSpans,
     pub agents: AgentSpans,
     pub known: Known,
 }
@@ -229,6 +232,7 @@ impl Marks {
         Marks {
             tasks: TaskSpans::full(),
             services: ServiceSpans::full(),
+            timed: TimedSpans::full(),
             agents: AgentSpans::full(),
             known,
         }
@@ -248,6 +252,7 @@ impl Marks {
         Marks {
             tasks: self.tasks,
             services: self.services,
+            timed: self.timed,
             agents: self.agents,
             known: Known::none(),
         }
@@ -259,6 +264,7 @@ impl Marks {
     {
         self.tasks = TaskSpans::full();
         self.services = ServiceSpans::full();
+        self.timed = TimedSpans::full();
         self.agents = AgentSpans::full();
         self.known.forget_all();
     }
@@ -310,6 +316,7 @@ impl Marks {
         let foreseen = self.known.forget_changed(&rows, changes);
         self.tasks.touch(&rows, changes);
         self.services.touch(&rows, changes);
+        self.timed.touch(changes);
         foreseen
     }
 
@@ -324,33 +331,50 @@ impl Marks {
         }
     }
 
-    /// With what may have a duty as time goes by. No message becomes due by that: what a node is told doesn't hang on
-    /// the time, and a session only ends. But a step may become due.
-    pub fn touch_time(&mut self, records: &Records)
-        requires { IsUsable (tables_of records.now) }
-        ensures rows { let t = tables_of records.now in
-            (clock : ℕ) → t.clock ≤ clock → AreMarked self.old t → AreMarked self.new (at_time clock t) }
-        ensures duties { self.new.agents.duties ≡ full }
-        ensures tells { self.new.agents.tells ≡ self.old.agents.tells }
-        ensures news { self.new.agents.news ≡ self.old.agents.news }
-        ensures steps { self.new.agents.steps ≡ no_steps }
+    // The nodes whose session may end as time goes by: that of an agent which wakes, or isn't on, or of a remote node.
+    fn ends(&self) -> Span
+        ensures duties { IsWider result self.now.agents.duties }
+        ensures waits { IsWider result self.now.agents.waits }
+        ensures remotes { IsWider result self.now.timed.remotes }
     {
-        self.tasks.touch_time(records);
-        self.services.touch_time(records);
+        let mut ends = self.agents.duties;
+        ends.join(self.agents.waits);
+        ends.join(self.timed.remotes);
+        ends
+    }
+
+    /// With what may have a duty as time goes by, until this time. No message becomes due by that: what a node is told
+    /// doesn't hang on the time, and a session only ends. But agents wake, and a step may become due.
+    pub fn touch_time(&mut self, parts: &Parts, until: Ms)
+        requires at { HasHistory parts.now }
+        requires marks { IsMarked self.old parts.now }
+        requires later { (tables_of parts.now.records).clock ≤ until }
+        ensures { let t = tables_of parts.now.records in (ms : ℕ) (h : Seq Entry) (q : Whole) →
+            (is_tick ms ≡ true → t.clock + ms ≤ until) → IsLegal h → StandsFor parts.now (replay h) →
+            IsMarked self.old parts.now → HasHistory q → IsAfterCall h (Call.Tick ms) q → IsMarked self.new q }
+    {
+        times_that_no_step_looks_at();
+        let records = &parts.records;
+        self.timed.narrow(records);
+        self.agents.wake(until);
+        let ends = self.ends();
+        self.tasks
+            .touch_time(records, &self.timed.downs, &ends, until);
+        self.services.touch_time(&self.timed.updates);
         self.known.pass_time();
-        self.agents.duties = Span::full();
-        self.agents.steps = Steps::none();
     }
 
     // With services that come from this id on. Nothing that agents owe changes.
     fn touch_services(&mut self, first: Id)
         ensures tasks { ServicesLaw self.old.tasks self.new.tasks }
         ensures services { NewServicesLaw first self.old.services self.new.services }
+        ensures timed { TimedServicesLaw first self.old.timed self.new.timed }
         ensures agents { self.new.agents ≡ self.old.agents }
         ensures known { ForgetsServices self.old.known self.new.known }
     {
         self.tasks.touch_new_services();
         self.services.touch_new_services(first);
+        self.timed.touch_new_services(first);
         self.known.forget_services();
     }
 
@@ -358,11 +382,13 @@ impl Marks {
     fn touch_nodes(&mut self, first: Id)
         ensures tasks { NodesLaw self.old.tasks self.new.tasks }
         ensures services { ServiceNodesLaw self.old.services self.new.services }
+        ensures timed { TimedNodesLaw first self.old.timed self.new.timed }
         ensures agents { AreWiderFrom first self.new.agents self.old.agents }
         ensures known { (t : Tables) → KnowsAll t self.new.known }
     {
         self.tasks.touch_new_nodes();
         self.services.touch_new_nodes();
+        self.timed.touch_new_nodes(first);
         self.agents.touch_new_nodes(first);
         self.known.forget_all();
     }
@@ -379,6 +405,7 @@ impl Marks {
         if let Some(service) = parts.records.store.service_named(name) {
             self.tasks.touch_service(&parts.records, service.id);
             self.services.touch_service(&parts.records, service.id);
+            self.timed.touch_service(service.id);
         }
     }
 
@@ -415,14 +442,15 @@ impl Marks {
 
     /// With what the call may touch of the world that these parts are, whether it changes something or not.
     pub fn touch_call(&mut self, parts: &Parts, call: &Call)
-        requires { HasHistory parts.now }
+        requires at { HasHistory parts.now }
+        requires marks { IsMarked self.old parts.now }
         ensures { (h : Seq Entry) (q : Whole) → IsLegal h → StandsFor parts.now (replay h) →
             IsMarked self.old parts.now →
             HasHistory q → IsAfterCall h call.now q → IsMarked self.new q }
     {
         times_that_no_step_looks_at();
         match call {
-            Call::Tick(_) => self.touch_time(&parts.records),
+            Call::Tick(ms) => self.touch_time(parts, parts.records.now().saturating_add(*ms)),
             Call::Txn(ops) => self.touch_ops(parts, ops.as_slice()),
             // these read, or are about watchers
             Call::View(_) | Call::Settle(_) | Call::WatchPoll(_) | Call::WatchFinish(_) => {}
@@ -430,16 +458,19 @@ impl Marks {
         }
     }
 
-    /// The agent that does the duty may owe a report then, or have an executor that goes or has a step. The rows' spans
-    /// stay.
+    /// The agent that does the duty may owe a report then, or have an executor that goes, has a step or a phase to come.
+    /// The rows' spans stay.
     pub fn hear(&mut self, duty: Duty)
         ensures tasks { self.new.tasks ≡ self.old.tasks }
         ensures services { self.new.services ≡ self.old.services }
+        ensures timed { self.new.timed ≡ self.old.timed }
         ensures known { self.new.known ≡ self.old.known }
         ensures duties { self.new.agents.duties ≡ self.old.agents.duties }
         ensures tells { self.new.agents.tells ≡ self.old.agents.tells }
         ensures news { self.new.agents.news ≡ news_by duty self.old.agents.news }
+        ensures waits { self.new.agents.waits ≡ news_by duty self.old.agents.waits }
         ensures steps { self.new.agents.steps ≡ steps_by duty self.old.agents.steps }
+        ensures wakes { self.new.agents.wakes ≡ self.old.agents.wakes }
     {
         self.agents.hear(duty);
     }
@@ -448,6 +479,7 @@ impl Marks {
     pub fn touch_session(&mut self, node: Id)
         ensures goes_on { SessionLaw node self.old.tasks self.new.tasks }
         ensures services { self.new.services ≡ self.old.services }
+        ensures timed { self.new.timed ≡ self.old.timed }
         ensures known { self.new.known ≡ self.old.known }
         ensures agents { self.new.agents ≡ self.old.agents }
     {

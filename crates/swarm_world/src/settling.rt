@@ -1,21 +1,26 @@
 // The settle test on the parts of the world.
-ghost use Rattle.std.specs.Prelude.{◌≡◌, List as Seq, ℕ};
+ghost use Rattle.std.specs.Prelude.{◌≡◌, ◌<◌, IsTrue, List as Seq, Some, true, ℕ};
 ghost use Rattle.swarm_model.specs.History.{replay};
 ghost use Rattle.swarm_model.specs.Settle.{settle_answer};
 ghost use Rattle.swarm_objects.specs.Duties.{first_duty};
 ghost use Rattle.swarm_objects.specs.Kinds.{roles};
 ghost use Rattle.swarm_objects.specs.declared.calls.Call.TheVariants as call;
 ghost use Rattle.swarm_objects.specs.declared.calls.Entry.{Entry};
-ghost use Rattle.swarm_spans.specs.Lines.{to_wait};
-ghost use Rattle.swarm_spans.specs.Spans.{CoversTasks};
+ghost use Rattle.swarm_agent.specs.Agent.{at_node};
+ghost use Rattle.swarm_agent.specs.Times.{seen_agent};
+ghost use Rattle.swarm_objects.specs.Rows.{RisesFrom, agent_node};
+ghost use Rattle.swarm_settle.specs.Asked.{AreAsked, may_wait};
+ghost use Rattle.swarm_spans.specs.Spans.{Covers, IsWider, is_in};
 ghost use Rattle.swarm_world.specs.Inside.Marks.{IsMarked};
 ghost use Rattle.swarm_world.specs.Inside.Parts.{Answers, HasHistory, StandsFor};
 ghost use Rattle.swarm_world.specs.Inside.Records.{tables_of};
 
 use crate::marks::Marks;
 use crate::parts::Parts;
-use swarm_objects::{Duty, Refusal, Reply, Role, Settle};
-use swarm_settle::settle_by;
+use swarm_agent::theorems::times_that_no_step_looks_at;
+use swarm_agent::{Agent, Agents};
+use swarm_objects::{Duty, Id, Ms, Refusal, Reply, Role, Settle};
+use swarm_settle::{Asked, is_on, next_agent_in, settle_by};
 use swarm_spans::Span;
 
 impl Marks {
@@ -45,22 +50,75 @@ impl Marks {
         ensures marks { IsMarked self.new parts.now }
     {
         let first = self.find_among(parts, &Role::ALL);
-        parts.settled_by(first, self.tasks.to_wait)
+        self.agents.waits = still_waiting(&parts.agents, self.agents.waits);
+        parts.settled_by(first, &self.asked())
+    }
+
+    // The rows that the settle test asks.
+    fn asked(&self) -> Asked
+        ensures tasks { result.tasks ≡ self.now.tasks.to_wait }
+        ensures updates { result.updates ≡ self.now.timed.updates }
+        ensures remotes { result.remotes ≡ self.now.timed.remotes }
+        ensures agents { result.agents ≡ Some self.now.agents.waits }
+    {
+        Asked {
+            tasks: self.tasks.to_wait,
+            updates: self.timed.updates,
+            remotes: self.timed.remotes,
+            agents: Some(self.agents.waits),
+        }
     }
 }
 
+// The agent isn't on, or has an executor with a phase to come.
+fn may_wait(agent: &Agent) -> bool
+    ensures { (node : ℕ) → may_wait (seen_agent (at_node node agent.now)) ≡ true → IsTrue result }
+{
+    times_that_no_step_looks_at();
+    if !is_on(agent.mode()) {
+        return true;
+    }
+    agent.first_wake() != Ms::MAX
+}
+
+// The agent's node too, where the agent may be waited for.
+#[tactic(auto, using(crate::proofs::StillWaiting::adding_steps))]
+fn add_waiting(node: Id, agent: &Agent, span: &mut Span)
+    ensures wider { IsWider span.new span.old }
+    ensures own { 0 < node → may_wait (seen_agent (at_node node agent.now)) ≡ true → is_in span.new node ≡ true }
+{
+    if may_wait(agent) {
+        span.add(node);
+    }
+}
+
+// Of the agents in the span those that may be waited for.
+fn still_waiting(agents: &Agents, span: Span) -> Span
+    requires ordered { RisesFrom agent_node 0 agents.now }
+    requires covers { Covers agent_node may_wait span agents.now }
+    ensures { Covers agent_node may_wait result agents.now }
+{
+    let mut still = Span::empty();
+    let mut left = span;
+    while let Some((node, agent)) = next_agent_in(agents, &left) {
+        add_waiting(*node, agent, &mut still);
+        left.pass(*node);
+    }
+    still
+}
+
 impl Parts {
-    /// What the settle test answers where this is the first duty of all control loops, or there is none. The span has
-    /// each task that waits to be raised.
-    pub fn settled_by(&self, first: Option<Duty>, waiting: Span) -> Settle
+    /// What the settle test answers where this is the first duty of all control loops, or there is none. The spans have
+    /// each row that may be waited for, held or paused.
+    pub fn settled_by(&self, first: Option<Duty>, asked: &Asked) -> Settle
         requires at { HasHistory self.now }
-        requires waiting { CoversTasks to_wait (tables_of self.now.records) waiting }
+        requires asked { AreAsked (tables_of self.now.records) self.now.agents asked.now }
         ensures { (h : Seq Entry) → StandsFor self.now (replay h) → first ≡ first_duty (replay h) roles →
             result ≡ settle_answer (replay h) }
     {
         match first {
             Some(duty) => Settle::Busy(duty),
-            None => settle_by(&self.records, &self.records.sessions, &self.agents, waiting),
+            None => settle_by(&self.records, &self.records.sessions, &self.agents, asked),
         }
     }
 

@@ -1,4 +1,4 @@
-use Rattle.std.proofs.Common.{◌∙◌, ◌≡◌}
+use Rattle.std.proofs.Common.{◌≡◌}
 use Rattle.swarm_model.specs.Settle.{idle_answer}
 use Rattle.swarm_objects.specs.World.{World}
 use Rattle.swarm_settle.proofs.Promised.{promised}
@@ -12,5 +12,5 @@ returns g c =
     let s = c.args.sessions.now in
     let agents = c.args.agents.now in
     let says : (w : World) → StandFor t s agents w → c.idle_answer.result ≡ idle_answer w =
-    λ w stand. c.idle_answer.ensures ∙ stands_answer c.times_that_no_step_looks_at.ensures t s agents w stand in
+    stands_answer c.times_that_no_step_looks_at.ensures t s agents c.idle_answer.result c.idle_answer.ensures in
     record { answer = says; matched = promised t s agents c.idle_answer.result says }

@@ -1,7 +1,7 @@
 -- All spans of the lines over services, over one list of changes.
-use Rattle.std.proofs.Common.{Bool, List, None, Option, Some, [], ap, cond, false, inl, inr, refl, subst, sym, true, ℕ, arith, ◌<◌, ◌∙◌, ◌∷◌, ◌≡◌, ◌⊎◌}
+use Rattle.std.proofs.Common.{Bool, List, None, Option, Some, [], ap, cond, false, inl, inr, refl, subst, sym, true, ℕ, arith, ◌<◌, ◌∙◌, ◌∷◌, ◌≡◌}
 use Rattle.std.specs.List.{list_any}
-use Rattle.std.specs.Prelude.{is_some, nat_le, ◌++◌, ◌^◌}
+use Rattle.std.specs.Prelude.{is_some, nat_le, ◌++◌, ◌^◌, ◌||◌}
 use Rattle.swarm_objects.proofs.RowLemmas.{number_above}
 use Rattle.swarm_objects.specs.Bounds.{far_end}
 use Rattle.swarm_objects.specs.ChangeLists.{apply_changes}
@@ -20,7 +20,7 @@ use Rattle.swarm_objects.specs.declared.services.Mode.{Mode}
 use Rattle.swarm_objects.specs.declared.services.Service.{Service}
 use Rattle.swarm_objects.specs.declared.services.UpdateRun.{UpdateRun}
 use Rattle.swarm_objects.specs.declared.tasks.Task.{Task}
-use Rattle.swarm_spans.proofs.Grown.{in-full, own-with, wider_itself, wider_over, wider_with}
+use Rattle.swarm_spans.proofs.Grown.{in-full, wider_itself, wider_over}
 use Rattle.swarm_spans.proofs.Services.GoesOn.{come_goes_on, create_goes_on, down_goes_on, leave_goes_on, next_goes_on, port_goes_on}
 use Rattle.swarm_spans.proofs.Services.Outcomes.{no-node-put, same-clock, same-settings}
 use Rattle.swarm_spans.proofs.Services.Touching.{number-wider, service_of-wider, shifted-all}
@@ -29,9 +29,10 @@ use Rattle.swarm_spans.proofs.Services.Quiet.{updates_go_on}
 use Rattle.swarm_spans.specs.Services.Lines.{AreRising, MovedLaw, PlacedLaw, comes, creates, downs, job_creates, leaves, trims, updates}
 use Rattle.swarm_spans.specs.Services.Standings.{comes_quietly, progress, standing}
 use Rattle.swarm_spans.specs.Services.Steps.{HasEach, HasForPorts, HasRemains, HasShifted, HasShiftedBut}
-use Rattle.swarm_spans.specs.Services.Touches.{AddingUpdated, AreCovered, HasUpdated, Joins, JoinsForNodes, ServiceTimeLaw, puts_node}
-use Rattle.swarm_spans.specs.Spans.{CoversServices, CoversTasks, IsWider, full, has_duty, is_in, with_id}
+use Rattle.swarm_spans.specs.Services.Touches.{AreCovered, Joins, JoinsForNodes, ServiceTimeLaw, puts_node}
+use Rattle.swarm_spans.specs.Spans.{Covers, CoversServices, CoversTasks, IsWider, full, has_duty, is_in}
 use Rattle.swarm_spans.specs.TasksCovered.{at_time}
+use Rattle.swarm_spans.specs.Timed.{has_paused_run, is_unfinished}
 use Rattle.swarm_spans.specs.declared.service_spans.ServiceSpans.{ServiceSpans}
 use Rattle.swarm_spans.specs.declared.span.Span.{Span}
 
@@ -103,59 +104,6 @@ all_full d c l m j p u r ds cs ls ms js ps us rs t usable = record {
   trims = subst (CoversTasks trims t) (sym rs) (tasks-full trims t usable);
 }
 
--- The services with an update under way, one after the other.
-
-pub none_updated : (t : Tables) (span : Span) → AddingUpdated t t.services span
-none_updated t span = record { each = λ s h under. inr h; fewer = λ s h. h }
-
-pub one_updated : (t : Tables) (items rest : List Service) (span wide : Span) (s : Service) → IsUsable t
-    → AddingUpdated t items span → items ≡ s ∷ rest → wide ≡ with_id span s.id → AddingUpdated t rest wide
-one_updated t items rest span wide s usable a step is = record {
-  each = λ r h under.
-      elim (a.each r h under) [
-        | inl has ↦ inl ((wider_with span wide s.id is).has r.id has)
-        | inr left ↦ now r (subst (λ list. Has list r) step left)
-      ];
-  fewer = λ r h. a.fewer r (subst (λ list. Has list r) (sym step) (inr h));
-}
-  where
-    there : Has t.services s
-    there = a.fewer s (subst (λ list. Has list s) (sym step) (inl refl))
-
-    now : (r : Service) → (s ≡ r) ⊎ Has rest r → (is_in wide r.id ≡ true) ⊎ Has rest r
-    now r (inl same) =
-        inl (subst (λ (k : Service). is_in wide k.id ≡ true) same
-        (subst (λ (k : Span). is_in k s.id ≡ true) (sym is)
-        (own-with span s.id (number_above service_id 0 t.services s usable.sound.ordered.services there))))
-    now r (inr h) = inr h
-
-pub one_passed : (t : Tables) (items rest : List Service) (span : Span) (s : Service) → AddingUpdated t items span
-    → items ≡ s ∷ rest → false ≡ has_open_run s → AddingUpdated t rest span
-one_passed t items rest span s a step none = record {
-  each = λ r h under.
-      elim (a.each r h under) [
-        | inl has ↦ inl has
-        | inr left ↦ now r under (subst (λ list. Has list r) step left)
-      ];
-  fewer = λ r h. a.fewer r (subst (λ list. Has list r) (sym step) (inr h));
-}
-  where
-    now : (r : Service) → has_open_run r ≡ true → (s ≡ r) ⊎ Has rest r → (is_in span r.id ≡ true) ⊎ Has rest r
-    now r under (inl same) = absurd (let both : false ≡ true = none ∙ ap has_open_run same ∙ under in cc)
-    now r under (inr h) = inr h
-
-pub all_updated : (t : Tables) (items : List Service) (span : Span) → AddingUpdated t items span → items ≡ []
-    → HasUpdated t span
-all_updated t items span a none = record {
-  services = λ s h under.
-      elim (a.each s h under) [
-        | inl has ↦ has
-        | inr left ↦ absurd (subst (λ list. Has list s) none left)
-      ];
-}
-
-pub ruleset updated_steps = (none_updated, one_updated, one_passed, all_updated)
-
 -- As time goes by.
 
 -- at any time a service without an update under way owes the same
@@ -177,8 +125,8 @@ closed-same t clock s none = go s.spec.mode
     go mode.Global = ap (λ ds. when (is_to_start t s) (duty.Start s.id) ++ ds) (runs-same t clock s s.run none)
     go (mode.Job concurrent total) = refl
 
-pub time_goes_on : (t : Tables) (spans : ServiceSpans) (updating started : Span) → IsUsable t → HasUpdated t started
-    → Joins updating spans.updates started → ServiceTimeLaw t spans (record spans { updates = updating })
+pub time_goes_on : (t : Tables) (spans : ServiceSpans) (updating started : Span) → IsUsable t
+    → Covers service_id is_unfinished started t.services → Joins updating spans.updates started → ServiceTimeLaw t spans (record spans { updates = updating })
 time_goes_on t spans updating started usable updated joins clock are =
     let u = at_time clock t in
     let rising : AreRising t u =
@@ -203,7 +151,7 @@ time_goes_on t spans updating started usable updated joins clock are =
   where
     at : (s : Service) → Has t.services s → has_duty (updates (at_time clock t)) s ≡ true → (b : Bool)
         → has_open_run s ≡ b → is_in updating s.id ≡ true
-    at s h passes true under = joins.more.has s.id (updated.services s h under)
+    at s h passes true under = joins.more.has s.id (updated.has s h (ap (λ b. b || has_paused_run s) under))
     at s h passes false none =
         joins.span.has s.id
         (are.updates.has s h (ap (λ ds. is_some (first_of ds)) (sym (closed-same t clock s none)) ∙ passes))

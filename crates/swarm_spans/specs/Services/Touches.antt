@@ -6,7 +6,6 @@ use Rattle.swarm_objects.specs.ChangeLists.{apply_change}
 use Rattle.swarm_objects.specs.Loops.Allocator.{port_duties}
 use Rattle.swarm_objects.specs.Loops.Reaper.{is_past}
 use Rattle.swarm_objects.specs.Rows.{Has, row_at, service_id, task_id}
-use Rattle.swarm_objects.specs.Services.Runs.{has_open_run}
 use Rattle.swarm_objects.specs.Usable.{IsUsable}
 use Rattle.swarm_objects.specs.World.{Tables}
 use Rattle.swarm_objects.specs.declared.rows.Change.{Change}
@@ -18,7 +17,7 @@ use Rattle.swarm_spans.specs.Services.Lines.{comes, creates, downs, job_creates,
 use Rattle.swarm_spans.specs.Services.Numbers.{frees_number}
 use Rattle.swarm_spans.specs.Services.Standings.{bounds, remains}
 use Rattle.swarm_spans.specs.Services.Steps.{HasBesideOf, HasItself, HasNumber, HasServiceOf, HasTasksOf, Turns}
-use Rattle.swarm_spans.specs.Spans.{CoversServices, CoversTasks, IsWider, full, is_in}
+use Rattle.swarm_spans.specs.Spans.{CoversServices, CoversTasks, IsWider, full}
 use Rattle.swarm_spans.specs.TasksCovered.{HasNewServices, at_time, with_nodes, with_services}
 use Rattle.swarm_spans.specs.declared.service_spans.ServiceSpans.{ServiceSpans}
 use Rattle.swarm_spans.specs.declared.span.Span.{Span}
@@ -107,15 +106,6 @@ pub record AreCovered (t : Tables) (spans : ServiceSpans) : Type 0 where
   pub ports : CoversServices port_duties t spans.ports
   pub updates : CoversServices updates t spans.updates
   pub trims : CoversTasks trims t spans.trims
-
--- each service with an update under way
-pub record HasUpdated (t : Tables) (span : Span) : Type 0 where
-  pub services : (s : Service) → Has t.services s → has_open_run s ≡ true → is_in span s.id ≡ true
-
--- it is in the span, or among those that are left
-pub record AddingUpdated (t : Tables) (left : List Service) (span : Span) : Type 0 where
-  pub each : (s : Service) → Has t.services s → has_open_run s ≡ true → (is_in span s.id ≡ true) ⊎ Has left s
-  pub fewer : (s : Service) → Has left s → Has t.services s
 
 -- the ones cover what the others do of these tables, at any time
 abbrev pub ServiceTimeLaw : Tables → ServiceSpans → ServiceSpans → Type 0

@@ -1,5 +1,5 @@
 -- What the agents' loop looks at, and which nodes its spans cover.
-use Rattle.std.specs.Prelude.{Bool, List, [], false, if◌then◌else◌, is_some, true, ℕ, ◌&&◌, ◌++◌, ◌<◌, ◌==◌, ◌∷◌, ◌≡◌, ◌⊎◌, ⊤}
+use Rattle.std.specs.Prelude.{Bool, List, [], false, if◌then◌else◌, is_some, max, true, ℕ, ◌&&◌, ◌++◌, ◌-◌, ◌<◌, ◌==◌, ◌∷◌, ◌≡◌, ◌≤◌, ◌⊎◌, ⊤}
 use Rattle.swarm_objects.specs.Agents.Messages.{message_for}
 use Rattle.swarm_objects.specs.Loops.Agents.{agent_duties, has_step, is_forgotten, is_mode_on, report_duties}
 use Rattle.swarm_objects.specs.Loops.Words.{duty_where}
@@ -11,8 +11,12 @@ use Rattle.swarm_objects.specs.declared.agents.NodeAgent.{NodeAgent}
 use Rattle.swarm_objects.specs.declared.duties.Duty.TheVariants as duty
 use Rattle.swarm_objects.specs.declared.duties.Duty.{Duty}
 use Rattle.swarm_objects.specs.declared.messages.NodeSent.{NodeSent}
+use Rattle.swarm_settle.specs.Asked.{may_wait}
 use Rattle.swarm_spans.specs.Spans.{Covers, beyond, has_duty, is_in}
+use Rattle.swarm_spans.specs.TasksCovered.{at_time}
+use Rattle.swarm_spans.specs.Wakes.{wake_at}
 use Rattle.swarm_spans.specs.declared.span.Span.{Span}
+use Rattle.swarm_spans.specs.declared.wakes.Wakes.{Wakes}
 use Rattle.swarm_world.specs.declared.agent_spans.AgentSpans.{AgentSpans}
 use Rattle.swarm_world.specs.declared.agent_spans.Steps.{Steps}
 
@@ -81,10 +85,29 @@ pub record HasNoStep (clock : ℕ) (s : Steps) (a : NodeAgent) : Type 0 where
 abbrev pub IsPassed : ℕ → NodeAgent → Steps → Steps → Type 0
 IsPassed clock a s next = (next ≡ s) ⊎ ((next.node ≡ a.node) × HasNoStep clock next a)
 
--- each node whose agent has a duty is in the first span, each whose agent wants a message in the second, and each whose
--- agent has news in the third; and what is known of steps is so
+-- Sleep.
+
+-- the world with this clock
+abbrev pub at_clock : ℕ → World → World
+at_clock clock w = record w { tables = at_time clock w.tables }
+
+-- the agent has no duty before this time, if nothing changes but the clock
+abbrev pub SleepsTill : World → NodeAgent → ℕ → Type 0
+SleepsTill w a time =
+    (clock : ℕ) → w.tables.clock ≤ clock → clock < time → has_duty (agent_duties (at_clock clock w)) a ≡ false
+
+-- the agent has a duty, or will have one before the time at which it is woken
+abbrev pub is_restless : Wakes → World → NodeAgent → Bool
+is_restless wakes w a =
+    has_duty (agent_duties (at_clock (max w.tables.clock (wake_at wakes a.node - 1)) w)) a
+
+-- each node whose agent has a duty is in the first span, and so is each whose agent will have one before it is woken;
+-- each whose agent wants a message is in the second, each whose agent has news in the third, and each whose agent may be
+-- waited for in the fourth; and what is known of steps is so
 pub record AreSpanned (w : World) (spans : AgentSpans) (agents : List NodeAgent) : Type 0 where
   pub duties : Covers agent_node (has_duty (agent_duties w)) spans.duties agents
+  pub sleeps : Covers agent_node (is_restless spans.wakes w) spans.duties agents
   pub tells : Covers agent_node (wants_message w) spans.tells agents
   pub news : Covers agent_node (is_unsaid w) spans.news agents
+  pub waits : Covers agent_node may_wait spans.waits agents
   pub steps : (a : NodeAgent) → Has agents a → HasNoStep w.tables.clock spans.steps a

@@ -9,6 +9,7 @@ use Rattle.swarm_objects.specs.declared.calls.Op.{Op}
 use Rattle.swarm_objects.specs.declared.calls.What.TheVariants as what
 use Rattle.swarm_spans.specs.Services.Touches.{AreCovered}
 use Rattle.swarm_spans.specs.TasksCovered.{AreTasksCovered}
+use Rattle.swarm_spans.specs.Timed.{AreTimed}
 use Rattle.swarm_world.specs.Inside.Known.{KnowsAll}
 use Rattle.swarm_world.specs.Inside.Parts.{StandsFor}
 use Rattle.swarm_world.specs.Inside.Records.{tables_of}
@@ -16,10 +17,12 @@ use Rattle.swarm_world.specs.Inside.Spanned.{CoversAgents}
 use Rattle.swarm_world.specs.declared.marks.Marks.{Marks}
 use Rattle.swarm_world.specs.declared.parts.Parts.{Parts}
 
--- each row with a duty of a line is in the line's span, and what is remembered is so
+-- each row with a duty of a line is in the line's span, and each for which time passes in its own; and what is
+-- remembered is so
 pub record AreMarked (m : Marks) (t : Tables) : Type 0 where
   pub tasks : AreTasksCovered t m.tasks
   pub services : AreCovered t m.services
+  pub timed : AreTimed t m.timed
   pub known : KnowsAll t m.known
 
 -- and each node of an agent in those of the agents' loop

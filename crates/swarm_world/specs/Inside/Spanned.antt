@@ -26,11 +26,13 @@ use Rattle.swarm_world.specs.declared.parts.Parts.{Parts}
 abbrev pub CoversAgents : Parts → AgentSpans → Type 0
 CoversAgents p spans = AreSpanned (looked_at (tables_of p.records) p.sent) spans p.agents
 
--- the one has what the other has, and knows no more of steps
+-- the one has what the other has, and knows no more of steps and of sleep
 pub record AreWider (wide spans : AgentSpans) : Type 0 where
   pub duties : IsWider wide.duties spans.duties
   pub tells : IsWider wide.tells spans.tells
   pub news : IsWider wide.news spans.news
+  pub waits : IsWider wide.waits spans.waits
+  pub wakes : wide.wakes ≡ spans.wakes
   pub steps : (node : ℕ) → before_on wide.steps node ≤ before_on spans.steps node
 
 -- and each node from this one on, with nothing known of steps
@@ -39,18 +41,21 @@ pub record AreWiderFrom (first : ℕ) (wide spans : AgentSpans) : Type 0 where
   pub duties : IsWider wide.duties (onwards first)
   pub tells : IsWider wide.tells (onwards first)
   pub news : IsWider wide.news (onwards first)
+  pub waits : IsWider wide.waits (onwards first)
   pub steps : wide.steps ≡ no_steps
 
 -- it has exactly what it had up to this number
 pub record IsEnded (last : ℕ) (span ended : Span) : Type 0 where
   pub is : (id : ℕ) → is_in ended id ≡ (is_in span id && nat_le id last)
 
--- so do all three, and what is known of steps stays
+-- so do all four, and what is known of steps and of sleep stays
 pub record AreEnded (last : ℕ) (spans ended : AgentSpans) : Type 0 where
   pub duties : IsEnded last spans.duties ended.duties
   pub tells : IsEnded last spans.tells ended.tells
   pub news : IsEnded last spans.news ended.news
+  pub waits : IsEnded last spans.waits ended.waits
   pub steps : ended.steps ≡ spans.steps
+  pub wakes : ended.wakes ≡ spans.wakes
 
 -- no agent is of a node above this one
 pub record AreUpTo (agents : List NodeAgent) (last : ℕ) : Type 0 where
@@ -61,7 +66,7 @@ abbrev pub told_by : Duty → Span → Span
 told_by (duty.Register node) span = with_id span node
 told_by _ span = span
 
--- the agent that does a duty may have news then; a beat is of a live session, and gives none
+-- the agent that does a duty may have news then, or a phase to come; a beat is of a live session, and gives none
 abbrev pub news_by : Duty → Span → Span
 news_by (duty.Register node) span = with_id span node
 news_by (duty.Apply node) span = with_id span node
@@ -86,8 +91,12 @@ abbrev pub with_told : Duty → AgentSpans → AgentSpans
 with_told d spans = record spans { tells = told_by d spans.tells }
 
 abbrev pub after_turn : Duty → AgentSpans → AgentSpans
-after_turn d spans =
-    record spans { tells = told_by d spans.tells; news = news_by d spans.news; steps = steps_by d spans.steps }
+after_turn d spans = record spans {
+  tells = told_by d spans.tells;
+  news = news_by d spans.news;
+  waits = news_by d spans.waits;
+  steps = steps_by d spans.steps;
+}
 
 -- how they go on covering
 pub record AgentsSpanLaw : Type 0 where

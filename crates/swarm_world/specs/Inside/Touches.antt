@@ -43,9 +43,11 @@ pub record WidensTold (t : Tables) (span wide : Span) (cs : List Change) : Type 
   pub touches : TouchesAllTold t wide cs
 
 -- so does each of the first two. No change of rows gives an agent news: a task that comes is new, and has no executor.
--- And none gives an executor a step.
+-- And none gives an executor a step or a phase to come, or wakes an agent that isn't touched.
 pub record AreTouched (t : Tables) (spans wide : AgentSpans) (cs : List Change) : Type 0 where
   pub duties : WidensTold t spans.duties wide.duties cs
   pub tells : WidensTold t spans.tells wide.tells cs
   pub news : wide.news ≡ spans.news
+  pub waits : wide.waits ≡ spans.waits
+  pub wakes : wide.wakes ≡ spans.wakes
   pub steps : wide.steps ≡ spans.steps

@@ -1,26 +1,34 @@
-use Rattle.std.proofs.Common.{ap, rules, ◌∙◌, ◌∷◌, ◌≡◌}
-use Rattle.std.specs.Prelude.{flat_map}
-use Rattle.swarm_model.specs.Settle.{remote_wait, wait_cmp}
-use Rattle.swarm_objects.specs.Rows.{least_by}
+use Rattle.swarm_model.specs.Settle.{is_remote}
+use Rattle.swarm_objects.specs.Rows.{node_id}
+use Rattle.swarm_settle.proofs.Asking.{remote_asked}
 use Rattle.swarm_settle.proofs.ByNode.{remote_by_node}
-use Rattle.swarm_settle.proofs.LeastWaits.{least_step}
+use Rattle.swarm_settle.proofs.GoingOver.{begins, covers_giving, ends, goes_on}
 use Rattle.swarm_settle.proofs.waits.remote_waits.Goals as goal
 use Rattle.swarm_settle.specs.ByNode.{remote_waits_on}
 use Rattle.swarm_settle.specs.Standing.{with_sessions}
+use Rattle.swarm_spans.proofs.Firsts.{less_nodes}
 
 pub loop-node-init : goal.loop-node-init
 loop-node-init g c =
     let t = with_sessions (g.R.Rows.tables c.args.rows.now) c.args.sessions.now in
-    let begun : c.into_iter-node-iterator.result ≡ t.nodes = search rules in
-    ap (λ ns. least_by wait_cmp c.args.best (flat_map (remote_waits_on t) ns)) begun
-    ∙ remote_by_node t c.args.best
+    begins node_id (remote_waits_on t) t.nodes c.args.asked c.args.best
+    (covers_giving node_id is_remote (remote_waits_on t) c.args.asked t.nodes (remote_asked t) c.requires.asked)
 
 pub loop-node-preserved : goal.loop-node-preserved
 loop-node-preserved g c =
     let t = with_sessions (g.R.Rows.tables c.args.rows.now) c.args.sessions.now in
-    let left = c.loop-node.node-iterator in
-    let node = c.in-Some.node.now in
-    let step : left ≡ node ∷ c.next.new.self = search rules in
-    least_step wait_cmp (remote_waits_on t) left c.next.new.self node c.loop-node.least c.remote_waits_on-least.result
-    (least_by wait_cmp c.args.best (flat_map (remote_wait t) t.tasks)) step c.remote_waits_on-least.ensures
-    c.loop-node.invariant
+    goes_on node_id (remote_waits_on t) t.nodes c.loop-node.left c.pass.new.self c.args.best c.loop-node.least
+    c.remote_waits_on-least.result c.in-Some.node.now c.requires.usable.sound.ordered.nodes c.loop-node.invariant
+    c.in-Some.ensures c.remote_waits_on-least.ensures c.pass.ensures
+
+pub loop-node-smaller : goal.loop-node-smaller
+loop-node-smaller g c =
+    less_nodes (g.R.Rows.tables c.args.rows.now) c.loop-node.left c.pass.new.self c.in-Some.node.now c.in-Some.ensures
+    c.pass.ensures
+
+pub returns : goal.returns
+returns g c =
+    let t = with_sessions (g.R.Rows.tables c.args.rows.now) c.args.sessions.now in
+    remote_by_node t c.args.best c.loop-node.least
+    (ends node_id (remote_waits_on t) t.nodes c.loop-node.left c.args.best c.loop-node.least c.loop-node.invariant
+    c.in_default.ensures)

@@ -8,7 +8,7 @@ use Rattle.swarm_spans.specs.Spans.{Covers, has_duty, is_left_out}
 pub loop-task-init : goal.loop-task-init
 loop-task-init g c =
     let t = g.R.Rows.tables c.args.rows.now in
-    narrow_begins (has_duty (g.L.TaskLine.duties t)) _ c.args.span t.tasks c.requires.covers
+    narrow_begins task_id (has_duty (g.L.TaskLine.duties t)) _ c.args.span t.tasks c.requires.covers
 
 pub loop-task-preserved : goal.loop-task-preserved
 loop-task-preserved g c =
@@ -28,5 +28,5 @@ loop-task-smaller g c =
 pub returns : goal.returns
 returns g c =
     let t = g.R.Rows.tables c.args.rows.now in
-    narrow_ends (has_duty (g.L.TaskLine.duties t)) c.loop-task.narrow c.loop-task.left t.tasks c.loop-task.invariant
+    narrow_ends task_id (has_duty (g.L.TaskLine.duties t)) c.loop-task.narrow c.loop-task.left t.tasks c.loop-task.invariant
     c.in_default.ensures

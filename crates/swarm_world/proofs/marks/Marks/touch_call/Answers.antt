@@ -2,18 +2,28 @@ use Rattle.std.proofs.Common.{subst, sym}
 use Rattle.swarm_objects.specs.declared.calls.Call.TheVariants as call
 use Rattle.swarm_world.proofs.Entering.{are_usable}
 use Rattle.swarm_world.proofs.Recorded.{usable_rows}
-use Rattle.swarm_world.proofs.Ticking.{tick_marked}
+use Rattle.swarm_world.proofs.Ticking.{until_later, until_ticks}
 use Rattle.swarm_world.proofs.marks.Marks.touch_call.Goals as goal
 use Rattle.swarm_world.specs.Inside.Marks.{IsAfterCall}
+use Rattle.swarm_world.specs.Inside.Records.{tables_of}
 
 pub touch_time-requires : goal.touch_time-requires
-touch_time-requires c = usable_rows c.args.parts.now.records (are_usable c.args.parts.now c.requires)
+touch_time-requires c = record {
+  at = c.requires.at;
+  marks = c.requires.marks;
+  later =
+      until_later (tables_of c.args.parts.now.records) c.now.result c.in-Tick.ms c.saturating_add.result
+      (usable_rows c.args.parts.now.records (are_usable c.args.parts.now c.requires.at)) c.now.ensures
+      c.saturating_add.ensures;
+}
 
 pub returns-in-Tick : goal.returns-in-Tick
 returns-in-Tick c = λ h q legal stands marked is after.
-    tick_marked c.times_that_no_step_looks_at.ensures c.args.self.now c.touch_time.new.self c.in-Tick.field-0
-    c.args.parts.now c.touch_time.ensures.rows c.touch_time.ensures.duties c.touch_time.ensures.tells c.touch_time.ensures.news
-    c.touch_time.ensures.steps h q legal stands marked is (subst (λ call. IsAfterCall h call q) c.in-Tick.is after)
+    c.touch_time.ensures c.in-Tick.ms h q
+    (until_ticks (tables_of c.args.parts.now.records) c.now.result c.in-Tick.ms c.saturating_add.result
+    (usable_rows c.args.parts.now.records (are_usable c.args.parts.now c.requires.at)) c.now.ensures
+    c.saturating_add.ensures) legal stands marked is
+    (subst (λ call. IsAfterCall h call q) c.in-Tick.is after)
 
 pub returns-in-Txn : goal.returns-in-Txn
 returns-in-Txn c = λ h q legal stands marked is after.

@@ -18,12 +18,14 @@ returns-in-Some c =
     (record c.args.self.now {
       tasks = c.touch_service.new.self;
       services = c.touch_service-in-Some.new.self;
+      timed = c.touch_service-in-Some-2.new.self;
       known = c.forget_services.new.self;
     })
     c.args.parts.now c.args.name.now
     (one_touched (tables_of c.args.parts.now.records) c.args.name.now c.args.self.now _ c.in-Some.service.now
     (sym (sym c.service_named.ensures ∙ ap option_copied c.in-Some.is)) c.touch_service.ensures.stays
     c.touch_service.ensures.goes_on c.touch_service-in-Some.ensures.stays c.touch_service-in-Some.ensures.goes_on
+    (c.touch_service-in-Some-2.ensures.stays (tables_of c.args.parts.now.records)) c.touch_service-in-Some-2.ensures.goes_on
     refl c.forget_services.ensures)
 
 pub returns-in_default : goal.returns-in_default

@@ -41,4 +41,4 @@ returns-clause-marks c =
     let p = c.args.self.now in
     beat_marked c.args.node c.now-now.result c.settings-heartbeat.result.heartbeat c.live_session-session.result
     c.args.marks.now c.touch_session.new.self p.records c.beat.new.self (are_usable p c.requires.at) c.requires.marks
-    c.touch_session.ensures.goes_on c.touch_session.ensures.services c.touch_session.ensures.known c.in-Ok.ensures.ok
+    c.touch_session.ensures.goes_on c.touch_session.ensures.services c.touch_session.ensures.timed c.touch_session.ensures.known c.in-Ok.ensures.ok

@@ -37,7 +37,7 @@ returns-in_default-begin-clause-marks c = λ usable.
     not_registered c.args.node c.args.self.now c.begin.new.self (replay is.history) c.touch.new.self
     c.touch_session.new.self (usable_rows c.args.self.now.records (are_usable c.args.self.now is)) is.stands.has
     (c.in_default-begin.ensures is.history is.stands).has c.touch.ensures.stays c.touch_session.ensures.goes_on
-    c.touch_session.ensures.services c.touch_session.ensures.known
+    c.touch_session.ensures.services c.touch_session.ensures.timed c.touch_session.ensures.known
 
 pub returns-clause-marks : goal.returns-clause-marks
 returns-clause-marks c = λ usable.
@@ -46,4 +46,4 @@ returns-clause-marks c = λ usable.
     c.as_slice.result.now c.touch.new.self c.touch_session.new.self c.as_slice.ensures
     (usable_rows c.args.self.now.records (are_usable c.args.self.now is)) is.stands.has c.in-Ok.ensures
     (c.in-Ok-begin.ensures is.history is.stands).1 c.touch.ensures.goes_on c.touch_session.ensures.goes_on
-    c.touch_session.ensures.services c.touch_session.ensures.known usable
+    c.touch_session.ensures.services c.touch_session.ensures.timed c.touch_session.ensures.known usable

@@ -9,7 +9,7 @@ pub settle_by-requires : goal.settle_by-requires
 settle_by-requires c = record {
   usable = usable_rows c.args.self.now.records (are_usable c.args.self.now c.requires.at);
   live = λ node. refl;
-  waiting = c.requires.waiting;
+  asked = c.requires.asked;
 }
 
 pub returns-in-Some : goal.returns-in-Some

@@ -31,7 +31,7 @@ pub returns-clause-marks : goal.returns-clause-marks
 returns-clause-marks c = λ usable.
     let p = c.args.self.now in
     c.remember.ensures.marks (tables_of c.commit-committed.new.records)
-    (same_spans c.touch-foreseen.new.self _ (tables_of c.commit-committed.new.records) refl refl refl
+    (same_spans c.touch-foreseen.new.self _ (tables_of c.commit-committed.new.records) refl refl refl refl
     (commit_marked c.args.version c.as_slice.result.now c.in-Ok.changes p c.requires.at c.commit-committed.new.records
     c.commit-committed.new.watches c.commit-committed.result c.touch-foreseen.new.self c.as_slice.ensures c.commit-committed.ensures c.touch-foreseen.ensures.stays
     c.touch-foreseen.ensures.goes_on usable))

@@ -1,0 +1,10 @@
+use Rattle.std.specs.Prelude.{length}
+use Rattle.swarm_spans.specs.Timed.{AddsService}
+use Rattle.swarm_spans.specs.Touched.{Touching}
+use Rattle.swarm_spans.proofs.passing.add_put_services.Given as goal
+
+abbrev pub invariant-loop-change : goal.invariant-loop-change
+invariant-loop-change l = Touching AddsService l.changes l.left l.initial.span l.span
+
+abbrev pub decreases-loop-change : goal.decreases-loop-change
+decreases-loop-change l = length l.left
