@@ -229,8 +229,8 @@ impl Executors {
         }
     }
 
-    /// The executor of the task makes the step that is due. Steps of one time are made by rising task, so at the last of
-    /// them the time is found anew until which all sleep.
+    /// The executor of the task makes the step that is due. Steps of one time are made by rising task, so at the last
+    /// of them the time is found anew until which all sleep.
     pub fn step(&mut self, task: Id, now: Ms)
         requires near { list_all has_near_times self.old ≡ true }
         requires clock { now < far_end }

@@ -1,4 +1,4 @@
--- What came since caller 0 saw a history: its calls, looks and turns, whatever others append.
+-- What came since caller 0 saw a history: its calls, looks and steps, whatever others append.
 use Rattle.std.specs.Prelude.{◌≡◌, ◌⊎◌, List, [], ◌∷◌, ◌++◌, None, Some, true}
 use Rattle.swarm_model.specs.History.{replay, step_reply}
 use Rattle.swarm_model.specs.Own.{Step, own_from, step_at}

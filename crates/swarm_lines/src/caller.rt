@@ -1,4 +1,4 @@
-// Caller 0's calls, looks and turns.
+// Caller 0's calls, looks and steps.
 ghost use Rattle.std.specs.Prelude.{◌≡◌, ℕ, true, false, IfOk, IfErr, None, Ok, Some, MatchOption};
 ghost use Rattle.swarm_cluster.specs.Looks.{Shows};
 ghost use Rattle.swarm_cluster.specs.declared.works.Look.{Look as Looked};
