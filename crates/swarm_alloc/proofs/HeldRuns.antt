@@ -2,9 +2,7 @@
 use Rattle.std.proofs.Common.{◌≡◌, ◌+◌, ◌<◌, Bool, List, arith, refl, subst, suc, sym, true, zero, ℕ}
 use Rattle.std.specs.List.{list_any}
 use Rattle.std.specs.Prelude.{◌||◌}
-use Rattle.swarm_objects.proofs.FreeNumbers.{all_ports, AreTaken, lowest, next_address, next_port}
-use Rattle.swarm_objects.specs.Limits.{first_port}
-use Rattle.swarm_objects.specs.Services.Ports.{holds_port}
+use Rattle.swarm_objects.proofs.FreeNumbers.{AreTaken, lowest, next_address}
 use Rattle.swarm_objects.specs.Tasks.Addresses.{addresses_held}
 use Rattle.swarm_objects.specs.Tasks.Holders.{holds_address}
 use Rattle.swarm_objects.specs.World.{Tables}
@@ -34,10 +32,3 @@ pub addresses_taken : (t : Tables) (id : ℕ) (network : Network) (n count : ℕ
 addresses_taken t id network =
     run-taken (lowest network) (addresses_held t id) (λ n. list_any (holds_address id n) t.tasks)
     (λ n held. next_address t id network n true held refl)
-
-pub ports_taken : (t : Tables) (udp : Bool) (n count : ℕ)
-    → ((place : ℕ) → place < count → list_any (holds_port udp (n + place)) t.services ≡ true)
-    → AreTaken first_port (all_ports t udp) n → AreTaken first_port (all_ports t udp) (n + count)
-ports_taken t udp =
-    run-taken first_port (all_ports t udp) (λ n. list_any (holds_port udp n) t.services)
-    (λ n held. next_port t udp n true held refl)

@@ -1,5 +1,6 @@
 mod Applying
-mod Counted
+mod HeldPorts
 mod HeldRuns
+mod NearGaps
 mod Pooled
 mod Steps

@@ -2,7 +2,7 @@
 use Rattle.std.proofs.Common.{◌≡◌, ◌∙◌, ◌+◌, ◌<◌, ◌≤◌, ◌⊎◌, Bool, List, None, Option, Some, [], ap, arith, cond, drop, false, inl, inr, leb, length, min, refl, subst, suc, sym, true, zero, ℕ, ◌∷◌}
 use Rattle.std.proofs.lemmas.Bool.Decides.{nat_tests}
 use Rattle.std.specs.Prelude.{fold, ◌&&◌}
-use Rattle.swarm_alloc.proofs.Counted.{gap-near}
+use Rattle.swarm_alloc.proofs.NearGaps.{gap-near}
 use Rattle.swarm_objects.proofs.Gaps.{Has-with_number_keeps, Has-with_row, first_gap-ge}
 use Rattle.swarm_objects.proofs.FreeNumbers.{is_taken, not-Has, taken-Has}
 use Rattle.swarm_objects.proofs.Rising.{gap-free, gap-held, rising-cases, rising-has, rising-rises, with_number-cases}

@@ -1,3 +1,3 @@
 pub mod Allocating
-pub mod Counted
+pub mod HeldPorts
 pub mod Runs

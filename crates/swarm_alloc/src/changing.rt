@@ -19,7 +19,8 @@ ghost use Rattle.swarm_objects.specs.Effects.{after_duty};
 ghost use Rattle.swarm_objects.specs.Usable.{IsUsable};
 
 use crate::finding::exhausted_for;
-use crate::pooling::{free_address, free_port};
+use crate::free_numbers::free_port;
+use crate::pooling::free_address;
 use std::alloc::Global;
 use swarm_objects::effects::set_note;
 use swarm_objects::{
@@ -92,7 +93,7 @@ fn give_port<R: Rows>(
     ensures { let t = R.tables rows.now in
         IfOk result (λ changes. Makes t changes (after_port version t service target udp)) }
 {
-    let Some(number) = free_port(alloc, rows, udp)? else {
+    let Some(number) = free_port(rows, udp) else {
         return Ok(List::new(alloc));
     };
     let number = PortNumber {
@@ -211,7 +212,7 @@ fn note_found<R: Rows>(
 }
 
 /// The changes that a duty of the allocator makes as the entry with this number. What isn't due any more may be asked
-/// for too: a service or task that isn't there is left out. A pool of the numbers is built for each number that is
+/// for too: a service or task that isn't there is left out. A pool of the numbers is built for each address that is
 /// given.
 pub fn changes<R: Rows>(
     alloc: Global,

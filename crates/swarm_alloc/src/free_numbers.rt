@@ -1,5 +1,5 @@
-// The least numbers that are free, found without memory: ports of a protocol, and addresses of a network. They are
-// looked for by words of numbers.
+// The least numbers that are free, found without memory: ports of a protocol, by a flag for each number, and addresses of
+// a network, by words of numbers.
 ghost use Rattle.std.specs.Prelude.{◌≡◌, ◌+◌, ◌-◌, ◌^◌};
 ghost use Rattle.std.specs.List.{list_any};
 ghost use Rattle.swarm_objects.specs.Loops.Allocator.{has_free_address, has_free_port};
@@ -8,24 +8,23 @@ ghost use Rattle.swarm_objects.specs.Tasks.Addresses.{addresses_held, free_addre
 ghost use Rattle.swarm_objects.specs.Usable.{IsUsable};
 ghost use Rattle.swarm_objects.specs.Tasks.Holders.{holds_address, is_address};
 
-use crate::plenty::has_plenty;
+use crate::held_ports::held_ports;
 use crate::ports::{FIRST_PORT, LAST_PORT};
-use crate::runs::{WORD, addresses_held_from, ports_held_from};
+use crate::runs::{WORD, addresses_held_from};
 use swarm_objects::{Address, Id, Network, Rows, Task};
 
-// The least number of the protocol that no service holds.
-fn free_port<R: Rows>(rows: &R, udp: bool) -> Option<u16>
+/// The least number of the protocol that no service holds.
+pub fn free_port<R: Rows>(rows: &R, udp: bool) -> Option<u16>
     requires { IsUsable (R.tables rows.now) }
     ensures { result ≡ free_port (R.tables rows.now) udp }
 {
-    let last = u64::from(LAST_PORT);
-    let mut number = u64::from(FIRST_PORT);
-    while number <= last {
-        let held = ports_held_from(rows, udp, number, last);
-        number += held;
-        if held < WORD && number <= last {
-            return Some(number as u16);
+    let held = held_ports(rows, udp);
+    let mut number = FIRST_PORT;
+    while number <= LAST_PORT {
+        if !held[usize::from(number - FIRST_PORT)] {
+            return Some(number);
         }
+        number += 1;
     }
     None
 }
@@ -35,7 +34,7 @@ pub fn has_free_port<R: Rows>(rows: &R, udp: bool) -> bool
     requires { IsUsable (R.tables rows.now) }
     ensures { result ≡ has_free_port (R.tables rows.now) udp }
 {
-    has_plenty(rows, udp) || free_port(rows, udp).is_some()
+    free_port(rows, udp).is_some()
 }
 
 fn is_address(network: Id, number: u64, address: Address) -> bool

@@ -5,7 +5,7 @@ mod changing;
 mod finding;
 mod free_numbers;
 mod held;
-mod plenty;
+mod held_ports;
 mod pooling;
 mod ports;
 mod runs;

@@ -1,13 +1,11 @@
-// The least numbers that are free, found by pools.
+// The least address that is free, found by a pool.
 ghost use Rattle.std.specs.Prelude.{◌≡◌, ◌≤◌, ◌+◌, IfOk, IfSome, length, min, true};
 ghost use Rattle.swarm_objects.specs.Rows.{first_free};
-ghost use Rattle.swarm_objects.specs.Services.Ports.{free_port};
 ghost use Rattle.swarm_objects.specs.Sound.{is_subnet};
 ghost use Rattle.swarm_objects.specs.Tasks.Addresses.{addresses_held, free_address, free_in};
 ghost use Rattle.swarm_objects.specs.Usable.{IsUsable};
 
-use crate::held::{held_addresses, held_ports};
-use crate::ports::{FIRST_PORT, LAST_PORT};
+use crate::held::held_addresses;
 use std::alloc::Global;
 use swarm_objects::{Id, Network, NoMemory, Rows};
 use swarm_pools::{Pool, usable};
@@ -44,23 +42,6 @@ pub fn free_number(
         }
     }
     Ok(pool.least_free())
-}
-
-/// The least number of the protocol that no service holds.
-pub fn free_port<R: Rows>(alloc: Global, rows: &R, udp: bool) -> Result<Option<u16>, NoMemory>
-    requires { IsUsable (R.tables rows.now) }
-    ensures { IfOk result (λ free. free ≡ free_port (R.tables rows.now) udp) }
-{
-    let held = held_ports(alloc, rows, udp)?;
-    match free_number(
-        alloc,
-        u32::from(FIRST_PORT),
-        u32::from(LAST_PORT),
-        held.as_slice(),
-    )? {
-        Some(number) => Ok(Some(number as u16)),
-        None => Ok(None),
-    }
 }
 
 // The least address of this network that no task holds.

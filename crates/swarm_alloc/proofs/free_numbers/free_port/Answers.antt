@@ -1,23 +1,20 @@
-use Rattle.std.proofs.Common.{arith, false, refl, sym, ◌+◌}
-use Rattle.swarm_alloc.proofs.HeldRuns.{ports_taken}
-use Rattle.swarm_objects.proofs.FreeNumbers.{no_port, port_found}
+use Rattle.std.proofs.Common.{arith, false}
+use Rattle.swarm_alloc.proofs.HeldPorts.{free_found, held_on}
+use Rattle.swarm_objects.proofs.FreeNumbers.{no_port}
 use Rattle.swarm_alloc.proofs.free_numbers.free_port.Goals as goal
 
-pub returns-then-number-last : goal.returns-then-number-last
-returns-then-number-last g c =
-    let t = g.R.Rows.tables c.args.rows.now in
-    port_found t c.args.udp (c.loop-number.number + c.ports_held_from-held.result) false
-    (sym (c.ports_held_from-held.ensures.free c.if-held-lt-WORD.true c.if-number-last.true)) refl
-    (omega (arith, c.if-number-last.true))
-    (ports_taken t c.args.udp c.loop-number.number c.ports_held_from-held.result c.ports_held_from-held.ensures.held
-    c.loop-number.invariant)
+pub returns-then-not-held-from : goal.returns-then-not-held-from
+returns-then-not-held-from g c =
+    free_found (g.R.Rows.tables c.args.rows.now) c.args.udp c.held_ports-held.result c.loop-number.number c.from.result
+    false c.held_ports-held.ensures c.loop-number.invariant c.loop-number-test.true c.from.ensures
+    c.if-not-held-from.true
 
 pub loop-number-preserved : goal.loop-number-preserved
 loop-number-preserved g c =
-    ports_taken (g.R.Rows.tables c.args.rows.now) c.args.udp c.loop-number.number c.ports_held_from-held.result
-    c.ports_held_from-held.ensures.held c.loop-number.invariant
+    held_on (g.R.Rows.tables c.args.rows.now) c.args.udp c.held_ports-held.result c.loop-number.number c.from.result
+    false c.held_ports-held.ensures c.loop-number.invariant c.loop-number-test.true c.from.ensures c.if-not-held-from.false
 
 pub returns : goal.returns
 returns g c =
     no_port (g.R.Rows.tables c.args.rows.now) c.args.udp c.loop-number.number
-    (omega (arith, c.loop-number-test.false)) c.loop-number.invariant
+    (omega (arith, c.loop-number-test.false)) c.loop-number.invariant.taken
