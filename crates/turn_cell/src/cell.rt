@@ -9,6 +9,7 @@ use crate::work::{Counted, TurnWork};
 use atomic_table::{Seat, Table};
 use crossbeam_utils::sync::EventCount;
 use std::alloc::Global;
+use std::array::from_fn;
 use std::hint::spin_loop;
 use std::sync::Wait;
 use swarm_objects::{List, NoMemory};
@@ -22,6 +23,9 @@ const COUNT: usize = 2;
 
 const VALUE: usize = 0;
 
+// How many places there are to rest at.
+const PLACES: usize = 8;
+
 // So often a caller looks before it rests: most turns take a few microseconds, less than to fall asleep and be woken.
 const LOOKS: u32 = 64;
 
@@ -30,8 +34,9 @@ const LOOKS: u32 = 64;
 #[derive(Drop)]
 pub struct TurnCell<V: Counted> {
     table: Table<Option<V>, View<V::Item>, u64, ByTurns<V>, Global>,
-    // who waits for a turn rests here, so that nobody is woken where nobody waits
-    resting: EventCount,
+    // who waits for a turn rests at its ticket's place, so the end of a turn wakes the caller whose turn is next; where more
+    // wait than there are places, some others too
+    resting: [EventCount; PLACES],
     ghost shape: { (table.shared.table_id.words ≡ 3) × (table.shared.table_id.slots ≡ 1) × (0 < table.shared.key) },
 }
 
@@ -62,7 +67,7 @@ impl<V: Counted + Drop> TurnCell<V> {
         };
         let cell = TurnCell {
             table,
-            resting: EventCount::new(),
+            resting: from_fn(|_| EventCount::new()),
         };
         let passes = cell.make_passes(alloc, maker, seats)?;
         Ok((cell, passes))
@@ -171,6 +176,11 @@ impl<V: Counted> TurnCell<V> {
         self.table.shared.fetch_add::<Draw>(seat, TICKET, 1)
     }
 
+    // Where the caller with the ticket rests.
+    fn place_of(&self, ticket: u64) -> &EventCount {
+        &self.resting[(ticket % PLACES as u64) as usize]
+    }
+
     // The ticket that is served. Where it is the caller's, the seat then has the value.
     fn look(&self, seat: &mut Seat<Option<V>, View<V::Item>>, ticket: u64) -> u64
         requires table { seat.old.table_id ≡ self.now.table.shared.table_id }
@@ -212,7 +222,7 @@ impl<V: Counted> TurnCell<V> {
         }
         for _ in rt.forever() {
             // announced before the test, so that no turn ends unnoticed between the test and the sleep
-            let key = self.resting.prepare_wait();
+            let key = self.place_of(ticket).prepare_wait();
             if self.look(seat, ticket) == ticket {
                 return;
             }
@@ -311,7 +321,7 @@ impl<V: Counted> TurnCell<V> {
         let grown = value.count() != before;
         self.put(seat, value);
         self.finish(seat, grown);
-        self.resting.notify_all();
+        self.place_of(ticket.wrapping_add(1)).notify_all();
         answer
     }
 
