@@ -1,5 +1,6 @@
 //! What there is to do: calls of the control loops that ask.
 ghost use Rattle.std.specs.Prelude.{◌≡◌, Some};
+ghost use Rattle.swarm_objects.specs.Loops.Allocator.{port_duties};
 ghost use Rattle.swarm_objects.specs.Loops.Global.{come_duties, may_stay};
 ghost use Rattle.swarm_objects.specs.Loops.Jobs.{next_duty};
 ghost use Rattle.swarm_objects.specs.Loops.Reaper.{is_removable, reaper};
@@ -22,6 +23,15 @@ pub fn scheduler<R: Rows>(rows: &R) -> Option<Duty>
     ensures { result ≡ first_of (scheduler (R.tables rows.now)) }
 {
     let duty = swarm_sched::least(rows);
+    duty
+}
+
+/// `swarm_alloc::port_of`.
+pub fn port_of<R: Rows>(rows: &R, service: &Service) -> Option<Duty>
+    requires { IsUsable (R.tables rows.now) }
+    ensures { result ≡ first_of (port_duties (R.tables rows.now) service.now) }
+{
+    let duty = swarm_alloc::port_of(rows, service);
     duty
 }
 

@@ -25,6 +25,22 @@ pub fn scheduler<R: Rows>(
     made
 }
 
+/// `swarm_alloc::changes`.
+pub fn allocator<R: Rows>(
+    alloc: Global,
+    rows: &R,
+    version: Version,
+    duty: Duty,
+) -> Result<List<Change>, NoMemory>
+    requires usable { IsUsable (R.tables rows.now) }
+    requires own { role_of duty ≡ role.Allocator }
+    ensures { let t = R.tables rows.now in
+        IfOk result (λ changes. Makes t changes (after_duty version t duty)) }
+{
+    let made = swarm_alloc::changes(alloc, rows, version, duty);
+    made
+}
+
 /// `swarm_restart::changes`.
 pub fn restart<R: Rows>(
     alloc: Global,
